@@ -1,3 +1,4 @@
 pub mod Lists
 pub mod Results
 pub mod Quality
+pub mod Turn
