@@ -2,3 +2,4 @@ pub mod Lists
 pub mod Results
 pub mod Quality
 pub mod Turn
+pub mod Rounds

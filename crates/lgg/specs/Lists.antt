@@ -40,6 +40,10 @@ pub in-map : {A B : Type 0} (f : A → B) {l : List A} {x : A} → In x l → In
 in-map f here = here
 in-map f (there i) = there (in-map f i)
 
+pub map-in : {A B : Type 0} (f : A → B) (l : List A) (y : B) → In y (map f l) → (x : A) × In x l × (f x ≡ y)
+map-in f [] y i = absurd (in-nil i)
+map-in f (x ∷ l) y i = elim (in-cons i) [ inl e ↦ (x, here, sym e) | inr j ↦ let r = map-in f l y j in (r .0, there (r .1), r .2) ]
+
 pub in-each : {A B : Type 0} (f : A → List B) (l : List A) (a : A) (b : B) → In a l → In b (f a) → In b (each f l)
 unfolding each
 in-each f (x ∷ l) a b here j = in-left (each f l) j

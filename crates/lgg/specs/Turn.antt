@@ -163,7 +163,7 @@ allowed-same (a ∷ l) [] e k = absurd (omega arith)
 allowed-same (a ∷ l) (b ∷ m) e zero = refl
 allowed-same (a ∷ l) (b ∷ m) e (suc k) = allowed-same l m (suc-inj e) k
 
-plan-over : (a : TransportAction) (l m : List Two) (x : List ℕ) → length l ≡ length m → Plan (problemOver a m) x → Plan (problemOver a l) x
+pub plan-over : (a : TransportAction) (l m : List Two) (x : List ℕ) → length l ≡ length m → Plan (problemOver a m) x → Plan (problemOver a l) x
 unfolding rowFlow colFlow
 plan-over a l m x b n = record {
   long = n .long;
