@@ -3,3 +3,4 @@ pub mod Results
 pub mod Quality
 pub mod Turn
 pub mod Rounds
+pub mod Graph

@@ -29,3 +29,10 @@ bind-ok (refused n) f b e = absurd (refused-ok e)
 pub bind-refused : {A B : Type 0} (m : Res A) (f : A → Res B) (n : ℕ) → (m >>= f) ≡ refused n → (m ≡ refused n) ⊎ ((a : A) × (m ≡ ok a) × (f a ≡ refused n))
 bind-refused (ok a) f n e = inr (a, refl, e)
 bind-refused (refused k) f n e = inl (ap refused (refused-inj e))
+
+-- ---- a longer budget
+-- y is what x becomes with e checks more: an end stays the same end, and what is left grows by e; a run cut short may go on anyhow
+abbrev pub Later : {A : Type 0} → ℕ → Res (Checked A) → Res (Checked A) → Type 0
+Later e (ok (passed a c)) y = y ≡ ok (passed a (c + e))
+Later e (ok cutShort) y = Unit
+Later e (refused n) y = y ≡ refused n

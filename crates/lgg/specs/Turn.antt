@@ -183,7 +183,7 @@ move-joins t p ps x (planned a i e qs l n) c j = in-right (each (λ b. b .pairs)
 -- a turn is never above a move
 pub turn-move : TransportTheorems → (t : Tables) (q : Two → Two) (p : Two) (ps : List Two) (x : List ℕ) → Move t p ps x → turnOf t q p .quality ⊑ qualityOver x (map q ps)
 unfolding turnOf
-turn-move T t q p ps x (aligned a i e f) = 
+turn-move T t q p ps x (aligned a i e f) =
     let v = offerActions q (structural t (p .0) (p .1)) (unturned q p) in
     rw (e, f) (⊑-trans (offerTransports q (transports t (p .0) (p .1)) v .quality) (v .quality) (actionQuality q a) (transports-old q (transports t (p .0) (p .1)) v) (actions-new q (structural t (p .0) (p .1)) (unturned q p) a i))
 turn-move T t q p ps x (planned a i e qs l n) = rw e (go (solved q a) refl)
