@@ -4,3 +4,4 @@ pub mod Quality
 pub mod Turn
 pub mod Rounds
 pub mod Graph
+pub mod Checks
