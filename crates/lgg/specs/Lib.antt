@@ -5,3 +5,4 @@ pub mod Turn
 pub mod Rounds
 pub mod Graph
 pub mod Checks
+pub mod Run
