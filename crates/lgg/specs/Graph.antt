@@ -3,9 +3,9 @@ use mathlib.Core.Path.{_≡_, refl, sym, ap, _∙_, subst}
 use mathlib.Core.Logic.{_⊎_, inl, inr, _↔_}
 use mathlib.Core.Bool.{Bool, true, false}
 use mathlib.Core.List.{List, [], _∷_, _++_, append-nil, append-assoc}
-use Prim.Native.Nat.{ℕ, zero, suc, _+_, _≤_, _<_, zero-le}
+use Prim.Native.Nat.{ℕ, zero, suc, _+_, _-_, _≤_, _<_, zero-le}
 use native.Mathlib.Omega.{arith}
-use native.Mathlib.Nat.{not-suc-le-zero, eq-or-lt-of-le, suc-inj, le-antisymm, le-refl}
+use native.Mathlib.Nat.{not-suc-le-zero, eq-or-lt-of-le, suc-inj, add-comm}
 use lib.Dec.{ltb}
 use lib.ListN.{length, getD, length-append}
 use borrow.Author.Tests.{ltb-true, ltb-false}
@@ -41,6 +41,7 @@ record Grown (ps l qs : List Two) : Type 0 where
   all : (x : Two) → In x l → In x qs
   only : (x : Two) → In x qs → In x ps ⊎ In x l
   apart : Distinct ps → Distinct qs
+  few : length ps ≤ PAIRS → length qs ≤ PAIRS
 
 -- a pair beyond the limit would be entered: then there are more than the limit
 record Overfull (ps l : List Two) : Type 0 where
@@ -53,12 +54,13 @@ data Entered (ps l : List Two) : Res (List Two) → Type 0 where
   grown : {qs : List Two} → Grown ps l qs → Entered ps l (ok qs)
   overfull : {n : ℕ} → n ≡ 12 → Overfull ps l → Entered ps l (refused n)
 
-one-more : (ps : List Two) (p : Two) → (In p ps → ⊥) → Grown ps (p ∷ []) (ps ++ (p ∷ []))
-one-more ps p new = record {
+one-more : (ps : List Two) (p : Two) → (In p ps → ⊥) → length ps < PAIRS → Grown ps (p ∷ []) (ps ++ (p ∷ []))
+one-more ps p new room = record {
   starts = (p ∷ [], refl);
   all = λ x i. elim (in-cons i) [ inl e ↦ rw e (in-right ps here) | inr j ↦ absurd (in-nil j) ];
   only = λ x i. in-append ps i;
   apart = λ d. distinct-last ps p d new;
+  few = λ h. omega (arith, length-append ps (p ∷ []));
 }
 
 enter-says : (ps : List Two) (p : Two) → Entered ps (p ∷ []) (enter ps p)
@@ -71,18 +73,19 @@ enter-says ps p = go (any (sameTwo p) ps) refl (ltb (length ps) PAIRS) refl
       all = λ x i. elim (in-cons i) [ inl e ↦ rw e (is-in p ps a) | inr j ↦ absurd (in-nil j) ];
       only = λ x i. inl i;
       apart = λ d. d;
+      few = λ h. h;
     })
-    go false a true b = grown (one-more ps p (not-in p ps a))
-    go false a false b = let g = one-more ps p (not-in p ps a) in overfull refl (record {
+    go false a true b = grown (one-more ps p (not-in p ps a) (ltb-true (length ps) PAIRS b))
+    go false a false b = overfull refl (record {
       pairs = ps ++ (p ∷ []);
-      some = g .only;
-      once = g .apart;
+      some = λ x i. in-append ps i;
+      once = λ d. distinct-last ps p d (not-in p ps a);
       many = omega (arith, ltb-false (length ps) PAIRS b, length-append ps (p ∷ []));
     })
 
 enterAll-says : (l ps : List Two) → Entered ps l (enterAll ps l)
 unfolding enterAll
-enterAll-says [] ps = grown (record { starts = starts-refl ps; all = λ x i. absurd (in-nil i); only = λ x i. inl i; apart = λ d. d })
+enterAll-says [] ps = grown (record { starts = starts-refl ps; all = λ x i. absurd (in-nil i); only = λ x i. inl i; apart = λ d. d; few = λ h. h })
 enterAll-says (p ∷ l) ps = go (enter ps p) (enter-says ps p) (λ qs. enterAll-says l qs)
   where
     widen : (x : Two) → In x ps ⊎ In x (p ∷ []) → In x ps ⊎ In x (p ∷ l)
@@ -99,6 +102,7 @@ enterAll-says (p ∷ l) ps = go (enter ps p) (enter-says ps p) (λ qs. enterAll-
       all = λ x i. elim (in-cons i) [ inl e ↦ starts-in qs rs x (h .starts) (rw e (g .all p here)) | inr j ↦ h .all x j ];
       only = λ x i. wider qs g x (h .only x i);
       apart = λ d. h .apart (g .apart d);
+      few = λ k. h .few (g .few k);
     })
     next qs g (refused n) (overfull e o) = overfull e (record { pairs = o .pairs; some = λ x i. wider qs g x (o .some x i); once = λ d. o .once (g .apart d); many = o .many })
 
@@ -118,11 +122,12 @@ pub record Good (t : Tables) (root : Two) (ps : List Two) (i : ℕ) : Type 0 whe
   pub some : Some t root ps
   pub done : (k : ℕ) → k < i → (c : Two) → In c (joins t (getD ps k (0, 0))) → In c ps
   pub upTo : i ≤ length ps
+  pub few : length ps ≤ PAIRS
 
 -- what building with m checks in all comes to
 pub data Built (t : Tables) (root : Two) (m : ℕ) : Res (Checked (List Two)) → Type 0 where
   full : {ps : List Two} {c : ℕ} → Good t root ps (length ps) → m ≡ length ps + c → Built t root m (ok (passed ps c))
-  short : (ps : List Two) → Some t root ps → m < length ps → Built t root m (ok cutShort)
+  short : (ps : List Two) → Some t root ps → m < length ps → length ps ≤ PAIRS → Built t root m (ok cutShort)
   over : {n : ℕ} → n ≡ 12 → (ps : List Two) → Some t root ps → PAIRS < length ps → Built t root m (refused n)
 
 module _ (t : Tables) (root : Two) where
@@ -132,6 +137,7 @@ module _ (t : Tables) (root : Two) where
     some = record { once = g .apart (d .some .once); reached = λ x j. from x (g .only x j) };
     done = λ k l c j. turn k l c j;
     upTo = omega (arith, starts-length ps qs (g .starts));
+    few = g .few (d .few);
   }
     where
       from : (x : Two) → In x ps ⊎ In x (joins t (getD ps i (0, 0))) → Reachable t root x
@@ -159,7 +165,7 @@ module _ (t : Tables) (root : Two) where
   build-says zero ps i m g e = go (ltb i (length ps)) refl
     where
       go : (x : Bool) → ltb i (length ps) ≡ x → Built t root m (elim x [ true ↦ ok cutShort | false ↦ ok (passed ps 0) ])
-      go true p = short ps (g .some) (omega (arith, ltb-true i (length ps) p))
+      go true p = short ps (g .some) (omega (arith, ltb-true i (length ps) p)) (g .few)
       go false p = good-done ps i m 0 g (ltb-false i (length ps) p) e
   build-says (suc b) ps i m g e = go (ltb i (length ps)) refl (λ qs h. build-says b qs (suc i) m h (omega arith))
     where
@@ -181,6 +187,7 @@ module _ (t : Tables) (root : Two) where
     some = record { once = more in-nil none; reached = λ x i. elim (in-cons i) [ inl e ↦ queried e | inr j ↦ absurd (in-nil j) ] };
     done = λ k l. absurd (not-suc-le-zero l);
     upTo = zero-le;
+    few = omega arith;
   }) (omega arith)
 
   -- more checks: the same list, or the same refusal
@@ -215,7 +222,7 @@ module _ (t : Tables) (root : Two) where
 
   passed-says : (b c : ℕ) (ps : List Two) (r : Res (Checked (List Two))) → Built t root b r → r ≡ ok (passed ps c) → Good t root ps (length ps) × (b ≡ length ps + c)
   passed-says b c ps r (full {ps = qs} {c = d} g e) z = let (x, y) = passed-inj (ok-inj z) in (rw x at g, omega (arith, y, ap (λ (l : List Two). length l) x))
-  passed-says b c ps r (short qs o l) z = absurd (cut-passed (ok-inj z))
+  passed-says b c ps r (short qs o l m) z = absurd (cut-passed (ok-inj z))
   passed-says b c ps r (over e qs o l) z = absurd (refused-ok z)
 
   pub build-closed : (b c : ℕ) (ps : List Two) → build t root b ≡ ok (passed ps c) → Closed t ps
@@ -260,7 +267,7 @@ module _ (t : Tables) (root : Two) where
       where
         go : (r : Res (Checked (List Two))) → Built t root b r → r ≡ ok cutShort → b < n
         go r (full {ps = ps} {c = c} g z) y = absurd (cut-passed (sym (ok-inj y)))
-        go r (short ps s l) y = omega (arith, some-count n count ps s)
+        go r (short ps s l m) y = omega (arith, some-count n count ps s)
         go r (over z ps s l) y = absurd (refused-ok y)
 
   -- "a pair beyond 4,096 would be entered": 12, and in no other case
@@ -269,5 +276,60 @@ module _ (t : Tables) (root : Two) where
     where
       go : (r : Res (Checked (List Two))) → Built t root b r → r ≡ refused k → (k ≡ 12) × ((ps : List Two) × Some t root ps × (PAIRS < length ps))
       go r (full {ps = ps} {c = c} g z) y = absurd (refused-ok (sym y))
-      go r (short ps s l) y = absurd (refused-ok (sym y))
+      go r (short ps s l m) y = absurd (refused-ok (sym y))
       go r (over z ps s l) y = (sym (refused-inj y) ∙ z, (ps, s, l))
+
+  -- no list that is built is longer
+  build-few : (b c : ℕ) (ps : List Two) → build t root b ≡ ok (passed ps c) → length ps ≤ PAIRS
+  build-few b c ps e = passed-says t root b c ps (build t root b) (built t root b) e .0 .few
+
+  -- with more pairs than the limit, a budget of the limit meets it
+  pub build-over : (n b : ℕ) → PairCount t root n → PAIRS < n → PAIRS ≤ b → build t root b ≡ refused 12
+  build-over n b count large h = go (build t root b) refl (built t root b)
+    where
+      go : (r : Res (Checked (List Two))) → build t root b ≡ r → Built t root b r → r ≡ refused 12
+      go r e (full {ps = ps} {c = c} g z) = absurd (omega (arith, g .few, build-passed n count b c ps e .0))
+      go r e (short ps s l m) = absurd (omega arith)
+      go r e (over z ps s l) = ap refused z
+
+  -- ---- more checks
+  abbrev Passes : ℕ → List Two → ℕ → Type 0
+  Passes b ps c = build t root b ≡ ok (passed ps c)
+
+  build-longer : (b e c : ℕ) (ps : List Two) → Passes b ps c → Passes (b + e) ps (c + e)
+  build-longer b e c ps h = go (build t root b) h (build-later t root b (b + e) e (root ∷ []) 0 refl)
+    where
+      go : (r : Res (Checked (List Two))) → r ≡ ok (passed ps c) → Later e r (build t root (b + e)) → build t root (b + e) ≡ ok (passed ps (c + e))
+      go (ok (passed qs d)) z l = let (x, y) = passed-inj (ok-inj z) in rw (← x, ← y) l
+      go (ok cutShort) z l = absurd (cut-passed (ok-inj z))
+      go (refused n) z l = absurd (refused-ok z)
+
+  -- two budgets that build in full give the same list
+  pub build-same : (b c b′ c′ : ℕ) (ps ps′ : List Two) → build t root b ≡ ok (passed ps c) → build t root b′ ≡ ok (passed ps′ c′) → ps ≡ ps′
+  build-same b c b′ c′ ps ps′ h h′ =
+      let x : build t root (b + b′) ≡ ok (passed ps (c + b′)) = build-longer b b′ c ps h in
+      let y : build t root (b + b′) ≡ ok (passed ps′ (c′ + b)) = rw (add-comm b b′) (build-longer b′ b c′ ps′ h′) in
+      passed-inj (ok-inj (sym x ∙ y)) .0
+
+  -- where the graph is built in full by some budget, building is cut short exactly below its number of pairs
+  pub build-short : (B C : ℕ) (ps : List Two) → build t root B ≡ ok (passed ps C) → (b : ℕ) → b < length ps → build t root b ≡ ok cutShort
+  build-short B C ps h b l = go (build t root b) refl (build-later t root b B (B - b) (root ∷ []) 0 (omega (arith, passed-says t root B C ps (build t root B) (built t root B) h .1)))
+    where
+      go : (r : Res (Checked (List Two))) → build t root b ≡ r → Later (B - b) r (build t root B) → r ≡ ok cutShort
+      go (ok (passed qs d)) e k = absurd (omega (arith, passed-says t root b d qs (build t root b) (built t root b) e .1, ap (λ (z : List Two). length z) (build-same b d B C qs ps e h)))
+      go (ok cutShort) e k = refl
+      go (refused n) e k = absurd (refused-ok (sym k ∙ h))
+
+  pub build-enough : (B C : ℕ) (ps : List Two) → build t root B ≡ ok (passed ps C) → (b c : ℕ) → b ≡ length ps + c → build t root b ≡ ok (passed ps c)
+  build-enough B C ps h b c e = go (build t root b) refl
+    where
+      count : PairCount t root (length ps)
+      count = (ps, build-whole B C ps h, refl)
+
+      go : (r : Res (Checked (List Two))) → build t root b ≡ r → r ≡ ok (passed ps c)
+      go (ok (passed qs d)) k =
+          let same = build-same b d B C qs ps k h in
+          let left : d ≡ c = omega (arith, build-passed (length ps) count b d qs k .1) in
+          rw (same, left) refl
+      go (ok cutShort) k = absurd (omega (arith, build-cut (length ps) count b k))
+      go (refused n) k = let (z, (qs, s, l)) = build-refused b n k in absurd (omega (arith, build-few B C ps h, some-count (length ps) count qs s))
