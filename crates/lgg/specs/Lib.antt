@@ -6,3 +6,4 @@ pub mod Rounds
 pub mod Graph
 pub mod Checks
 pub mod Run
+pub mod Demand3

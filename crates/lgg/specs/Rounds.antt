@@ -117,6 +117,25 @@ module _ (t : Tables) (ps : List Two) where
       better p (inl (n, k)) z = absurd (clash (sym z ∙ n))
       better p (inr (n, k)) z = k
 
+  pub changed-differs : (r : ℕ) → changed t ps r ≡ true → qualitiesAfter (suc r) t ps ≢ qualitiesAfter r t ps
+  changed-differs r e same =
+      let (p, i, l) = changed-some r e in
+      ⊏-not (qualityAfter t ps (suc r) p) (qualityAfter t ps r p) l (⊑-of-eq (ap (λ (m : List Two). lookUp (0, 0) ps m p) (sym same)))
+
+  pub same-quiet : (r : ℕ) → qualitiesAfter (suc r) t ps ≡ qualitiesAfter r t ps → changed t ps r ≡ false
+  same-quiet r same = go (changed t ps r) refl
+    where
+      go : (b : Bool) → changed t ps r ≡ b → changed t ps r ≡ false
+      go true e = absurd (changed-differs r e same)
+      go false e = e
+
+  pub differs-changed : (r : ℕ) → qualitiesAfter (suc r) t ps ≢ qualitiesAfter r t ps → changed t ps r ≡ true
+  differs-changed r differs = go (changed t ps r) refl
+    where
+      go : (b : Bool) → changed t ps r ≡ b → changed t ps r ≡ true
+      go true e = e
+      go false e = absurd (differs (quiet-same r e))
+
   -- nothing changes after a round that changes nothing
   pub forever : (r : ℕ) → qualitiesAfter (suc r) t ps ≡ qualitiesAfter r t ps → (k : ℕ) → qualitiesAfter (k + r) t ps ≡ qualitiesAfter r t ps
   unfolding qualitiesAfter

@@ -19,14 +19,17 @@ use Rattle.lgg.specs.Rounds.{changed}
 use Rattle.lgg.specs.Checks.{Spent, cut, paid, ended, starting-spends, starting-later, round-spends, round-later, withBudget}
 use Rattle.lgg.specs.Graph.{build-later}
 
--- What rounds over the pairs ps end with, that began with b checks:
--- every round reported changed a quality; the run is complete where the next one was finished too and changed nothing, and partial where the checks did not reach.
+-- complete where the round after those reported was finished too and changed nothing, partial where the checks did not reach
+abbrev pub Status : Tables → List Two → ℕ → Outcome → Type 0
+Status t ps b o = ((o .complete ≡ true) × (changed t ps (o .rounds) ≡ false) × (suc (o .rounds) * suc (length ps) ≤ b)) ⊎ ((o .complete ≡ false) × (b < suc (o .rounds) * suc (length ps)))
+
+-- What rounds over the pairs ps, begun with b checks, end with: every round reported changed a quality, and its checks passed.
 pub record Ended (t : Tables) (ps : List Two) (b : ℕ) (o : Outcome) : Type 0 where
   pub pairs : o .pairs ≡ length ps
   pub quality : o .quality ≡ getD (qualitiesAfter (o .rounds) t ps) 0 (0, 0)
   pub moved : (r : ℕ) → r < o .rounds → changed t ps r ≡ true
   pub enough : o .rounds * suc (length ps) ≤ b
-  pub status : ((o .complete ≡ true) × (changed t ps (o .rounds) ≡ false) × (suc (o .rounds) * suc (length ps) ≤ b)) ⊎ ((o .complete ≡ false) × (b < suc (o .rounds) * suc (length ps)))
+  pub status : Status t ps b o
 
 module _ (t : Tables) (ps : List Two) where
   -- a state between two rounds, of a run that began its rounds with b checks
