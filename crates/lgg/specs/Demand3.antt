@@ -17,10 +17,10 @@ use Rattle.spec.specs.Run.{Outcome, started, runOf}
 use Rattle.spec.specs.Listing.{listingOf}
 use Rattle.spec.specs.Meaning.{In, here, there, _⊑_, Derivation, start, Reachable}
 use Rattle.lgg.specs.Lists.{clash, same-refl, Distinct}
-use Rattle.lgg.specs.Results.{ok-inj}
+use Rattle.lgg.specs.Results.{refused-ok, ok-inj}
 use Rattle.lgg.specs.Quality.{⊑-refl, ⊑-of-eq}
 use Rattle.lgg.specs.Turn.{TransportTheorems}
-use Rattle.lgg.specs.Rounds.{AtMost, LeastOf, Closed, qualityAfter, changed, quiet-same, same-quiet, changed-differs, differs-changed, attained, least, least-every, bound}
+use Rattle.lgg.specs.Rounds.{AtMost, LeastOf, Closed, qualityAfter, changed, q-start, quiet-same, same-quiet, changed-differs, differs-changed, attained, least, least-every, bound}
 use Rattle.lgg.specs.Graph.{Starts, Some, PairCount, Whole, build-closed, build-whole, build-first, build-passed, build-cut, build-same, build-short, build-enough}
 use Rattle.lgg.specs.Run.{Status, Ended, Ends, inBuilding, inStarting, inRounds, run-ends, Stays, run-later}
 
@@ -43,6 +43,9 @@ graph-checks t p B C ps e b = (build-short t p B C ps e b, λ h. build-enough t 
 first-place : (p : Two) (ps qs : List Two) → Starts (p ∷ []) ps → getD qs 0 (0, 0) ≡ lookUp (0, 0) ps qs p
 unfolding place
 first-place p ps qs (rest, e) = rw e (rw (same-refl p, place) refl)
+
+root-in : (t : Tables) (p : Two) (b c : ℕ) (ps : List Two) → build t p b ≡ ok (passed ps c) → In p ps
+root-in t p b c ps e = let s = build-first t p b c ps e in rw (s .1) here
 
 zero-least : (t : Tables) (p : Two) → LeastOf t 0 p (startingQuality t p)
 zero-least t p = ((0, le-refl 0, start refl), λ y d. go (d .0) (d .1) y (d .2))
@@ -167,3 +170,122 @@ module _ (T : TransportTheorems) (t : Tables) (p : Two) where
   never-above b c o u h e k =
       let (d, l, D) = least-of-height b o e .0 in
       least-of-height c u k .1 (o .quality) (d, omega (arith, rounds-grow b c o u h e k), D)
+
+-- A complete run stays as it is with more checks: the same outcome, so the same bytes.
+pub stays-complete : (t : Tables) (p : Two) (b c : ℕ) (o : Outcome) → b ≤ c → runOf t p b ≡ ok o → o .complete ≡ true → runOf t p c ≡ ok o
+stays-complete t p b c o h e full = go (runOf t p b) e (run-later t p b c h)
+  where
+    go : (r : Res Outcome) → r ≡ ok o → Stays r (runOf t p c) → runOf t p c ≡ ok o
+    go (ok u) k s = let z : u ≡ o = ok-inj k in s (rw z full) ∙ k
+    go (refused n) k s = s ∙ k
+
+pub same-listing : (t : Tables) (p : Two) (b c : ℕ) (o u : Outcome) → b ≤ c → runOf t p b ≡ ok o → o .complete ≡ true → runOf t p c ≡ ok u → listingOf u ≡ listingOf o
+same-listing t p b c o u h e full k = ap (λ (z : Outcome). listingOf z) (ok-inj (sym k ∙ stays-complete t p b c o h e full))
+
+-- A refused run stays refused, by the same number: 12 and 13 are ends as any other.
+pub stays-refused : (t : Tables) (p : Two) (b c k : ℕ) → b ≤ c → runOf t p b ≡ refused k → runOf t p c ≡ refused k
+stays-refused t p b c k h e = go (runOf t p b) e (run-later t p b c h)
+  where
+    go : (r : Res Outcome) → r ≡ refused k → Stays r (runOf t p c) → runOf t p c ≡ refused k
+    go (ok u) z s = absurd (refused-ok (sym z))
+    go (refused n) z s = s ∙ z
+
+-- ---- what is reported
+-- R is the first round, counted from 0, that changes no quality.
+pub record FirstQuiet (t : Tables) (ps : List Two) (R : ℕ) : Type 0 where
+  pub earlier : (r : ℕ) → r < R → qualitiesAfter (suc r) t ps ≢ qualitiesAfter r t ps
+  pub quiet : qualitiesAfter (suc R) t ps ≡ qualitiesAfter R t ps
+
+-- there is one, of index n at most
+pub first-quiet : TransportTheorems → (t : Tables) (p : Two) (b c : ℕ) (ps : List Two) → build t p b ≡ ok (passed ps c) → (R : ℕ) × (R ≤ length ps) × FirstQuiet t ps R
+first-quiet T t p b c ps e = go (length ps) 0 (omega arith) (λ r h. absurd (omega arith))
+  where
+    go : (d r : ℕ) → r + d ≡ length ps → ((k : ℕ) → k < r → qualitiesAfter (suc k) t ps ≢ qualitiesAfter k t ps) → (R : ℕ) × (R ≤ length ps) × FirstQuiet t ps R
+    go zero r z h = (r, omega arith, record { earlier = h; quiet = settled T t p b c ps e r (omega arith) })
+    go (suc d) r z h = by (changed t ps r) refl (λ g. go d (suc r) (omega arith) g)
+      where
+        by : (x : Bool) → changed t ps r ≡ x → (((k : ℕ) → k < suc r → qualitiesAfter (suc k) t ps ≢ qualitiesAfter k t ps) → (R : ℕ) × (R ≤ length ps) × FirstQuiet t ps R) → (R : ℕ) × (R ≤ length ps) × FirstQuiet t ps R
+        by false k f = (r, omega arith, record { earlier = h; quiet = quiet-same t ps r k })
+        by true k f = f (λ j l. elim (eq-or-lt-of-le l) [ inl m ↦ rw (suc-inj m) (changed-differs t ps r k) | inr m ↦ h j (omega arith) ])
+
+-- The report of a run with b checks whose full graph is ps: n is its number of pairs, and R its first quiet round.
+pub record Reported (t : Tables) (p : Two) (ps : List Two) (R b : ℕ) (o : Outcome) : Type 0 where
+  -- "A run cut short in building reports 1 pair"
+  pub cutInBuilding : b < length ps → (o .pairs ≡ 1) × (o .rounds ≡ 0) × (o .complete ≡ false)
+  -- "any other run n"
+  pub cutInStarting : length ps ≤ b → b < 2 * length ps → (o .pairs ≡ length ps) × (o .rounds ≡ 0) × (o .complete ≡ false)
+  -- "The rounds reported are the finished ones that changed a quality." "The run is complete at the first finished round without change."
+  pub pastStarting : 2 * length ps ≤ b → (o .pairs ≡ length ps) × (o .rounds ≡ min R ((b - 2 * length ps) / suc (length ps))) × ((o .complete ≡ true) ↔ (2 * length ps + suc R * suc (length ps) ≤ b))
+  pub quality : o .quality ≡ qualityAfter t ps (o .rounds) p
+
+div-is : (d n r : ℕ) → r * suc n ≤ d → d < suc r * suc n → d / suc n ≡ r
+div-is d n r h k = go (decLe (d / suc n) r) (decLe r (d / suc n))
+  where
+    go : Dec (d / suc n ≤ r) → Dec (r ≤ d / suc n) → d / suc n ≡ r
+    go (yes x) (yes y) = omega arith
+    go (no x) y = absurd (omega (arith, div-add-mod d (suc n), mul-le-mul-right (suc n) (lt-of-not-le x)))
+    go (yes x) (no y) = let small : d % suc n < suc n = mod-lt d (omega arith) in absurd (omega (arith, div-add-mod d (suc n), mul-le-mul-right (suc n) (lt-of-not-le y)))
+
+div-above : (d n r : ℕ) → r * suc n ≤ d → r ≤ d / suc n
+div-above d n r h = go (decLe r (d / suc n))
+  where
+    go : Dec (r ≤ d / suc n) → r ≤ d / suc n
+    go (yes y) = y
+    go (no y) = let small : d % suc n < suc n = mod-lt d (omega arith) in absurd (omega (arith, div-add-mod d (suc n), mul-le-mul-right (suc n) (lt-of-not-le y)))
+
+pub reported : (t : Tables) (p : Two) (B C : ℕ) (ps : List Two) → build t p B ≡ ok (passed ps C) → (R : ℕ) → FirstQuiet t ps R → (b : ℕ) (o : Outcome) → runOf t p b ≡ ok o → Reported t p ps R b o
+unfolding started qualitiesAfter
+reported t p B C ps g R q b o e = go (run-ends t p b o e)
+  where
+    count : PairCount t p (length ps)
+    count = (ps, build-whole t p B C ps g, refl)
+
+    -- cut before the rounds
+    before : (root : Interned) (n : ℕ) → o ≡ started t p root n → (o .pairs ≡ n) × (o .rounds ≡ 0) × (o .complete ≡ false)
+    before root n z = (ap (λ (w : Outcome). w .pairs) z, started-rounds t p root n o z, started-partial t p root n o z)
+
+    at-start : (root : Interned) (n : ℕ) → o ≡ started t p root n → o .quality ≡ qualityAfter t ps (o .rounds) p
+    at-start root n z = rw z (sym (q-start t ps p (root-in t p B C ps g)))
+
+    go : Ends t p b o → Reported t p ps R b o
+    go (inBuilding root k z) =
+        let l = build-cut t p (length ps) count b k in
+        record { cutInBuilding = λ i. before root 1 z; cutInStarting = λ i. absurd (omega arith); pastStarting = λ i. absurd (omega arith); quality = at-start root 1 z }
+    go (inStarting root qs c k h z) =
+        let (n, l) = build-passed t p (length ps) count b c qs k in
+        record { cutInBuilding = λ i. absurd (omega arith); cutInStarting = λ i j. let r = before root (length qs) z in (r .0 ∙ n, r .1, r .2); pastStarting = λ i. absurd (omega arith); quality = at-start root (length qs) z }
+    go (inRounds qs c d k l f) = by (sym (build-same t p B C b c ps qs g k)) f
+      where
+        n : length qs ≡ length ps
+        n = build-passed t p (length ps) count b c qs k .0
+
+        b-is : b ≡ 2 * length ps + d
+        b-is = omega (arith, n, build-passed t p (length ps) count b c qs k .1)
+
+        -- the rounds, from the first quiet one and the checks
+        rounds : Ended t ps d o → (o .rounds ≡ min R (d / suc (length ps))) × ((o .complete ≡ true) ↔ (suc R * suc (length ps) ≤ d))
+        rounds f = at (f .status)
+          where
+            few : o .rounds ≤ R
+            few = elim (decLe (o .rounds) R) [ yes r ↦ r | no r ↦ absurd (changed-differs t ps R (f .moved R (lt-of-not-le r)) (q .quiet)) ]
+
+            at : Status t ps d o → (o .rounds ≡ min R (d / suc (length ps))) × ((o .complete ≡ true) ↔ (suc R * suc (length ps) ≤ d))
+            at (inl (x, y, w)) =
+                let same : o .rounds ≡ R = elim (decLe R (o .rounds)) [ yes r ↦ omega (arith, few) | no r ↦ absurd (q .earlier (o .rounds) (lt-of-not-le r) (quiet-same t ps (o .rounds) y)) ] in
+                let above : suc R ≤ d / suc (length ps) = div-above d (length ps) (suc R) (omega (arith, ap (λ (z : ℕ). suc z * suc (length ps)) same)) in
+                (omega arith, ((λ z. omega (arith, ap (λ (z : ℕ). suc z * suc (length ps)) same)), λ z. x))
+            at (inr (x, y)) =
+                let is = div-is d (length ps) (o .rounds) (f .enough) y in
+                (omega (arith, few), ((λ z. absurd (clash (sym z ∙ x))), λ z. absurd (omega (arith, mul-le-mul-right (suc (length ps)) few))))
+
+        by : qs ≡ ps → Ended t qs d o → Reported t p ps R b o
+        by z f =
+            let f′ : Ended t ps d o = rw z at f in
+            let (u, v) = rounds f′ in
+            let left : b - 2 * length ps ≡ d = omega (arith, b-is) in
+            record {
+              cutInBuilding = λ i. absurd (omega (arith, b-is));
+              cutInStarting = λ i j. absurd (omega (arith, b-is));
+              pastStarting = λ i. (f′ .pairs, rw left u, ((λ w. omega (arith, b-is, v .0 w)), λ w. v .1 (omega (arith, b-is))));
+              quality = f′ .quality ∙ first-place p ps (qualitiesAfter (o .rounds) t ps) (build-first t p B C ps g);
+            }
