@@ -7,3 +7,4 @@ pub mod Graph
 pub mod Checks
 pub mod Run
 pub mod Demand3
+pub mod Repeats
