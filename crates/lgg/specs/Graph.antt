@@ -28,7 +28,7 @@ starts-refl ps = ([], sym (append-nil ps))
 starts-trans : (ps qs rs : List Two) → Starts ps qs → Starts qs rs → Starts ps rs
 starts-trans ps qs rs (a, e) (b, f) = (a ++ b, f ∙ ap (λ (l : List Two). l ++ b) e ∙ append-assoc ps a b)
 
-starts-in : (ps qs : List Two) (x : Two) → Starts ps qs → In x ps → In x qs
+pub starts-in : (ps qs : List Two) (x : Two) → Starts ps qs → In x ps → In x qs
 starts-in ps qs x (a, e) i = rw e (in-left a i)
 
 starts-length : (ps qs : List Two) → Starts ps qs → length ps ≤ length qs
@@ -36,21 +36,21 @@ starts-length ps qs (a, e) = omega (arith, ap (λ (l : List Two). length l) e, l
 
 -- ---- entering a list of pairs
 -- qs is ps with the pairs of l
-record Grown (ps l qs : List Two) : Type 0 where
-  starts : Starts ps qs
-  all : (x : Two) → In x l → In x qs
-  only : (x : Two) → In x qs → In x ps ⊎ In x l
-  apart : Distinct ps → Distinct qs
-  few : length ps ≤ PAIRS → length qs ≤ PAIRS
+pub record Grown (ps l qs : List Two) : Type 0 where
+  pub starts : Starts ps qs
+  pub all : (x : Two) → In x l → In x qs
+  pub only : (x : Two) → In x qs → In x ps ⊎ In x l
+  pub apart : Distinct ps → Distinct qs
+  pub few : length ps ≤ PAIRS → length qs ≤ PAIRS
 
 -- a pair beyond the limit would be entered: then there are more than the limit
-record Overfull (ps l : List Two) : Type 0 where
-  pairs : List Two
-  some : (x : Two) → In x pairs → In x ps ⊎ In x l
-  once : Distinct ps → Distinct pairs
-  many : PAIRS < length pairs
+pub record Overfull (ps l : List Two) : Type 0 where
+  pub pairs : List Two
+  pub some : (x : Two) → In x pairs → In x ps ⊎ In x l
+  pub once : Distinct ps → Distinct pairs
+  pub many : PAIRS < length pairs
 
-data Entered (ps l : List Two) : Res (List Two) → Type 0 where
+pub data Entered (ps l : List Two) : Res (List Two) → Type 0 where
   grown : {qs : List Two} → Grown ps l qs → Entered ps l (ok qs)
   overfull : {n : ℕ} → n ≡ 12 → Overfull ps l → Entered ps l (refused n)
 
@@ -63,7 +63,7 @@ one-more ps p new room = record {
   few = λ h. omega (arith, length-append ps (p ∷ []));
 }
 
-enter-says : (ps : List Two) (p : Two) → Entered ps (p ∷ []) (enter ps p)
+pub enter-says : (ps : List Two) (p : Two) → Entered ps (p ∷ []) (enter ps p)
 unfolding enter
 enter-says ps p = go (any (sameTwo p) ps) refl (ltb (length ps) PAIRS) refl
   where

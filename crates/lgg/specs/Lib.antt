@@ -8,3 +8,4 @@ pub mod Checks
 pub mod Run
 pub mod Demand3
 pub mod Repeats
+pub mod Dedup

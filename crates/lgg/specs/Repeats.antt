@@ -38,6 +38,24 @@ module _ {A : Type 0} {R : A → A → Type 0} where
       move z (inr i) = in-right j′ (there i)
   fewer-append seen k k′ l l′ (drop {l = j} y i r d) e = drop y i r (fewer-append seen j k′ l l′ d e)
 
+-- nothing is lost
+pub fewer-in : {A : Type 0} (seen l m : List A) → Fewer Equal seen l m → (z : A) → In z l → In z m ⊎ In z seen
+fewer-in seen l m done z i = absurd (in-nil i)
+fewer-in seen l m (keep {x = x} {l = j} {m = k} d) z i = go (in-cons i) (λ h. fewer-in (x ∷ seen) j k d z h)
+  where
+    next : In z k ⊎ In z (x ∷ seen) → In z (x ∷ k) ⊎ In z seen
+    next (inl h) = inl (there h)
+    next (inr h) = elim (in-cons h) [ inl e ↦ inl (rw e here) | inr n ↦ inr n ]
+
+    go : (z ≡ x) ⊎ In z j → (In z j → In z k ⊎ In z (x ∷ seen)) → In z (x ∷ k) ⊎ In z seen
+    go (inl e) ih = inl (rw e here)
+    go (inr h) ih = next (ih h)
+fewer-in seen l m (drop {x = x} {l = j} y h q d) z i = go (in-cons i) (λ n. fewer-in seen j m d z n)
+  where
+    go : (z ≡ x) ⊎ In z j → (In z j → In z m ⊎ In z seen) → In z m ⊎ In z seen
+    go (inl e) ih = inr (rw (e ∙ sym q) h)
+    go (inr n) ih = ih n
+
 -- a list of repeats goes as a whole
 pub fewer-gone : {A : Type 0} (seen k l m : List A) → ((x : A) → In x k → In x seen) → Fewer Equal seen l m → Fewer Equal seen (k ++ l) m
 fewer-gone seen [] l m f d = d
