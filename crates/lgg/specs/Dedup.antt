@@ -18,7 +18,7 @@ use Rattle.spec.specs.Meaning.{In, here, there, _⊑_}
 use Rattle.lgg.specs.Lists.{in-nil, in-cons, in-left, in-right, in-append, in-each, in-any}
 use Rattle.lgg.specs.Quality.{⊑-refl, ⊑-of-eq, ⊑-trans, ⊏-not, better-is, two-eq, Total}
 use Rattle.lgg.specs.Turn.{actionQuality, cellQualities, solved, offer-old, offer-new, plan-new, transports-old, actions-old}
-use Rattle.lgg.specs.Graph.{Entered, grown, enter-says, starts-in}
+use Rattle.lgg.specs.Enter.{Entered, grown, enter-says, starts-in}
 use Rattle.lgg.specs.Repeats.{Fewer, done, keep, drop, Equal, fewer-all, fewer-seen, fewer-append, fewer-in, fewer-each, fewer-map, fewer-filter, fewer-trans}
 
 -- ---- the same action twice: by operation and joined pairs, in whatever order (the signature of `dedup_and_insert`)
@@ -107,7 +107,7 @@ enterAll-fewer seen l m ps h done = refl
 enterAll-fewer seen l m ps h (keep {x = x} {l = j} {m = k} d) = go (enter ps x) (enter-says ps x) (λ qs g. enterAll-fewer (x ∷ seen) j k qs g d)
   where
     go : (r : Res (List Two)) → Entered ps (x ∷ []) r → ((qs : List Two) → ((z : Two) → In z (x ∷ seen) → In z qs) → enterAll qs j ≡ enterAll qs k) → (r >>= λ qs. enterAll qs j) ≡ (r >>= λ qs. enterAll qs k)
-    go (ok qs) (grown g) ih = ih qs (λ z i. elim (in-cons i) [ inl e ↦ rw e (g .all x here) | inr n ↦ starts-in ps qs z (g .starts) (h z n) ])
+    go (ok qs) (grown g f) ih = ih qs (λ z i. elim (in-cons i) [ inl e ↦ rw e (g .all x here) | inr n ↦ starts-in ps qs z (g .starts) (h z n) ])
     go (refused n) e ih = refl
 enterAll-fewer seen l m ps h (drop {x = x} {l = j} y i e d) = rw (enter-again ps x (rw e at (h y i))) (enterAll-fewer seen j m ps h d)
 

@@ -21,7 +21,8 @@ use Rattle.lgg.specs.Results.{refused-ok, ok-inj}
 use Rattle.lgg.specs.Quality.{⊑-refl, ⊑-of-eq}
 use Rattle.lgg.specs.Turn.{TransportTheorems}
 use Rattle.lgg.specs.Rounds.{AtMost, LeastOf, Closed, qualityAfter, changed, q-start, quiet-same, same-quiet, changed-differs, differs-changed, attained, least, least-every, bound}
-use Rattle.lgg.specs.Graph.{Starts, Some, PairCount, Whole, build-closed, build-whole, build-first, build-passed, build-cut, build-same, build-short, build-enough}
+use Rattle.lgg.specs.Enter.{Starts}
+use Rattle.lgg.specs.Graph.{Some, PairCount, Whole, build-closed, build-whole, build-first, build-passed, build-cut, build-same, build-short, build-enough}
 use Rattle.lgg.specs.Run.{Status, Ended, Ends, inBuilding, inStarting, inRounds, run-ends, Stays, run-later}
 
 -- ---- 5. the graph

@@ -2,113 +2,22 @@
 use mathlib.Core.Path.{_≡_, refl, sym, ap, _∙_, subst}
 use mathlib.Core.Logic.{_⊎_, inl, inr, _↔_}
 use mathlib.Core.Bool.{Bool, true, false}
-use mathlib.Core.List.{List, [], _∷_, _++_, append-nil, append-assoc}
+use mathlib.Core.List.{List, [], _∷_, _++_}
 use Prim.Native.Nat.{ℕ, zero, suc, _+_, _-_, _≤_, _<_, zero-le}
 use native.Mathlib.Omega.{arith}
 use native.Mathlib.Nat.{not-suc-le-zero, eq-or-lt-of-le, suc-inj, add-comm}
 use lib.Dec.{ltb}
-use lib.ListN.{length, getD, length-append}
+use lib.ListN.{length, getD}
 use borrow.Author.Tests.{ltb-true, ltb-false}
-use Rattle.spec.specs.Bytes.{pick, any, Two, sameTwo, Res, ok, refused, _>>=_, Checked, passed, cutShort}
+use Rattle.spec.specs.Bytes.{Two, Res, ok, refused, _>>=_, Checked, passed, cutShort}
 use Rattle.spec.specs.Image.{Tables}
 use Rattle.spec.specs.Action.{joins}
-use Rattle.spec.specs.Graph.{PAIRS, build, buildFrom, enterAll, enter}
+use Rattle.spec.specs.Graph.{PAIRS, build, buildFrom, enterAll}
 use Rattle.spec.specs.Meaning.{In, here, there, Reachable, queried, joined}
-use Rattle.lgg.specs.Lists.{in-nil, in-cons, in-left, in-right, in-append, is-in, not-in, get-in, in-get, get-append, Distinct, none, more, distinct-last, pigeon}
+use Rattle.lgg.specs.Lists.{in-nil, in-cons, get-in, in-get, get-append, Distinct, none, more, pigeon}
 use Rattle.lgg.specs.Results.{Later, refused-ok, refused-inj, ok-inj, passed-inj, cut-passed}
+use Rattle.lgg.specs.Enter.{Starts, starts-refl, starts-trans, starts-in, starts-length, Grown, Entered, grown, overfull, enterAll-says}
 use Rattle.lgg.specs.Rounds.{Closed}
-
--- qs begins with ps
-abbrev pub Starts : List Two → List Two → Type 0
-Starts ps qs = (rest : List Two) × (qs ≡ ps ++ rest)
-
-starts-refl : (ps : List Two) → Starts ps ps
-starts-refl ps = ([], sym (append-nil ps))
-
-starts-trans : (ps qs rs : List Two) → Starts ps qs → Starts qs rs → Starts ps rs
-starts-trans ps qs rs (a, e) (b, f) = (a ++ b, f ∙ ap (λ (l : List Two). l ++ b) e ∙ append-assoc ps a b)
-
-pub starts-in : (ps qs : List Two) (x : Two) → Starts ps qs → In x ps → In x qs
-starts-in ps qs x (a, e) i = rw e (in-left a i)
-
-starts-length : (ps qs : List Two) → Starts ps qs → length ps ≤ length qs
-starts-length ps qs (a, e) = omega (arith, ap (λ (l : List Two). length l) e, length-append ps a)
-
--- ---- entering a list of pairs
--- qs is ps with the pairs of l
-pub record Grown (ps l qs : List Two) : Type 0 where
-  pub starts : Starts ps qs
-  pub all : (x : Two) → In x l → In x qs
-  pub only : (x : Two) → In x qs → In x ps ⊎ In x l
-  pub apart : Distinct ps → Distinct qs
-  pub few : length ps ≤ PAIRS → length qs ≤ PAIRS
-
--- a pair beyond the limit would be entered: then there are more than the limit
-pub record Overfull (ps l : List Two) : Type 0 where
-  pub pairs : List Two
-  pub some : (x : Two) → In x pairs → In x ps ⊎ In x l
-  pub once : Distinct ps → Distinct pairs
-  pub many : PAIRS < length pairs
-
-pub data Entered (ps l : List Two) : Res (List Two) → Type 0 where
-  grown : {qs : List Two} → Grown ps l qs → Entered ps l (ok qs)
-  overfull : {n : ℕ} → n ≡ 12 → Overfull ps l → Entered ps l (refused n)
-
-one-more : (ps : List Two) (p : Two) → (In p ps → ⊥) → length ps < PAIRS → Grown ps (p ∷ []) (ps ++ (p ∷ []))
-one-more ps p new room = record {
-  starts = (p ∷ [], refl);
-  all = λ x i. elim (in-cons i) [ inl e ↦ rw e (in-right ps here) | inr j ↦ absurd (in-nil j) ];
-  only = λ x i. in-append ps i;
-  apart = λ d. distinct-last ps p d new;
-  few = λ h. omega (arith, length-append ps (p ∷ []));
-}
-
-pub enter-says : (ps : List Two) (p : Two) → Entered ps (p ∷ []) (enter ps p)
-unfolding enter
-enter-says ps p = go (any (sameTwo p) ps) refl (ltb (length ps) PAIRS) refl
-  where
-    go : (x : Bool) → any (sameTwo p) ps ≡ x → (y : Bool) → ltb (length ps) PAIRS ≡ y → Entered ps (p ∷ []) (pick x (ok ps) (pick y (ok (ps ++ (p ∷ []))) (refused 12)))
-    go true a y b = grown (record {
-      starts = starts-refl ps;
-      all = λ x i. elim (in-cons i) [ inl e ↦ rw e (is-in p ps a) | inr j ↦ absurd (in-nil j) ];
-      only = λ x i. inl i;
-      apart = λ d. d;
-      few = λ h. h;
-    })
-    go false a true b = grown (one-more ps p (not-in p ps a) (ltb-true (length ps) PAIRS b))
-    go false a false b = overfull refl (record {
-      pairs = ps ++ (p ∷ []);
-      some = λ x i. in-append ps i;
-      once = λ d. distinct-last ps p d (not-in p ps a);
-      many = omega (arith, ltb-false (length ps) PAIRS b, length-append ps (p ∷ []));
-    })
-
-enterAll-says : (l ps : List Two) → Entered ps l (enterAll ps l)
-unfolding enterAll
-enterAll-says [] ps = grown (record { starts = starts-refl ps; all = λ x i. absurd (in-nil i); only = λ x i. inl i; apart = λ d. d; few = λ h. h })
-enterAll-says (p ∷ l) ps = go (enter ps p) (enter-says ps p) (λ qs. enterAll-says l qs)
-  where
-    widen : (x : Two) → In x ps ⊎ In x (p ∷ []) → In x ps ⊎ In x (p ∷ l)
-    widen x (inl i) = inl i
-    widen x (inr i) = elim (in-cons i) [ inl e ↦ inr (rw e here) | inr j ↦ absurd (in-nil j) ]
-
-    wider : (qs : List Two) → Grown ps (p ∷ []) qs → (x : Two) → In x qs ⊎ In x l → In x ps ⊎ In x (p ∷ l)
-    wider qs g x (inl i) = widen x (g .only x i)
-    wider qs g x (inr i) = inr (there i)
-
-    next : (qs : List Two) → Grown ps (p ∷ []) qs → (r : Res (List Two)) → Entered qs l r → Entered ps (p ∷ l) r
-    next qs g (ok rs) (grown h) = grown (record {
-      starts = starts-trans ps qs rs (g .starts) (h .starts);
-      all = λ x i. elim (in-cons i) [ inl e ↦ starts-in qs rs x (h .starts) (rw e (g .all p here)) | inr j ↦ h .all x j ];
-      only = λ x i. wider qs g x (h .only x i);
-      apart = λ d. h .apart (g .apart d);
-      few = λ k. h .few (g .few k);
-    })
-    next qs g (refused n) (overfull e o) = overfull e (record { pairs = o .pairs; some = λ x i. wider qs g x (o .some x i); once = λ d. o .once (g .apart d); many = o .many })
-
-    go : (r : Res (List Two)) → Entered ps (p ∷ []) r → ((qs : List Two) → Entered qs l (enterAll qs l)) → Entered ps (p ∷ l) (r >>= λ qs. enterAll qs l)
-    go (ok qs) (grown g) ih = next qs g (enterAll qs l) (ih qs)
-    go (refused n) (overfull e o) ih = overfull e (record { pairs = o .pairs; some = λ x i. widen x (o .some x i); once = o .once; many = o .many })
 
 -- ---- building
 -- some of the reachable pairs, once each
@@ -122,22 +31,20 @@ pub record Good (t : Tables) (root : Two) (ps : List Two) (i : ℕ) : Type 0 whe
   pub some : Some t root ps
   pub done : (k : ℕ) → k < i → (c : Two) → In c (joins t (getD ps k (0, 0))) → In c ps
   pub upTo : i ≤ length ps
-  pub few : length ps ≤ PAIRS
 
 -- what building with m checks in all comes to
 pub data Built (t : Tables) (root : Two) (m : ℕ) : Res (Checked (List Two)) → Type 0 where
-  full : {ps : List Two} {c : ℕ} → Good t root ps (length ps) → m ≡ length ps + c → Built t root m (ok (passed ps c))
+  full : {ps : List Two} {c : ℕ} → Good t root ps (length ps) → m ≡ length ps + c → length ps ≤ PAIRS → Built t root m (ok (passed ps c))
   short : (ps : List Two) → Some t root ps → m < length ps → length ps ≤ PAIRS → Built t root m (ok cutShort)
   over : {n : ℕ} → n ≡ 12 → (ps : List Two) → Some t root ps → PAIRS < length ps → Built t root m (refused n)
 
 module _ (t : Tables) (root : Two) where
-  good-next : (ps qs : List Two) (i : ℕ) → i < length ps → Good t root ps i → Grown ps (joins t (getD ps i (0, 0))) qs → Good t root qs (suc i)
+  pub good-next : (ps qs : List Two) (i : ℕ) → i < length ps → Good t root ps i → Grown ps (joins t (getD ps i (0, 0))) qs → Good t root qs (suc i)
   good-next ps qs i h d g = record {
     starts = starts-trans (root ∷ []) ps qs (d .starts) (g .starts);
     some = record { once = g .apart (d .some .once); reached = λ x j. from x (g .only x j) };
     done = λ k l c j. turn k l c j;
     upTo = omega (arith, starts-length ps qs (g .starts));
-    few = g .few (d .few);
   }
     where
       from : (x : Two) → In x ps ⊎ In x (joins t (getD ps i (0, 0))) → Reachable t root x
@@ -157,38 +64,40 @@ module _ (t : Tables) (root : Two) where
           go (inl e) = g .all c (subst (λ z. In c (joins t (getD ps z (0, 0)))) (suc-inj e) j′)
           go (inr b) = starts-in ps qs c (g .starts) (d .done k (omega arith) c j′)
 
-  good-done : (ps : List Two) (i m c : ℕ) → Good t root ps i → length ps ≤ i → m ≡ i + c → Built t root m (ok (passed ps c))
-  good-done ps i m c g h e = let z : i ≡ length ps = omega (arith, g .upTo) in full {ps = ps} {c = c} (rw z at g) (omega arith)
+  good-done : (ps : List Two) (i m c : ℕ) → Good t root ps i → length ps ≤ PAIRS → length ps ≤ i → m ≡ i + c → Built t root m (ok (passed ps c))
+  good-done ps i m c g f h e = let z : i ≡ length ps = omega (arith, g .upTo) in full {ps = ps} {c = c} (rw z at g) (omega arith) f
 
-  pub build-says : (b : ℕ) (ps : List Two) (i m : ℕ) → Good t root ps i → m ≡ i + b → Built t root m (buildFrom b t ps i)
+  pub build-says : (b : ℕ) (ps : List Two) (i m : ℕ) → Good t root ps i → length ps ≤ PAIRS → m ≡ i + b → Built t root m (buildFrom b t ps i)
   unfolding buildFrom
-  build-says zero ps i m g e = go (ltb i (length ps)) refl
+  build-says zero ps i m g f e = go (ltb i (length ps)) refl
     where
       go : (x : Bool) → ltb i (length ps) ≡ x → Built t root m (elim x [ true ↦ ok cutShort | false ↦ ok (passed ps 0) ])
-      go true p = short ps (g .some) (omega (arith, ltb-true i (length ps) p)) (g .few)
-      go false p = good-done ps i m 0 g (ltb-false i (length ps) p) e
-  build-says (suc b) ps i m g e = go (ltb i (length ps)) refl (λ qs h. build-says b qs (suc i) m h (omega arith))
+      go true p = short ps (g .some) (omega (arith, ltb-true i (length ps) p)) f
+      go false p = good-done ps i m 0 g f (ltb-false i (length ps) p) e
+  build-says (suc b) ps i m g f e = go (ltb i (length ps)) refl (λ qs h k. build-says b qs (suc i) m h k (omega arith))
     where
-      next : i < length ps → (r : Res (List Two)) → Entered ps (joins t (getD ps i (0, 0))) r → ((qs : List Two) → Good t root qs (suc i) → Built t root m (buildFrom b t qs (suc i))) → Built t root m (r >>= λ qs. buildFrom b t qs (suc i))
-      next h (ok qs) (grown d) ih = ih qs (good-next ps qs i h g d)
+      next : i < length ps → (r : Res (List Two)) → Entered ps (joins t (getD ps i (0, 0))) r → ((qs : List Two) → Good t root qs (suc i) → length qs ≤ PAIRS → Built t root m (buildFrom b t qs (suc i))) → Built t root m (r >>= λ qs. buildFrom b t qs (suc i))
+      next h (ok qs) (grown d k) ih = ih qs (good-next ps qs i h g d) (k f)
       next h (refused n) (overfull z o) ih = over z (o .pairs) (record { once = o .once (g .some .once); reached = λ x j. from x (o .some x j) }) (o .many)
         where
           from : (x : Two) → In x ps ⊎ In x (joins t (getD ps i (0, 0))) → Reachable t root x
           from x (inl j) = g .some .reached x j
           from x (inr j) = joined (g .some .reached (getD ps i (0, 0)) (get-in ps i h)) j
 
-      go : (x : Bool) → ltb i (length ps) ≡ x → ((qs : List Two) → Good t root qs (suc i) → Built t root m (buildFrom b t qs (suc i))) → Built t root m (elim x [ false ↦ ok (passed ps (suc b)) | true ↦ (enterAll ps (joins t (getD ps i (0, 0))) >>= λ qs. buildFrom b t qs (suc i)) ])
+      go : (x : Bool) → ltb i (length ps) ≡ x → ((qs : List Two) → Good t root qs (suc i) → length qs ≤ PAIRS → Built t root m (buildFrom b t qs (suc i))) → Built t root m (elim x [ false ↦ ok (passed ps (suc b)) | true ↦ (enterAll ps (joins t (getD ps i (0, 0))) >>= λ qs. buildFrom b t qs (suc i)) ])
       go true p ih = next (ltb-true i (length ps) p) (enterAll ps (joins t (getD ps i (0, 0)))) (enterAll-says (joins t (getD ps i (0, 0))) ps) ih
-      go false p ih = good-done ps i m (suc b) g (ltb-false i (length ps) p) e
+      go false p ih = good-done ps i m (suc b) g f (ltb-false i (length ps) p) e
 
-  pub built : (b : ℕ) → Built t root b (build t root b)
-  built b = build-says b (root ∷ []) 0 b (record {
+  pub good-start : Good t root (root ∷ []) 0
+  good-start = record {
     starts = starts-refl (root ∷ []);
     some = record { once = more in-nil none; reached = λ x i. elim (in-cons i) [ inl e ↦ queried e | inr j ↦ absurd (in-nil j) ] };
     done = λ k l. absurd (not-suc-le-zero l);
     upTo = zero-le;
-    few = omega arith;
-  }) (omega arith)
+  }
+
+  pub built : (b : ℕ) → Built t root b (build t root b)
+  built b = build-says b (root ∷ []) 0 b good-start (omega arith) (omega arith)
 
   -- more checks: the same list, or the same refusal
   pub build-later : (b c e : ℕ) (ps : List Two) (i : ℕ) → c ≡ b + e → Later e (buildFrom b t ps i) (buildFrom c t ps i)
@@ -216,12 +125,12 @@ module _ (t : Tables) (root : Two) where
   good-closed : (ps : List Two) → Good t root ps (length ps) → Closed t ps
   good-closed ps g p c i j = let k = in-get p ps i in g .done (k .0) (k .1) c (subst (λ z. In c (joins t z)) (sym (k .2)) j)
 
-  good-reach : (ps : List Two) → Good t root ps (length ps) → (x : Two) → Reachable t root x → In x ps
+  pub good-reach : (ps : List Two) → Good t root ps (length ps) → (x : Two) → Reachable t root x → In x ps
   good-reach ps g x (queried e) = rw e (starts-in (root ∷ []) ps root (g .starts) here)
   good-reach ps g x (joined {p = y} r j) = good-closed ps g y x (good-reach ps g y r) j
 
-  passed-says : (b c : ℕ) (ps : List Two) (r : Res (Checked (List Two))) → Built t root b r → r ≡ ok (passed ps c) → Good t root ps (length ps) × (b ≡ length ps + c)
-  passed-says b c ps r (full {ps = qs} {c = d} g e) z = let (x, y) = passed-inj (ok-inj z) in (rw x at g, omega (arith, y, ap (λ (l : List Two). length l) x))
+  passed-says : (b c : ℕ) (ps : List Two) (r : Res (Checked (List Two))) → Built t root b r → r ≡ ok (passed ps c) → Good t root ps (length ps) × (b ≡ length ps + c) × (length ps ≤ PAIRS)
+  passed-says b c ps r (full {ps = qs} {c = d} g e f) z = let (x, y) = passed-inj (ok-inj z) in let l = ap (λ (l : List Two). length l) x in (rw x at g, omega (arith, y), omega arith)
   passed-says b c ps r (short qs o l m) z = absurd (cut-passed (ok-inj z))
   passed-says b c ps r (over e qs o l) z = absurd (refused-ok z)
 
@@ -266,7 +175,7 @@ module _ (t : Tables) (root : Two) where
     build-cut b e = go (build t root b) (built t root b) e
       where
         go : (r : Res (Checked (List Two))) → Built t root b r → r ≡ ok cutShort → b < n
-        go r (full {ps = ps} {c = c} g z) y = absurd (cut-passed (sym (ok-inj y)))
+        go r (full {ps = ps} {c = c} g z f) y = absurd (cut-passed (sym (ok-inj y)))
         go r (short ps s l m) y = omega (arith, some-count n count ps s)
         go r (over z ps s l) y = absurd (refused-ok y)
 
@@ -275,20 +184,20 @@ module _ (t : Tables) (root : Two) where
   build-refused b k e = go (build t root b) (built t root b) e
     where
       go : (r : Res (Checked (List Two))) → Built t root b r → r ≡ refused k → (k ≡ 12) × ((ps : List Two) × Some t root ps × (PAIRS < length ps))
-      go r (full {ps = ps} {c = c} g z) y = absurd (refused-ok (sym y))
+      go r (full {ps = ps} {c = c} g z f) y = absurd (refused-ok (sym y))
       go r (short ps s l m) y = absurd (refused-ok (sym y))
       go r (over z ps s l) y = (sym (refused-inj y) ∙ z, (ps, s, l))
 
   -- no list that is built is longer
   build-few : (b c : ℕ) (ps : List Two) → build t root b ≡ ok (passed ps c) → length ps ≤ PAIRS
-  build-few b c ps e = passed-says t root b c ps (build t root b) (built t root b) e .0 .few
+  build-few b c ps e = passed-says t root b c ps (build t root b) (built t root b) e .2
 
   -- with more pairs than the limit, a budget of the limit meets it
   pub build-over : (n b : ℕ) → PairCount t root n → PAIRS < n → PAIRS ≤ b → build t root b ≡ refused 12
   build-over n b count large h = go (build t root b) refl (built t root b)
     where
       go : (r : Res (Checked (List Two))) → build t root b ≡ r → Built t root b r → r ≡ refused 12
-      go r e (full {ps = ps} {c = c} g z) = absurd (omega (arith, g .few, build-passed n count b c ps e .0))
+      go r e (full {ps = ps} {c = c} g z f) = absurd (omega (arith, build-passed n count b c ps e .0))
       go r e (short ps s l m) = absurd (omega arith)
       go r e (over z ps s l) = ap refused z
 

@@ -3,6 +3,7 @@ pub mod Results
 pub mod Quality
 pub mod Turn
 pub mod Rounds
+pub mod Enter
 pub mod Graph
 pub mod Checks
 pub mod Run
