@@ -10,3 +10,4 @@ pub mod Run
 pub mod Demand3
 pub mod Repeats
 pub mod Dedup
+pub mod Count
