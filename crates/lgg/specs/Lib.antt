@@ -11,3 +11,4 @@ pub mod Demand3
 pub mod Repeats
 pub mod Dedup
 pub mod Count
+pub mod Refusals
