@@ -1,5 +1,5 @@
 -- Every query has its number of pairs: the classes that a pair leads to come from the image and from the query, so the reachable pairs are finitely many.
-use mathlib.Core.Path.{_≡_, refl, sym, ap, _∙_, subst}
+use mathlib.Core.Path.{_≡_, refl}
 use mathlib.Core.Logic.{_⊎_, inl, inr}
 use mathlib.Core.Bool.{Bool, true, false}
 use mathlib.Core.List.{List, [], _∷_, _++_, map}
@@ -14,8 +14,8 @@ use Rattle.spec.specs.Monomial.{Monomial, MonomialPair, pairOf, insertAdd, addA
 use Rattle.spec.specs.Action.{Action, TransportAction, zip, byPosition, straightAndCrossed, alignments, alignMembers, structural, acOps, transports, cellPairs, joins}
 use Rattle.spec.specs.Meaning.{In, here, there, Reachable, queried, joined}
 use Rattle.lgg.specs.Lists.{in-nil, in-cons, in-left, in-right, in-append, in-map, map-in, in-each, pigeon}
-use Rattle.lgg.specs.Enter.{Grown, grow}
-use Rattle.lgg.specs.Graph.{Some, Good, good-start, good-next, good-reach, Whole, PairCount}
+use Rattle.lgg.specs.Enter.{grow}
+use Rattle.lgg.specs.Graph.{Some, Good, good-start, good-next, good-reach, PairCount}
 
 -- ---- every entry of a list
 abbrev All : {A : Type 0} → (A → Type 0) → List A → Type 0

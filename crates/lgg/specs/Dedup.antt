@@ -4,20 +4,20 @@ use mathlib.Core.Logic.{_⊎_, inl, inr}
 use mathlib.Core.Bool.{Bool, true, false}
 use mathlib.Core.List.{List, [], _∷_, _++_, map}
 use mathlib.Core.Option.{Option, none, some}
-use Prim.Native.Nat.{ℕ, zero, suc, _+_, _*_}
+use Prim.Native.Nat.{ℕ, _+_, _*_}
 use native.Mathlib.Omega.{arith}
 use lib.Dec.{eqb}
-use Rattle.spec.specs.Bytes.{pick, both, any, each, Two, sameTwo, Res, ok, refused, _>>=_}
+use Rattle.spec.specs.Bytes.{both, each, Two, Res, ok, refused, _>>=_}
 use Rattle.spec.specs.Image.{Tables, identityOf}
 use Rattle.spec.specs.Monomial.{Monomial, MonomialPair, monomialsOf, padPair, bothItself, representationPairs, narrow, narrowPairs}
 use Rattle.spec.specs.Transport.{planSize, planMass}
 use Rattle.spec.specs.Action.{Action, TransportAction, structural, acOps, transports, cellPairs, joins}
 use Rattle.spec.specs.Graph.{enter, enterAll}
-use Rattle.spec.specs.Round.{better, cellsOver, qualityOver, ones, Choice, stay, act, Turn, offer, offerActions, offerPlan, offerTransports, turnOf}
+use Rattle.spec.specs.Round.{better, qualityOver, ones, Choice, stay, act, Turn, offer, offerActions, offerPlan, offerTransports, turnOf}
 use Rattle.spec.specs.Meaning.{In, here, there, _⊑_}
-use Rattle.lgg.specs.Lists.{in-nil, in-cons, in-left, in-right, in-append, in-each, in-any}
+use Rattle.lgg.specs.Lists.{in-nil, in-cons, in-any}
 use Rattle.lgg.specs.Quality.{⊑-refl, ⊑-of-eq, ⊑-trans, ⊏-not, better-is, two-eq, Total}
-use Rattle.lgg.specs.Turn.{actionQuality, cellQualities, solved, offer-old, offer-new, plan-new, transports-old, actions-old}
+use Rattle.lgg.specs.Turn.{actionQuality, cellQualities, solved, offer-old, offer-new, actions-new, plan-new, transports-new}
 use Rattle.lgg.specs.Enter.{Entered, grown, enter-says, starts-in}
 use Rattle.lgg.specs.Repeats.{Fewer, done, keep, drop, Equal, fewer-all, fewer-seen, fewer-append, fewer-in, fewer-each, fewer-map, fewer-filter, fewer-trans}
 
@@ -95,6 +95,17 @@ transports-fewer q seen l m w h (keep {x = a} {l = j} {m = k} d) = transports-fe
     new b (inl e) = subst (λ c. Offered q v c) (sym e) (λ x z. plan-new q a (solved q a) w x z)
     new b (inr i) = λ x z. ⊑-trans (v .quality) (w .quality) (qualityOver x (cellQualities q b)) (plan-old q a (solved q a) w) (h b i x z)
 transports-fewer q seen l m w h (drop {x = a} {l = j} y i e d) = rw (plan-again q a (solved q a) w (subst (λ c. Offered q w c) e (h y i))) (transports-fewer q seen j m w h d)
+
+-- An action offered again, in whatever order of its pairs, leaves the turn as it is; so does a transport.
+pub action-again : (q : Two → Two) (l : List Action) (w : Turn) (a b : Action) → In a l → Repeats a b → offerActions q (b ∷ []) (offerActions q l w) ≡ offerActions q l w
+unfolding offerActions
+action-again q l w a b i r =
+    let v = offerActions q l w in
+    offer-again (actionQuality q b) (act (b .op) (b .pairs) (ones (b .pairs))) v (⊑-trans (v .quality) (actionQuality q a) (actionQuality q b) (actions-new q l w a i) (⊑-of-eq (repeat-quality q a b r)))
+
+pub transport-again : (q : Two → Two) (l : List TransportAction) (w : Turn) (a : TransportAction) → In a l → offerTransports q (a ∷ []) (offerTransports q l w) ≡ offerTransports q l w
+unfolding offerTransports
+transport-again q l w a i = plan-again q a (solved q a) (offerTransports q l w) (λ x e. transports-new q l w a i x e)
 
 -- ---- entering pairs
 enter-again : (ps : List Two) (p : Two) → In p ps → enter ps p ≡ ok ps

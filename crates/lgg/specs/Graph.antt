@@ -2,7 +2,7 @@
 use mathlib.Core.Path.{_≡_, refl, sym, ap, _∙_, subst}
 use mathlib.Core.Logic.{_⊎_, inl, inr, _↔_}
 use mathlib.Core.Bool.{Bool, true, false}
-use mathlib.Core.List.{List, [], _∷_, _++_}
+use mathlib.Core.List.{List, [], _∷_}
 use Prim.Native.Nat.{ℕ, zero, suc, _+_, _-_, _≤_, _<_, zero-le}
 use native.Mathlib.Omega.{arith}
 use native.Mathlib.Nat.{not-suc-le-zero, eq-or-lt-of-le, suc-inj, add-comm}
@@ -13,7 +13,7 @@ use Rattle.spec.specs.Bytes.{Two, Res, ok, refused, _>>=_, Checked, passed, cut
 use Rattle.spec.specs.Image.{Tables}
 use Rattle.spec.specs.Action.{joins}
 use Rattle.spec.specs.Graph.{PAIRS, build, buildFrom, enterAll}
-use Rattle.spec.specs.Meaning.{In, here, there, Reachable, queried, joined}
+use Rattle.spec.specs.Meaning.{In, here, Reachable, queried, joined}
 use Rattle.lgg.specs.Lists.{in-nil, in-cons, get-in, in-get, get-append, Distinct, none, more, pigeon}
 use Rattle.lgg.specs.Results.{Later, refused-ok, refused-inj, ok-inj, passed-inj, cut-passed}
 use Rattle.lgg.specs.Enter.{Starts, starts-refl, starts-trans, starts-in, starts-length, Grown, Entered, grown, overfull, enterAll-says}
@@ -242,3 +242,12 @@ module _ (t : Tables) (root : Two) where
           rw (same, left) refl
       go (ok cutShort) k = absurd (omega (arith, build-cut (length ps) count b k))
       go (refused n) k = let (z, (qs, s, l)) = build-refused b n k in absurd (omega (arith, build-few B C ps h, some-count (length ps) count qs s))
+
+  -- n checks build a graph of n pairs
+  pub build-at : (n : ℕ) → PairCount t root n → n ≤ PAIRS → (ps : List Two) × (length ps ≡ n) × (build t root n ≡ ok (passed ps 0))
+  build-at n count h = go (build t root n) refl
+    where
+      go : (r : Res (Checked (List Two))) → build t root n ≡ r → (ps : List Two) × (length ps ≡ n) × (build t root n ≡ ok (passed ps 0))
+      go (ok (passed ps c)) e = let (l, k) = build-passed n count n c ps e in let z : c ≡ 0 = omega arith in (ps, l, e ∙ ap (λ (m : ℕ). ok (passed ps m)) z)
+      go (ok cutShort) e = absurd (omega (arith, build-cut n count n e))
+      go (refused k) e = let (z, (ps, s, l)) = build-refused n k e in absurd (omega (arith, some-count n count ps s))

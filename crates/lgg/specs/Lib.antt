@@ -7,8 +7,9 @@ pub mod Enter
 pub mod Graph
 pub mod Checks
 pub mod Run
-pub mod Demand3
 pub mod Repeats
 pub mod Dedup
 pub mod Count
 pub mod Refusals
+pub mod Outcomes
+pub mod Demand3

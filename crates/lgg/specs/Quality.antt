@@ -5,8 +5,7 @@ use mathlib.Core.Bool.{Bool, true, false}
 use mathlib.Core.List.{List, [], _∷_, map}
 use Prim.Native.Nat.{ℕ, zero, suc, _+_, _*_, _≤_, _<_}
 use native.Mathlib.Omega.{arith}
-use native.Mathlib.Nat.{le-refl, le-antisymm, mul-le-mul-left}
-use native.Mathlib.Decide.{decLt}
+use native.Mathlib.Nat.{le-refl, mul-le-mul-left}
 use lib.Dec.{ltb, eqb}
 use borrow.Author.Tests.{ltb-true, ltb-false, eqb-true, eqb-false}
 use Rattle.spec.specs.Bytes.{Two}
@@ -51,11 +50,11 @@ pub ⊏-not : (a b : Two) → a ⊏ b → b ⊑ a → ⊥
 ⊏-not a b (inr h) (inl k) = omega (arith, h .0)
 ⊏-not a b (inr h) (inr k) = omega (arith, h .1, k .1)
 
-pub ⊑-⊏-trans : (a b c : Two) → a ⊑ b → b ⊏ c → a ⊏ c
-⊑-⊏-trans a b c (inl h) (inl k) = inl (omega arith)
-⊑-⊏-trans a b c (inl h) (inr k) = inl (omega (arith, k .0))
-⊑-⊏-trans a b c (inr h) (inl k) = inl (omega (arith, h .0))
-⊑-⊏-trans a b c (inr h) (inr k) = inr (h .0 ∙ k .0, omega (arith, h .1, k .1))
+pub ⊏-⊑-trans : (a b c : Two) → a ⊏ b → b ⊑ c → a ⊏ c
+⊏-⊑-trans a b c (inl h) (inl k) = inl (omega arith)
+⊏-⊑-trans a b c (inl h) (inr k) = inl (omega (arith, k .0))
+⊏-⊑-trans a b c (inr h) (inl k) = inl (omega (arith, h .0))
+⊏-⊑-trans a b c (inr h) (inr k) = inr (h .0 ∙ k .0, omega (arith, h .1, k .1))
 
 pub ⊑-size : (a b : Two) → a ⊑ b → a .0 ≤ b .0
 ⊑-size a b (inl h) = omega arith
@@ -103,10 +102,6 @@ plus-⊑ (suc n) s m S M s′ m′ S′ M′ (inr h) (inr k) = inr (omega (arith
 pub data Below : List Two → List Two → Type 0 where
   below-nil : Below [] []
   below-next : {a b : Two} {l m : List Two} → a ⊑ b → Below l m → Below (a ∷ l) (b ∷ m)
-
-pub below-map : (f g : Two → Two) (l : List Two) → ((p : Two) → In p l → f p ⊑ g p) → Below (map f l) (map g l)
-below-map f g [] h = below-nil
-below-map f g (p ∷ l) h = below-next (h p here) (below-map f g l (λ q i. h q (there i)))
 
 pub total-⊑ : (x : List ℕ) (l m : List Two) → Below l m → Total x l ⊑ Total x m
 unfolding planSize planMass

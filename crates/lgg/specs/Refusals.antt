@@ -1,15 +1,15 @@
 -- The refusals of a run: 12 from building, 13 from the pool, and no other number.
-use mathlib.Core.Path.{_≡_, refl, sym, ap, _∙_}
+use mathlib.Core.Path.{_≡_, sym}
 use mathlib.Core.Logic.{_⊎_, inl, inr}
 use mathlib.Core.Bool.{Bool, true, false}
 use mathlib.Core.List.{List, [], _∷_, _++_, map}
-use Prim.Native.Nat.{ℕ, zero, suc, _≤_, _<_, _+_}
+use Prim.Native.Nat.{ℕ, zero, suc, _<_, _+_}
 use lib.Dec.{ltb, leb, eqb}
 use lib.ListN.{length}
 use Rattle.spec.specs.Bytes.{pick, both, any, place, Two, Res, ok, refused, _>>=_, Checked, passed, cutShort}
 use Rattle.spec.specs.Image.{Tables, Member, Lit, kindOf, isCommutative, bestSize, bestMember, childrenOf}
-use Rattle.spec.specs.Graph.{PAIRS, build, buildFrom}
-use Rattle.spec.specs.Pool.{Pool, Node, Interned, Children, TERMS, RUNS, interned, sameNode, runCount, intern, opNode, litNode, variantsNode, sortRuns, childTerms, bestTermIn, bestTerm, startingTerm}
+use Rattle.spec.specs.Graph.{PAIRS, build}
+use Rattle.spec.specs.Pool.{Pool, Node, Interned, TERMS, RUNS, interned, sameNode, runCount, intern, opNode, litNode, variantsNode, sortRuns, childTerms, bestTermIn, bestTerm, startingTerm}
 use Rattle.spec.specs.Round.{Terms, prepend, Choice, stay, act, Turn, changes, startingQuality, lookUp, planRuns, actionTerm, choiceTerm, turnsTerms, turnsOf}
 use Rattle.spec.specs.Run.{State, Outcome, outcome, startingTerms, roundTerms, afterRound, roundsFrom, started, afterStarting, afterBuilding, runOf}
 use Rattle.lgg.specs.Results.{refused-inj, refused-ok, bind-refused}

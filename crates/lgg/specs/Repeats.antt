@@ -2,10 +2,10 @@
 use mathlib.Core.Path.{_≡_, refl, sym, ap, _∙_}
 use mathlib.Core.Logic.{_⊎_, inl, inr}
 use mathlib.Core.Bool.{Bool, true, false}
-use mathlib.Core.List.{List, [], _∷_, _++_, map, append-assoc}
+use mathlib.Core.List.{List, [], _∷_, _++_, map}
 use Rattle.spec.specs.Bytes.{filter, each}
 use Rattle.spec.specs.Meaning.{In, here, there}
-use Rattle.lgg.specs.Lists.{clash, in-nil, in-cons, in-left, in-right, in-append, in-map, in-each}
+use Rattle.lgg.specs.Lists.{clash, in-nil, in-cons, in-left, in-right, in-append, in-map}
 
 -- m is l without some of the entries that stand for (by R) an entry which came earlier, or was seen before
 pub data Fewer {A : Type 0} (R : A → A → Type 0) : List A → List A → List A → Type 0 where

@@ -1,7 +1,7 @@
 -- Results and checks: what a step that succeeds says, and steps that a longer budget does not change.
-use mathlib.Core.Path.{_≡_, refl, sym, ap, _∙_}
+use mathlib.Core.Path.{_≡_, refl, ap}
 use mathlib.Core.Logic.{_⊎_, inl, inr}
-use Prim.Native.Nat.{ℕ, zero, suc, _+_, _≤_, _<_}
+use Prim.Native.Nat.{ℕ, _+_}
 use native.Mathlib.Omega.{arith}
 use Rattle.spec.specs.Bytes.{Res, ok, refused, _>>=_, Checked, passed, cutShort}
 

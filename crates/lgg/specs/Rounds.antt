@@ -6,15 +6,15 @@ use mathlib.Core.List.{List, [], _∷_, map}
 use Prim.Native.Nat.{ℕ, zero, suc, _+_, _≤_, _<_, zero-le}
 use native.Mathlib.Omega.{arith}
 use native.Mathlib.Nat.{le-refl, le-trans, zero-add, suc-add, eq-or-lt-of-le}
-use lib.ListN.{length, getD}
-use Rattle.spec.specs.Bytes.{any, place, Two, sameTwo}
+use lib.ListN.{length}
+use Rattle.spec.specs.Bytes.{any, place, Two}
 use Rattle.spec.specs.Image.{Tables}
 use Rattle.spec.specs.Action.{cellPairs, joins}
 use Rattle.spec.specs.Round.{startingQuality, qualityOver, lookUp, Turn, changes, turnOf, turnsOf, next, qualitiesAfter}
 use Rattle.spec.specs.Meaning.{In, here, there, _⊑_, Derivation, start, action, transport, Places, noPlace}
 use Rattle.spec.specs.Meaning as M
 use Rattle.lgg.specs.Lists.{clash, map-in, length-map, in-nil, in-cons, in-map, any-in, any-none, map-map, map-ext, look-up, Distinct, none, more, pigeon}
-use Rattle.lgg.specs.Quality.{_⊏_, ⊑-refl, ⊑-of-eq, ⊑-trans, ⊑-antisym, ⊏-⊑, ⊏-not, ⊑-size, Below, below-nil, below-next, below-map, quality-⊑, Total, Strict, differ}
+use Rattle.lgg.specs.Quality.{_⊏_, ⊑-refl, ⊑-of-eq, ⊑-trans, ⊏-not, ⊑-size, Below, below-nil, below-next, quality-⊑, Total, Strict, differ}
 use Rattle.lgg.specs.Turn.{TransportTheorems, Told, turn-told, turn-old, Move, aligned, planned, plan-over, move-joins, turn-move, Won, turn-from}
 
 -- "a derivation of height at most h" of pair p, with quality z
@@ -121,20 +121,6 @@ module _ (t : Tables) (ps : List Two) where
   changed-differs r e same =
       let (p, i, l) = changed-some r e in
       ⊏-not (qualityAfter t ps (suc r) p) (qualityAfter t ps r p) l (⊑-of-eq (ap (λ (m : List Two). lookUp (0, 0) ps m p) (sym same)))
-
-  pub same-quiet : (r : ℕ) → qualitiesAfter (suc r) t ps ≡ qualitiesAfter r t ps → changed t ps r ≡ false
-  same-quiet r same = go (changed t ps r) refl
-    where
-      go : (b : Bool) → changed t ps r ≡ b → changed t ps r ≡ false
-      go true e = absurd (changed-differs r e same)
-      go false e = e
-
-  pub differs-changed : (r : ℕ) → qualitiesAfter (suc r) t ps ≢ qualitiesAfter r t ps → changed t ps r ≡ true
-  differs-changed r differs = go (changed t ps r) refl
-    where
-      go : (b : Bool) → changed t ps r ≡ b → changed t ps r ≡ true
-      go true e = e
-      go false e = absurd (differs (quiet-same r e))
 
   -- nothing changes after a round that changes nothing
   pub forever : (r : ℕ) → qualitiesAfter (suc r) t ps ≡ qualitiesAfter r t ps → (k : ℕ) → qualitiesAfter (k + r) t ps ≡ qualitiesAfter r t ps

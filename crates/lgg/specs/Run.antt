@@ -9,12 +9,12 @@ use native.Mathlib.Nat.{eq-or-lt-of-le, suc-inj}
 use lib.ListN.{length, getD}
 use Rattle.spec.specs.Bytes.{any, Two, Res, ok, refused, _>>=_, Checked, passed, cutShort}
 use Rattle.spec.specs.Image.{Tables}
-use Rattle.spec.specs.Graph.{build, buildFrom}
+use Rattle.spec.specs.Graph.{build}
 use Rattle.spec.specs.Pool.{Interned, startingTerm}
 use Rattle.spec.specs.Round.{Terms, Turn, changes, startingQuality, turnOf, turnsOf, next, lookUp, qualitiesAfter}
 use Rattle.spec.specs.Run.{Outcome, State, outcome, startingTerms, roundTerms, afterRound, roundsFrom, started, afterStarting, afterBuilding, runOf}
 use Rattle.lgg.specs.Lists.{clash, length-map}
-use Rattle.lgg.specs.Results.{Later, refused-ok, refused-inj, ok-inj, passed-inj, cut-passed, bind-ok}
+use Rattle.lgg.specs.Results.{Later, refused-ok, ok-inj, bind-ok}
 use Rattle.lgg.specs.Rounds.{changed}
 use Rattle.lgg.specs.Checks.{Spent, cut, paid, ended, starting-spends, starting-later, round-spends, round-later, withBudget}
 use Rattle.lgg.specs.Graph.{build-later}
@@ -123,10 +123,6 @@ run-ends t p b o e =
 abbrev pub Stays : Res Outcome → Res Outcome → Type 0
 Stays (ok o) y = o .complete ≡ true → y ≡ ok o
 Stays (refused n) y = y ≡ refused n
-
-stays-same : (x y : Res Outcome) → y ≡ x → Stays x y
-stays-same (ok o) y e = λ c. e
-stays-same (refused n) y e = e
 
 -- a step that goes on with the same end
 stays-bind : {A : Type 0} (e : ℕ) (r s : Res (Checked A)) → Later e r s → (k l : Checked A → Res Outcome)

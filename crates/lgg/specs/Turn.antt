@@ -1,5 +1,5 @@
 -- A pair's turn: it ends with the best of what the pair has and of what its moves give.
-use mathlib.Core.Path.{_≡_, refl, sym, ap, _∙_}
+use mathlib.Core.Path.{_≡_, refl, sym, _∙_}
 use mathlib.Core.Logic.{_⊎_, inl, inr}
 use mathlib.Core.Bool.{Bool, true, false}
 use mathlib.Core.List.{List, [], _∷_, map}
@@ -16,7 +16,7 @@ use Rattle.spec.specs.Action.{Action, TransportAction, structural, transports, 
 use Rattle.spec.specs.Round.{better, cellsOver, qualityOver, ones, problemOver, Choice, stay, act, Turn, changes, offer, offerActions, offerPlan, offerTransports, turnOf}
 use Rattle.spec.specs.Meaning.{In, here, there, Plan, _⊑_}
 use Rattle.lgg.specs.Lists.{in-left, in-right, in-each, length-map}
-use Rattle.lgg.specs.Quality.{_⊏_, ⊑-refl, ⊑-trans, ⊏-⊑, ⊑-⊏-trans, better-is, better-not, suc-⊑}
+use Rattle.lgg.specs.Quality.{_⊏_, ⊏-⊑-trans, ⊑-refl, ⊑-trans, ⊏-⊑, better-is, better-not, suc-⊑}
 
 -- ---- what the transport theorems say of the solver
 pub record TransportTheorems : Type 0 where
@@ -56,12 +56,6 @@ Told z w = ((changes w ≡ false) × (w .quality ≡ z)) ⊎ ((changes w ≡ tru
 told-⊑ : (z : Two) (w : Turn) → Told z w → w .quality ⊑ z
 told-⊑ z w (inl (n, e)) = rw e (⊑-refl z)
 told-⊑ z w (inr (n, l)) = ⊏-⊑ {a = w .quality} {b = z} l
-
-⊏-⊑-trans : (a b c : Two) → a ⊏ b → b ⊑ c → a ⊏ c
-⊏-⊑-trans a b c (inl h) (inl k) = inl (omega arith)
-⊏-⊑-trans a b c (inl h) (inr k) = inl (omega (arith, k .0))
-⊏-⊑-trans a b c (inr h) (inl k) = inl (omega (arith, h .0))
-⊏-⊑-trans a b c (inr h) (inr k) = inr (h .0 ∙ k .0, omega (arith, h .1, k .1))
 
 offer-told : (y z : Two) (o : ℕ) (ps : List Two) (x : List ℕ) (w : Turn) → Told z w → Told z (offer y (act o ps x) w)
 offer-told y z o ps x w k = go (better y (w .quality)) refl
