@@ -9,6 +9,7 @@ pub mod Checks
 pub mod Run
 pub mod Repeats
 pub mod Dedup
+pub mod Within
 pub mod Count
 pub mod Refusals
 pub mod Outcomes
