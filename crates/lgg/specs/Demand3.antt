@@ -10,12 +10,13 @@ use native.Mathlib.Nat.{eq-or-lt-of-le, suc-inj}
 use native.Mathlib.Numerals.{add-one}
 use lib.ListN.{length}
 use Rattle.spec.specs.Bytes.{Two, Res, ok, refused, passed, cutShort}
-use Rattle.spec.specs.Image.{Tables}
+use Rattle.spec.specs.Image.{Tables, imageOf}
 use Rattle.spec.specs.Graph.{PAIRS, build}
 use Rattle.spec.specs.Pool.{Interned, startingTerm}
 use Rattle.spec.specs.Round.{qualitiesAfter}
 use Rattle.spec.specs.Run.{Outcome, started, runOf}
 use Rattle.spec.specs.Listing.{listingOf}
+use Rattle.spec.specs.Merge.{mergeOf}
 use Rattle.spec.specs.Meaning.{In, _⊑_, Derivation, Reachable}
 use Rattle.lgg.specs.Lists.{clash, Distinct}
 use Rattle.lgg.specs.Results.{refused-ok, ok-inj}
@@ -23,7 +24,7 @@ use Rattle.lgg.specs.Turn.{TransportTheorems}
 use Rattle.lgg.specs.Rounds.{LeastOf, qualityAfter, changed, q-start, quiet-same, changed-differs, attained, least, least-every, bound}
 use Rattle.lgg.specs.Graph.{PairCount, some-count, count-unique, build-closed, build-whole, build-first, build-passed, build-cut, build-same, build-short, build-enough, build-over, build-at}
 use Rattle.lgg.specs.Count as C
-use Rattle.lgg.specs.Run.{Ended, Ends, inBuilding, inStarting, inRounds, run-ends, Stays, run-later}
+use Rattle.lgg.specs.Run.{Status, Ended, Ends, inBuilding, inStarting, inRounds, run-ends, Stays, run-later}
 use Rattle.lgg.specs.Refusals.{run-refused}
 use Rattle.lgg.specs.Outcomes.{root-in, root-quality, started-says, started-least, quiet-if-complete, complete-if, rounds-reported, rounds-grow}
 
@@ -115,7 +116,59 @@ stays-complete t p b c o h e full = go (runOf t p b) e (run-later t p b c h)
 pub same-listing : (t : Tables) (p : Two) (b c : ℕ) (o u : Outcome) → b ≤ c → runOf t p b ≡ ok o → o .complete ≡ true → runOf t p c ≡ ok u → listingOf u ≡ listingOf o
 same-listing t p b c o u h e full k = ap (λ (z : Outcome). listingOf z) (ok-inj (sym k ∙ stays-complete t p b c o h e full))
 
+-- So has the call of `merge` as a whole: the answer, the listing's bytes or refusal 14, is the same.
+pub same-answer : (fit : Bool) (image : List ℕ) (left right b c room : ℕ) (t : Tables) (o : Outcome) → imageOf image ≡ ok t → b ≤ c → runOf t (left, right) b ≡ ok o → o .complete ≡ true
+    → mergeOf fit image left right c room ≡ mergeOf fit image left right b room
+unfolding mergeOf
+same-answer fit image left right b c room t o i h e full = rw (i, stays-complete t (left, right) b c o h e full, e) refl
+
 -- ---- what is reported
+-- "A run cut short in building reports 1 pair, any other run n."
+pub pairs-reported : (t : Tables) (p : Two) (n : ℕ) → PairCount t p n → (b : ℕ) (o : Outcome) → runOf t p b ≡ ok o → (b < n → o .pairs ≡ 1) × (n ≤ b → o .pairs ≡ n)
+pairs-reported t p n count b o e = go (run-ends t p b o e)
+  where
+    go : Ends t p b o → (b < n → o .pairs ≡ 1) × (n ≤ b → o .pairs ≡ n)
+    go (inBuilding root k s) = let l = build-cut t p n count b k in ((λ h. started-says t p root 1 o s .0), λ h. absurd (omega arith))
+    go (inStarting root ps c k l s) = let (x, y) = build-passed t p n count b c ps k in ((λ h. absurd (omega arith)), λ h. started-says t p root (length ps) o s .0 ∙ x)
+    go (inRounds ps c m k l f) = let (x, y) = build-passed t p n count b c ps k in ((λ h. absurd (omega arith)), λ h. f .pairs ∙ x)
+
+-- The rounds of a run with b checks that gets past its starting terms, where ps is its full graph and n its number of pairs.
+pub record Finished (t : Tables) (ps : List Two) (n b : ℕ) (o : Outcome) : Type 0 where
+  -- "The rounds reported are the finished ones that changed a quality": each of them did, and its checks passed
+  pub changing : (r : ℕ) → r < o .rounds → qualitiesAfter (suc r) t ps ≢ qualitiesAfter r t ps
+  pub finished : 2 * n + o .rounds * (n + 1) ≤ b
+  -- "The run is complete at the first finished round without change": the round after those
+  pub complete : (o .complete ≡ true) ↔ ((qualitiesAfter (suc (o .rounds)) t ps ≡ qualitiesAfter (o .rounds) t ps) × (2 * n + (o .rounds + 1) * (n + 1) ≤ b))
+  -- a run is partial only where the checks of the next round do not all pass
+  pub partial : o .complete ≡ false → b < 2 * n + (o .rounds + 1) * (n + 1)
+
+pub rounds-finished : (t : Tables) (p : Two) (B C : ℕ) (ps : List Two) → build t p B ≡ ok (passed ps C) → (b : ℕ) (o : Outcome) → 2 * length ps ≤ b → runOf t p b ≡ ok o → Finished t ps (length ps) b o
+rounds-finished t p B C ps g b o h e = go (run-ends t p b o e)
+  where
+    count : PairCount t p (length ps)
+    count = (ps, build-whole t p B C ps g, refl)
+
+    go : Ends t p b o → Finished t ps (length ps) b o
+    go (inBuilding root k s) = absurd (omega (arith, build-cut t p (length ps) count b k))
+    go (inStarting root qs d k l s) = let (x, y) = build-passed t p (length ps) count b d qs k in absurd (omega arith)
+    go (inRounds qs d m k l f) = by (rw (build-same t p b d B C qs ps k g) at f) (build-passed t p (length ps) count b d qs k)
+      where
+        by : Ended t ps m o → (length qs ≡ length ps) × (b ≡ length ps + d) → Finished t ps (length ps) b o
+        by f (n, x) = record {
+          changing = λ r j. changed-differs t ps r (f .moved r j);
+          finished = omega (arith, f .enough);
+          complete = at (f .status);
+          partial = λ z. short z (f .status);
+        }
+          where
+            at : Status t ps m o → (o .complete ≡ true) ↔ ((qualitiesAfter (suc (o .rounds)) t ps ≡ qualitiesAfter (o .rounds) t ps) × (2 * length ps + (o .rounds + 1) * (length ps + 1) ≤ b))
+            at (inl (y, z, w)) = ((λ v. (quiet-same t ps (o .rounds) z, omega arith)), λ v. y)
+            at (inr (y, z)) = ((λ v. absurd (clash (sym v ∙ y))), λ v. absurd (omega (arith, v .1)))
+
+            short : o .complete ≡ false → Status t ps m o → b < 2 * length ps + (o .rounds + 1) * (length ps + 1)
+            short v (inl (y, z, w)) = absurd (clash (sym y ∙ v))
+            short v (inr (y, z)) = omega arith
+
 -- R is the first round, counted from 0, that changes no quality.
 pub record FirstQuiet (t : Tables) (ps : List Two) (R : ℕ) : Type 0 where
   pub earlier : (r : ℕ) → r < R → qualitiesAfter (suc r) t ps ≢ qualitiesAfter r t ps
