@@ -49,7 +49,3 @@ times-within x k e h hk = rw (e, natAbs-times x k) (omega (arith, mul-le-mul {n�
 
 pub weigh-law : {r z m : ℤ} (w : ℤ) (s v : ℕ) → z ≡ w *ℤ pos s → m ≡ pos v → r ≡ z +ℤ m → r ≡ weigh w (pos s) (pos v)
 weigh-law w s v e f g = g ∙ (λ i. e i +ℤ f i) ∙ ap (λ (x : ℤ). x +ℤ pos v) (*ℤ-comm w (pos s))
-
--- F × V
-pub factor-lt : (f v : ℕ) → f < 2 ^ 64 → v < 2 ^ 32 → f * v < 2 ^ 118
-factor-lt f v hf hv = omega (arith, mul-le-mul {n₁ = f} {m₁ = v} {n₂ = 2 ^ 64 - 1} {m₂ = 2 ^ 32 - 1} (omega arith) (omega arith))

@@ -1,10 +1,8 @@
 use borrow.Author.Needs.{needs}
 use native.Mathlib.Omega.{arith}
-use mathlib.Core.Path.{refl, _∙_}
-use Prim.Native.Nat.{_*_}
 use Rattle.wide.specs.Value.{val}
 use Rattle.wide.specs.Bounds.{within-pos, add-pos, times-pos}
-use Rattle.wide.proofs.Times.{factor-lt}
+use Rattle.wide.proofs.Times.{times-within}
 use Rattle.wide.proofs.Wide.weight.Statement.{statement}
 use Rattle.wide.proofs.Wide.weight.Tie as tie
 
@@ -19,8 +17,8 @@ of-requires-2 c κs = search needs
 
 add-requires : tie.Need-add-requires
 add-requires c κs =
-    let a = c .before .before .before .args in
-    (within-pos 118 (times-pos (a .v) (c .before .times .ensures) (c .before .before .of .ensures)) (factor-lt (a .f) (a .v) (omega arith) (omega arith)), within-pos 118 (c .of2 .ensures) (omega arith))
+    let f = c .before .before .of in
+    (times-within (val (f .result)) (c .before .before .before .args .v) (c .before .times .ensures) (within-pos 86 (f .ensures) (omega arith)) (omega arith), within-pos 118 (c .of2 .ensures) (omega arith))
 
 returns : tie.Need-returns
 returns c = add-pos (c .add .ensures) (times-pos (c .before .before .before .before .args .v) (c .before .before .times .ensures) (c .before .before .before .of .ensures)) (c .before .of2 .ensures)
