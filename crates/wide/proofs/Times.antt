@@ -6,7 +6,7 @@ use native.Mathlib.Nat.{mul-add, add-mul, mul-assoc, zero-mul, one-mul, mul-le-m
 use native.Mathlib.Omega.{arith}
 use lib.IntN.{ℤ, pos, natAbs, _+ℤ_, _-ℤ_, _*ℤ_, *ℤ-comm}
 use Rattle.wide.specs.declared.Wide.{Wide}
-use Rattle.wide.specs.Value.{val, unsigned, Within, weigh}
+use Rattle.wide.specs.Value.{val, unsigned, Within, weighOf}
 use Rattle.wide.specs.Diff.{diff-eq, diff-mul, natAbs-times}
 use Rattle.wide.proofs.Words.{Words, Side, side}
 
@@ -47,5 +47,5 @@ times-law a p q r k c wa wq wr hk u e f d g =
 pub times-within : {z : ℤ} (x : ℤ) (k : ℕ) → z ≡ x *ℤ pos k → natAbs x < 2 ^ 86 → k < 2 ^ 32 → natAbs z < 2 ^ 118
 times-within x k e h hk = rw (e, natAbs-times x k) (omega (arith, mul-le-mul {n₁ = natAbs x} {m₁ = k} {n₂ = 2 ^ 86 - 1} {m₂ = 2 ^ 32 - 1} (omega arith) (omega arith)))
 
-pub weigh-law : {r z m : ℤ} (w : ℤ) (s v : ℕ) → z ≡ w *ℤ pos s → m ≡ pos v → r ≡ z +ℤ m → r ≡ weigh w (pos s) (pos v)
+pub weigh-law : {r z m : ℤ} (w : ℤ) (s v : ℕ) → z ≡ w *ℤ pos s → m ≡ pos v → r ≡ z +ℤ m → r ≡ weighOf w (pos s) (pos v)
 weigh-law w s v e f g = g ∙ (λ i. e i +ℤ f i) ∙ ap (λ (x : ℤ). x +ℤ pos v) (*ℤ-comm w (pos s))

@@ -6,7 +6,7 @@ use native.Mathlib.Omega.{arith}
 use lib.Dec.{ltb}
 use lib.Signed.{ltZ}
 use lib.IntN.{ℤ, pos, negℤ, natAbs, _+ℤ_, _-ℤ_, _*ℤ_}
-use Rattle.wide.specs.Value.{weightOf, weigh}
+use Rattle.wide.specs.Value.{weightOf, weighOf}
 use Rattle.wide.specs.Diff.{up, natAbs-neg}
 
 -- the `requires` of a number that is n or −n
@@ -29,8 +29,8 @@ less-pos f g = λ i. ltZ (f i) (g i)
 pub times-pos : {z x : ℤ} {n : ℕ} (k : ℕ) → z ≡ x *ℤ pos k → x ≡ pos n → z ≡ pos (n * k)
 times-pos k e f = e ∙ ap (λ (y : ℤ). y *ℤ pos k) f
 
-pub weigh-pos : {z w : ℤ} {n : ℕ} (s v : ℕ) → z ≡ weigh w (pos s) (pos v) → w ≡ pos n → z ≡ pos (s * n + v)
-weigh-pos s v e f = e ∙ ap (λ (y : ℤ). weigh y (pos s) (pos v)) f
+pub weigh-pos : {z w : ℤ} {n : ℕ} (s v : ℕ) → z ≡ weighOf w (pos s) (pos v) → w ≡ pos n → z ≡ pos (s * n + v)
+weigh-pos s v e f = e ∙ ap (λ (y : ℤ). weighOf y (pos s) (pos v)) f
 
 -- the magnitudes: 65 supplies below 2^32 add up to F < 2^39, and a path has at most 132 nodes
 pub weight-lt : (f v : ℕ) → f < 2 ^ 39 → v < 2 ^ 32 → weightOf f v < 2 ^ 71
@@ -43,5 +43,5 @@ pub path-lt : (c n : ℕ) → c < 2 ^ 103 → n ≤ 132 * c → n < 2 ^ 111
 path-lt c n hc hn = omega arith
 
 -- P: F = 3, V = 1: cost (0,3) weighs 3, cost (1,−2) weighs 2
-pub weighs : (weigh (pos (weightOf 3 1)) (pos 0) (pos 3) ≡ pos 3) × (weigh (pos (weightOf 3 1)) (pos 1) (negℤ (pos 2)) ≡ pos 2)
+pub weighs : (weighOf (pos (weightOf 3 1)) (pos 0) (pos 3) ≡ pos 3) × (weighOf (pos (weightOf 3 1)) (pos 1) (negℤ (pos 2)) ≡ pos 2)
 weighs = (refl, refl)

@@ -20,5 +20,5 @@ abbrev pub weightOf : ℕ → ℕ → ℕ
 weightOf f v = f * v + 1
 
 -- "a cell costs size × W + mass"; a path too, where sizes and masses may have been taken off again
-abbrev pub weigh : ℤ → ℤ → ℤ → ℤ
-weigh w size mass = size *ℤ w +ℤ mass
+abbrev pub weighOf : ℤ → ℤ → ℤ → ℤ
+weighOf w size mass = size *ℤ w +ℤ mass

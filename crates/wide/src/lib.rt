@@ -3,7 +3,7 @@ ghost use mathlib.Core.Path.{_≡_};
 ghost use Prim.Native.Nat.{_+_, _*_, _/_, _%_, _^_, _<_};
 ghost use lib.IntN.{pos, negℤ, _+ℤ_, _-ℤ_, _*ℤ_};
 ghost use lib.Signed.{ltZ};
-ghost use Rattle.wide.specs.Value.{val, unsigned, Within, weightOf, weigh};
+ghost use Rattle.wide.specs.Value.{val, unsigned, Within, weightOf, weighOf};
 
 pub struct Wide {
     pub lo: u64,
@@ -182,7 +182,7 @@ impl Wide {
     // What a cell costs: size * W + mass.
     pub fn weigh(size: u32, mass: u32, w: Wide) -> Wide
         requires { ⌜ Within 86 w ⌝ }
-        ensures { λ r. ⌜ val r ≡ weigh (val w) (pos size) (pos mass) ⌝ }
+        ensures { λ r. ⌜ val r ≡ weighOf (val w) (pos size) (pos mass) ⌝ }
     {
         let p = w.times(size);
         p.add(Wide::of(mass as u64))

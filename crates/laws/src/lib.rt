@@ -1,0 +1,1 @@
+// laws about the definitions: see specs/

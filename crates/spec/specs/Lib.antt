@@ -1,0 +1,17 @@
+pub mod Bytes
+pub mod Image
+pub mod Monomial
+pub mod Transport
+pub mod Action
+pub mod Graph
+pub mod Pool
+pub mod Round
+pub mod Run
+pub mod Listing
+pub mod Merge
+pub mod Meaning
+pub mod Edges
+pub mod Asked
+pub mod Samples
+pub mod Refusals
+pub mod Limits

@@ -1,0 +1,168 @@
+-- What document 01 says of terms, classes, plans and derivations, with no algorithm in sight.
+use mathlib.Core.Path.{_≡_}
+use mathlib.Core.Logic.{_≢_, _⊎_}
+use mathlib.Core.Bool.{Bool, true, false}
+use mathlib.Core.List.{List, [], _∷_, _++_}
+use Prim.Native.Nat.{ℕ, zero, suc, _+_, _*_, _≤_, _<_}
+use lib.Dec.{eqb}
+use lib.ListN.{length, getD, replicate}
+use Rattle.spec.specs.Bytes.{pick, Two}
+use Rattle.spec.specs.Image.{Tables, Member, Lit, NO-IDENTITY, kindOf, identityOf, isCommutative, membersOf, childrenOf}
+use Rattle.spec.specs.Monomial.{classes}
+use Rattle.spec.specs.Transport.{allowed, Problem, rowsOf, colsOf, cellAt, supplyAt, demandAt, moved, rowFlow, colFlow}
+use Rattle.spec.specs.Action.{Action, TransportAction, structural, transports, cellPairs, joins}
+use Rattle.spec.specs.Pool.{Pool, Node, LIT, VARIANTS}
+use Rattle.spec.specs.Round.{startingQuality, qualityOver, ones, problemOver}
+
+-- x is an entry of the list
+pub data In {A : Type 0} (x : A) : List A → Type 0 where
+  here : {l : List A} → In x (x ∷ l)
+  there : {y : A} {l : List A} → In x l → In x (y ∷ l)
+
+-- ---- terms as trees
+mutual
+  pub data Term : Type 0 where
+    lit : ℕ → ℕ → Term
+    node : ℕ → Runs → Term
+    variants : Term → Term → Term
+
+  pub data Runs : Type 0 where
+    done : Runs
+    run : Term → ℕ → Runs → Runs
+
+-- "An action gives 1 plus the sum of count × size, and the sum of count × mass. A term has the same over its runs; a marked place has for both the sum of its branches' sizes."
+unfoldable mutual
+  pub termQuality : Term → Two
+  termQuality (lit o v) = (1, 0)
+  termQuality (node o r) = (1 + runsQuality r .0, runsQuality r .1)
+  termQuality (variants a b) = (termQuality a .0 + termQuality b .0, termQuality a .0 + termQuality b .0)
+
+  pub runsQuality : Runs → Two
+  runsQuality done = (0, 0)
+  runsQuality (run a n r) = (n * termQuality a .0 + runsQuality r .0, n * termQuality a .1 + runsQuality r .1)
+
+-- the child list with every run written out
+unfoldable pub expand : Runs → List Term
+expand done = []
+expand (run a n r) = replicate n a ++ expand r
+
+-- ---- "read by the first branch at every marked place", or by the second
+unfoldable mutual
+  pub reading : Bool → Term → Term
+  reading first (lit o v) = lit o v
+  reading first (node o r) = node o (readingRuns first r)
+  reading first (variants a b) = pick first (reading first a) (reading first b)
+
+  pub readingRuns : Bool → Runs → Runs
+  readingRuns first done = done
+  readingRuns first (run a n r) = run (reading first a) n (readingRuns first r)
+
+abbrev pub readFirst : Term → Term
+readFirst a = reading true a
+
+abbrev pub readSecond : Term → Term
+readSecond a = reading false a
+
+-- ---- the tree that a pool's number stands for
+unfoldable pub runsOf : List Term → List Two → Runs
+runsOf trees [] = done
+runsOf trees (r ∷ l) = run (getD trees (r .0) (lit 0 0)) (r .1) (runsOf trees l)
+
+-- the two branches of a marked place: two runs, or one run of 2
+abbrev pub firstBranch : List Two → ℕ
+firstBranch l = getD l 0 (0, 0) .0
+
+abbrev pub secondBranch : List Two → ℕ
+secondBranch l = getD l 1 (getD l 0 (0, 0)) .0
+
+unfoldable pub treeOf : List Term → Node → Term
+unfolding runsOf
+treeOf trees n =
+    pick (eqb (n .head) LIT) (lit (n .op) (n .value))
+    (pick (eqb (n .head) VARIANTS) (variants (getD trees (firstBranch (n .runs)) (lit 0 0)) (getD trees (secondBranch (n .runs)) (lit 0 0)))
+    (node (n .op) (runsOf trees (n .runs))))
+
+unfoldable pub treesAfter : List Term → Pool → List Term
+unfolding treeOf
+treesAfter trees [] = trees
+treesAfter trees (n ∷ p) = treesAfter (trees ++ (treeOf trees n ∷ [])) p
+
+abbrev pub treeAt : Pool → ℕ → Term
+treeAt p a = getD (treesAfter [] p) a (lit 0 0)
+
+-- ---- "Belongs."
+-- how often class c stands in a list of classes; in a list of classes with counts
+unfoldable pub occurs : ℕ → List ℕ → ℕ
+occurs c [] = 0
+occurs c (x ∷ l) = pick (eqb x c) 1 0 + occurs c l
+
+unfoldable pub countIn : ℕ → List Two → ℕ
+countIn c [] = 0
+countIn c (x ∷ l) = pick (eqb (x .0) c) (x .1) 0 + countIn c l
+
+-- What class c is under operation o: a member's children; "with an identity, identity children may be added, and the class itself once may stand for a member."
+pub data Side (t : Tables) (c o : ℕ) : List Two → Type 0 where
+  member : {l : List Two} (m : Member) → In m (membersOf t c) → m .op ≡ o → l ≡ childrenOf t m → Side t c o l
+  itself : identityOf t o ≢ NO-IDENTITY → Side t c o ((c, 1) ∷ [])
+  padded : {l : List Two} {e : ℕ} (n : ℕ) → identityOf t o ≢ NO-IDENTITY → e ≡ identityOf t o → Side t c o l → Side t c o ((e, n) ∷ l)
+
+mutual
+  pub data Belongs (t : Tables) : Term → ℕ → Type 0 where
+    -- "if it has a member's literal"
+    literal : {o v c : ℕ} (m : Member) → In m (membersOf t c) → kindOf t (m .op) ≡ Lit → o ≡ m .op → v ≡ m .value → Belongs t (lit o v) c
+    -- "or its operation over children belonging to the member's child classes"
+    ordered : {o c : ℕ} {r : Runs} (m : Member) → In m (membersOf t c) → o ≡ m .op → isCommutative (kindOf t o) ≡ false → AllBelong t (expand r) (classes (childrenOf t m)) → Belongs t (node o r) c
+    -- "For commutative kinds order is free"
+    unordered : {o c : ℕ} {r : Runs} (l : List Two) (cs : List ℕ) → Side t c o l → isCommutative (kindOf t o) ≡ true
+        → AllBelong t (expand r) cs → ((k : ℕ) → occurs k cs ≡ countIn k l) → Belongs t (node o r) c
+
+  pub data AllBelong (t : Tables) : List Term → List ℕ → Type 0 where
+    noMore : AllBelong t [] []
+    andThen : {a : Term} {c : ℕ} {s : List Term} {cs : List ℕ} → Belongs t a c → AllBelong t s cs → AllBelong t (a ∷ s) (c ∷ cs)
+
+-- ---- plans: "row and column sums of the plan equal the margins", zero at forbidden cells; "A monomial pair with an empty side has no plan."
+pub record Plan (p : Problem) (x : List ℕ) : Type 0 where
+  pub long : length x ≡ rowsOf p * colsOf p
+  pub someRow : 0 < rowsOf p
+  pub someColumn : 0 < colsOf p
+  pub rows : (i : ℕ) → i < rowsOf p → rowFlow p x i ≡ supplyAt p i
+  pub columns : (j : ℕ) → j < colsOf p → colFlow p x j ≡ demandAt p j
+  pub kept : (i j : ℕ) → i < rowsOf p → j < colsOf p → allowed (cellAt p i j) ≡ false → moved p x i j ≡ 0
+
+-- ---- "(size, mass), compared by size, then mass": a is at most b
+infix 50 _⊑_
+abbrev pub _⊑_ : Two → Two → Type 0
+a ⊑ b = (a .0 < b .0) ⊎ ((a .0 ≡ b .0) × (a .1 ≤ b .1))
+
+-- ---- "Derivation, of a pair": its height, the pair, its quality. One derivation for each place that an action joins.
+mutual
+  pub data Derivation (t : Tables) : ℕ → Two → Two → Type 0 where
+    -- "Height 0 is its starting term."
+    start : {p q : Two} → q ≡ startingQuality t p → Derivation t 0 p q
+    -- "Height h + 1 is an action of the pair, .. over derivations, of height at most h, of the pairs it joins."
+    action : {h : ℕ} {p q : Two} (a : Action) → In a (structural t (p .0) (p .1)) → (qs : List Two) → Places t h (a .pairs) qs
+        → q ≡ qualityOver (ones (a .pairs)) qs → Derivation t (suc h) p q
+    -- "for transport with any whole-number plan"
+    transport : {h : ℕ} {p q : Two} (a : TransportAction) → In a (transports t (p .0) (p .1)) → (qs : List Two) → Places t h (cellPairs (a .sides)) qs
+        → (x : List ℕ) → Plan (problemOver a qs) x → q ≡ qualityOver x qs → Derivation t (suc h) p q
+
+  pub data Places (t : Tables) : ℕ → List Two → List Two → Type 0 where
+    noPlace : {h : ℕ} → Places t h [] []
+    place : {h k : ℕ} {p q : Two} {ps qs : List Two} → k ≤ h → Derivation t k p q → Places t h ps qs → Places t h (p ∷ ps) (q ∷ qs)
+
+-- ---- "it holds the queried pair and, with each pair, every pair of classes that an action of it joins"
+pub data Reachable (t : Tables) (root : Two) : Two → Type 0 where
+  queried : {p : Two} → p ≡ root → Reachable t root p
+  joined : {p q : Two} → Reachable t root p → In q (joins t p) → Reachable t root q
+
+-- ---- "10, with a class: a literal in two classes; the class is one that holds it". Which one is open, so this is a relation.
+pub record HoldsDoubled (t : Tables) (c : ℕ) : Type 0 where
+  pub other : ℕ
+  pub two : c ≢ other
+  pub within : (c < length (t .classes)) × (other < length (t .classes))
+  pub here : Member
+  pub there : Member
+  pub of : In here (membersOf t c)
+  pub too : In there (membersOf t other)
+  pub literal : kindOf t (here .op) ≡ Lit
+  pub alike : (here .op ≡ there .op) × (here .value ≡ there .value)
