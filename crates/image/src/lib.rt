@@ -1,7 +1,8 @@
 // The image type, with its limits and entry widths as its constants.
 ghost use mathlib.Core.Path.{_≡_};
 ghost use Prim.Native.Nat.{_≤_};
-ghost use Rattle.image.specs.Layout.{layoutOf};
+ghost use Rattle.spec.specs.Bytes as Bytes;
+ghost use Rattle.image.specs.Layout.{countsWithin, layoutOf};
 
 // How many entries each table has, and the bytes at which class 0, member 0 and child 0 stand.
 pub struct Image {
@@ -12,6 +13,15 @@ pub struct Image {
     pub class0: usize,
     pub member0: usize,
     pub child0: usize,
+}
+
+fn within(x: usize, low: usize, high: usize) -> bool
+    ensures { λ r. ⌜ r ≡ Bytes.within low high x ⌝ }
+{
+    if low <= x {
+        return x <= high;
+    }
+    false
 }
 
 impl Image {
@@ -43,6 +53,22 @@ impl Image {
     pub const NO_IDENTITY: usize = 65535;
 
     pub const BEST_SIZE: u64 = 2147483646;
+
+    // Whether each count is within its range.
+    pub fn counts_right(operations: usize, classes: usize, members: usize, children: usize) -> bool
+        ensures { λ r. ⌜ r ≡ countsWithin operations classes members children ⌝ }
+    {
+        if !within(operations, 1, Image::OPERATIONS) {
+            return false;
+        }
+        if !within(classes, 1, Image::CLASSES) {
+            return false;
+        }
+        if !within(members, 1, Image::MEMBERS) {
+            return false;
+        }
+        within(children, 0, Image::CHILDREN)
+    }
 
     // The layout of an image with these counts, which are 2-byte numbers.
     pub fn of(operations: usize, classes: usize, members: usize, children: usize) -> Image
