@@ -1,5 +1,4 @@
 use borrow.Author.Needs.{needs}
-use native.Mathlib.Omega.{arith}
 use Rattle.wide.specs.Value.{unsigned}
 use Rattle.wide.proofs.Columns.{half-law}
 use Rattle.wide.proofs.mul_half.Statement.{statement}
@@ -38,17 +37,17 @@ high-requires-3 c κs = search needs
 returns : tie.Need-returns
 unfolding unsigned
 returns c =
-    let h = c .high3 in
+    let hi = c .high3 in
     let l₁ = c .before .low3 in
     let l₀ = c .before .before .low2 in
     let t = c .before .before .before .half-mul2 in
-    let w₁ = c .before .before .before .before .high2 in
+    let h = c .before .before .before .before .high2 in
     let a₁ = c .before .before .before .before .before .high in
     let w = c .before .before .before .before .before .before .half-mul in
     let a₀ = c .before .before .before .before .before .before .before .low in
-    let a = c .before .before .before .before .before .before .before .before .args in
-    half-law (a .a) (a .k) (a₀ .result) (a₁ .result) (w .result) (t .result) (h .result) (l₀ .result) (l₁ .result)
-    (omega arith) (omega (arith, w .ensures)) (omega (arith, t .ensures)) (h .ensures) (l₀ .ensures) (l₁ .ensures)
+    let s = c .before .before .before .before .before .before .before .before in
+    half-law (s .args .a) (s .args .k) (a₀ .result) (a₁ .result) (w .result) (h .result) (t .result) (l₀ .result) (l₁ .result) (hi .result)
+    (s .pre) (a₀ .ensures) (a₁ .ensures) (w .ensures) (h .ensures) (t .ensures) (l₀ .ensures) (l₁ .ensures) (hi .ensures)
 
 pub mul-half-spec : {M : Type 1} → statement M
 mul-half-spec =

@@ -1,5 +1,4 @@
 use borrow.Author.Needs.{needs}
-use native.Mathlib.Omega.{arith}
 use Rattle.wide.specs.Value.{unsigned}
 use Rattle.wide.proofs.Columns.{product-law}
 use Rattle.wide.proofs.Wide.product.Statement.{statement}
@@ -59,16 +58,20 @@ returns c =
     let l₁ = c .low5 in
     let l₀ = c .before .low4 in
     let hi = c .before .before .half-mul4 in
+    let h₁ = c .before .before .before .high5 in
+    let ht = c .before .before .before .before .high4 in
     let w₁ = c .before .before .before .before .before .half-mul3 in
+    let lt = c .before .before .before .before .before .before .low3 in
     let t = c .before .before .before .before .before .before .before .half-mul2 in
+    let h₀ = c .before .before .before .before .before .before .before .before .high3 in
     let w₀ = c .before .before .before .before .before .before .before .before .before .half-mul in
     let v₁ = c .before .before .before .before .before .before .before .before .before .before .high2 in
     let v₀ = c .before .before .before .before .before .before .before .before .before .before .before .low2 in
     let u₁ = c .before .before .before .before .before .before .before .before .before .before .before .before .high in
     let u₀ = c .before .before .before .before .before .before .before .before .before .before .before .before .before .low in
     let a = c .before .before .before .before .before .before .before .before .before .before .before .before .before .before .args in
-    product-law (a .u) (a .v) (u₀ .result) (u₁ .result) (v₀ .result) (v₁ .result) (w₀ .result) (t .result) (w₁ .result) (hi .result) (l₀ .result) (l₁ .result)
-    (omega arith) (omega arith) (omega arith) (omega arith) (omega arith) (omega arith) (l₀ .ensures) (l₁ .ensures)
+    product-law (a .u) (a .v) (u₀ .result) (u₁ .result) (v₀ .result) (v₁ .result) (w₀ .result) (h₀ .result) (t .result) (lt .result) (w₁ .result) (ht .result) (h₁ .result) (hi .result) (l₀ .result) (l₁ .result)
+    (u₀ .ensures) (u₁ .ensures) (v₀ .ensures) (v₁ .ensures) (w₀ .ensures) (h₀ .ensures) (t .ensures) (lt .ensures) (w₁ .ensures) (ht .ensures) (h₁ .ensures) (hi .ensures) (l₀ .ensures) (l₁ .ensures)
 
 pub product-spec : {M : Type 1} → statement M
 product-spec =
