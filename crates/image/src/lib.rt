@@ -46,8 +46,8 @@ impl Image {
 
     pub const VERSION: u8 = 1;
 
-    // the children of a member
-    pub const ARITY: usize = 64;
+    // the most children of a member
+    pub const CHILD_COUNT: usize = 64;
 
     // marks an operation without an identity class
     pub const NO_IDENTITY: usize = 65535;

@@ -2,3 +2,4 @@ pub mod Words
 pub mod Order
 pub mod Columns
 pub mod Times
+pub mod Cap

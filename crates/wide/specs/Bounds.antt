@@ -1,5 +1,5 @@
 -- What callers need: numbers that are known to be ± n meet each `requires`, results are naturals again, and path costs stay small.
-use mathlib.Core.Path.{_≡_, refl, ap, _∙_}
+use mathlib.Core.Path.{_≡_, ap, _∙_}
 use Prim.Native.Nat.{ℕ, _+_, _-_, _*_, _^_, _<_, _≤_}
 use native.Mathlib.Nat.{mul-le-mul}
 use native.Mathlib.Omega.{arith}
@@ -41,7 +41,3 @@ cost-lt w s v hw hs hv = omega (arith, mul-le-mul {n₁ = s} {m₁ = w} {n₂ = 
 
 pub path-lt : (c n : ℕ) → c < 2 ^ 103 → n ≤ 132 * c → n < 2 ^ 111
 path-lt c n hc hn = omega arith
-
--- P: F = 3, V = 1: cost (0,3) weighs 3, cost (1,−2) weighs 2
-pub weighs : (weighOf (pos (weightOf 3 1)) (pos 0) (pos 3) ≡ pos 3) × (weighOf (pos (weightOf 3 1)) (pos 1) (negℤ (pos 2)) ≡ pos 2)
-weighs = (refl, refl)

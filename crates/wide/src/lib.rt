@@ -1,6 +1,6 @@
 // Signed numbers of two 64-bit words, two's complement: the path costs of transport.rs (`i128`, `u128`).
 ghost use mathlib.Core.Path.{_≡_};
-ghost use Prim.Native.Nat.{_+_, _*_, _/_, _%_, _^_, _<_};
+ghost use Prim.Native.Nat.{_+_, _*_, _/_, _%_, _^_, _<_, min};
 ghost use lib.IntN.{pos, negℤ, _+ℤ_, _-ℤ_, _*ℤ_};
 ghost use lib.Signed.{ltZ};
 ghost use Rattle.wide.specs.Value.{val, unsigned, Within, weightOf, weighOf};
@@ -169,6 +169,19 @@ impl Wide {
             lo: p.lo,
             hi: h.word,
         }
+    }
+
+    // The number, or the largest u32 where it is above that: `cap_quality` of exact_fixed.rs. Not signed.
+    pub fn cap(self) -> u32
+        ensures { λ r. ⌜ r ≡ min (unsigned self) 4294967295 ⌝ }
+    {
+        if self.hi > 0 {
+            return 0xffff_ffff;
+        }
+        if self.lo > 0xffff_ffff {
+            return 0xffff_ffff;
+        }
+        self.lo as u32
     }
 
     // W = F * V + 1
