@@ -1,5 +1,6 @@
 #!/usr/bin/env python3
-"""Writes the definitions' tests from the small queries: crates/spec/specs/Samples.antt and Refusals.antt from oracle/sample/small.txt.
+"""Writes the definitions' tests from the small queries: crates/spec/specs/Samples.antt and Refusals.antt from oracle/sample/small.txt,
+Slips.antt from oracle/sample/slips.txt (queries that tell the rules from a porter's slips).
 Run from the repository's root; then `rt fmt`."""
 import re
 
@@ -12,9 +13,9 @@ use Rattle.spec.specs.Merge.{programOf}
 use Rattle.spec.specs.Asked.{Asked, asked, frame, cut, answers, expected, hex, put}
 '''
 
-def blocks():
+def blocks(path):
     title, frame, answer = None, None, []
-    for line in open('oracle/sample/small.txt', encoding='utf-8'):
+    for line in open(path, encoding='utf-8'):
         line = line.rstrip('\n')
         if line.startswith('#'):
             title = line[2:]
@@ -37,27 +38,33 @@ def name(title):
 def num(bs):
     return int.from_bytes(bytes(bs), 'big')
 
-groups = {}
-for t, f, a in blocks():
-    groups.setdefault(t, []).append((f, a))
+def grouped(path):
+    groups = {}
+    for t, f, a in blocks(path):
+        groups.setdefault(t, []).append((f, a))
+    return groups
 
 samples, refusals, sound = [], [], None
-for t, qs in groups.items():
+for t, qs in grouped('oracle/sample/small.txt').items():
     if t.startswith('sound: the image that'):
         sound = qs[0][0]
     (refusals if sound else samples).append((t, qs))
 
-out = ['-- Small queries for each feature, and budgets that cut in each phase: answers of the listed Rust (oracle/sample/small.txt).', HEAD]
-for t, qs in samples:
-    n = name(t.replace("E: document 01's example", 'image E'))
-    image = qs[0][0][:-8]
-    assert all(f[:-8] == image for f, a in qs), t
-    out += [f'-- {t}', f'abbrev {n}-image : String', f'{n}-image = "{bytes(image).hex()}"', '']
-    out += [f'unfoldable {n} : List Asked', f'unfolding hex', f'{n} =']
-    rows = [f'asked (frame {n}-image {num(f[-8:-6])} {num(f[-6:-4])} {num(f[-4:])}) "{a}"' for f, a in qs]
-    out += ['    ' + ('∷ ' if i else '') + r for i, r in enumerate(rows)] + ['    ∷ []', '']
-    out += [f'{n}-holds : answers {n} ≡ expected {n}', f'unfolding programOf text answers expected {n}', f'{n}-holds = refl', '']
-open('crates/spec/specs/Samples.antt', 'w', encoding='utf-8').write('\n'.join(out).rstrip() + '\n')
+def queries(path, heading, groups):
+    out = [heading, HEAD]
+    for t, qs in groups:
+        n = name(t.replace("E: document 01's example", 'image E'))
+        image = qs[0][0][:-8]
+        assert all(f[:-8] == image for f, a in qs), t
+        out += [f'-- {t}', f'abbrev {n}-image : String', f'{n}-image = "{bytes(image).hex()}"', '']
+        out += [f'unfoldable {n} : List Asked', f'unfolding hex', f'{n} =']
+        rows = [f'asked (frame {n}-image {num(f[-8:-6])} {num(f[-6:-4])} {num(f[-4:])}) "{a}"' for f, a in qs]
+        out += ['    ' + ('∷ ' if i else '') + r for i, r in enumerate(rows)] + ['    ∷ []', '']
+        out += [f'{n}-holds : answers {n} ≡ expected {n}', f'unfolding programOf text answers expected {n}', f'{n}-holds = refl', '']
+    open(path, 'w', encoding='utf-8').write('\n'.join(out).rstrip() + '\n')
+
+queries('crates/spec/specs/Samples.antt', '-- Small queries for each feature, and budgets that cut in each phase: answers of the listed Rust (oracle/sample/small.txt).', samples)
+queries('crates/spec/specs/Slips.antt', "-- Queries whose answer tells the rules from a porter's slip: answers of the listed Rust (oracle/sample/slips.txt).", grouped('oracle/sample/slips.txt').items())
 
 out = ['-- A sound image, and a damaged one for each way to break a rule, refusals 2 to 11; images that break two rules show the order (oracle/sample/small.txt).', HEAD]
 out += ['-- five classes over Lit, Plain2, SPair and MSet, and a query', 'unfoldable sound : List ℕ', 'unfolding hex', f'sound = hex "{bytes(sound).hex()}"', '']

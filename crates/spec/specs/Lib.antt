@@ -15,3 +15,4 @@ pub mod Asked
 pub mod Samples
 pub mod Refusals
 pub mod Limits
+pub mod Slips
