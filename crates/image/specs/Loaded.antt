@@ -1,0 +1,30 @@
+-- What the readers ask: the bytes are long enough for the tables that the header counts, and the struct holds the header's counts and the tables' offsets.
+use mathlib.Core.Path.{_≡_}
+use mathlib.Core.List.{List}
+use Prim.Native.Nat.{ℕ, _+_, _≤_}
+use lib.ListN.{length, getD}
+use Rattle.spec.specs.Bytes.{Two}
+use Rattle.spec.specs.Image.{Tables, Class, Member, operationCount, classCount, memberCount, childCount, classesFrom, membersFrom, childrenFrom, imageEnd}
+use Rattle.image.specs.declared.Image.{Image}
+use Rattle.image.specs.declared.Span.{Span}
+
+pub record Loaded (s : List ℕ) (im : Image) : Type 0 where
+  pub operations : im .operations ≡ operationCount s
+  pub classes : im .classes ≡ classCount s
+  pub members : im .members ≡ memberCount s
+  pub children : im .children ≡ childCount s
+  pub classes-at : im .«classes_at» ≡ classesFrom s
+  pub members-at : im .«members_at» ≡ membersFrom s
+  pub children-at : im .«children_at» ≡ childrenFrom s
+  pub whole : imageEnd s ≤ length s
+
+-- entry k of the table of children: a class and its count
+abbrev pub theChild : Tables → ℕ → Two
+theChild t k = getD (t .children) k (0, 0)
+
+-- the members of a class and the children of a member, by their numbers in the tables
+abbrev pub memberSpan : Class → Span
+memberSpan c = record { from = c .first; to = c .first + c .count }
+
+abbrev pub childSpan : Member → Span
+childSpan m = record { from = m .first; to = m .first + m .count }
