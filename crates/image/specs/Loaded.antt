@@ -1,10 +1,11 @@
 -- What the readers ask: the bytes are long enough for the tables that the header counts, and the struct holds the header's counts and the tables' offsets.
-use mathlib.Core.Path.{_≡_}
+use mathlib.Core.Path.{_≡_, sym, _∙_}
 use mathlib.Core.List.{List}
 use Prim.Native.Nat.{ℕ, _+_, _≤_}
 use lib.ListN.{length, getD}
 use Rattle.spec.specs.Bytes.{Two}
-use Rattle.spec.specs.Image.{Tables, Class, Member, operationCount, classCount, memberCount, childCount, classesFrom, membersFrom, childrenFrom, imageEnd}
+use Rattle.spec.specs.Image.{Tables, Class, Member, tablesOf, operationCount, classCount, memberCount, childCount, classesFrom, membersFrom, childrenFrom, imageEnd}
+use Rattle.laws.specs.Entries.{operations-length, classes-length, members-length, children-length}
 use Rattle.image.specs.declared.Image.{Image}
 use Rattle.image.specs.declared.Span.{Span}
 
@@ -28,3 +29,17 @@ memberSpan c = record { from = c .first; to = c .first + c .count }
 
 abbrev pub childSpan : Member → Span
 childSpan m = record { from = m .first; to = m .first + m .count }
+
+-- the struct's counts are the tables' lengths
+module _ (s : List ℕ) (im : Image) (l : Loaded s im) where
+  pub operations-many : length (tablesOf s .operations) ≡ im .operations
+  operations-many = operations-length s ∙ sym (l .operations)
+
+  pub classes-many : length (tablesOf s .classes) ≡ im .classes
+  classes-many = classes-length s ∙ sym (l .classes)
+
+  pub members-many : length (tablesOf s .members) ≡ im .members
+  members-many = members-length s ∙ sym (l .members)
+
+  pub children-many : length (tablesOf s .children) ≡ im .children
+  children-many = children-length s ∙ sym (l .children)

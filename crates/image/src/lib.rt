@@ -52,15 +52,6 @@ impl Image {
 
     // "best size (4 bytes, 1 to 2,147,483,646)"
     pub const BEST_SIZE: u64 = 2147483646;
-
-    // kinds, "0 to 9 as `ENodeKind`"
-    pub const SPAIR: usize = 5;
-
-    pub const MSET: usize = 7;
-
-    pub const SET: usize = 8;
-
-    pub const LIT: usize = 9;
 }
 
 fn byte(x: u8) -> usize

@@ -6,3 +6,4 @@ pub mod AcceptedRules
 pub mod AcceptedLiterals
 pub mod Accepted
 pub mod AcceptedUses
+pub mod AcceptedTurns
