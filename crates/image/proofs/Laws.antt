@@ -12,14 +12,14 @@ module _ (s : List ℕ) (im : Image) (l : Loaded s im) (k : ℕ) where
   pub operation-is : k < im .operations → theOperation (tablesOf s) k ≡ operationAt s (HEADER + k * OPERATION-BYTES)
   operation-is h = operation-at s k (rw (l .operations) at h)
 
-  pub class-is : k < im .classes → theClass (tablesOf s) k ≡ classAt s (im .«classes_at» + k * CLASS-BYTES)
-  class-is h = rw (l .classes-at) (class-at s k (rw (l .classes) at h))
+  pub class-is : k < im .classes → theClass (tablesOf s) k ≡ classAt s (im .class0 + k * CLASS-BYTES)
+  class-is h = rw (l .class0) (class-at s k (rw (l .classes) at h))
 
-  pub member-is : k < im .members → theMember (tablesOf s) k ≡ memberAt s (im .«members_at» + k * MEMBER-BYTES)
-  member-is h = rw (l .members-at) (member-at s k (rw (l .members) at h))
+  pub member-is : k < im .members → theMember (tablesOf s) k ≡ memberAt s (im .member0 + k * MEMBER-BYTES)
+  member-is h = rw (l .member0) (member-at s k (rw (l .members) at h))
 
-  pub child-is : k < im .children → theChild (tablesOf s) k ≡ childAt s (im .«children_at» + k * CHILD-BYTES)
-  child-is h = rw (l .children-at) (child-at s k (rw (l .children) at h))
+  pub child-is : k < im .children → theChild (tablesOf s) k ≡ childAt s (im .child0 + k * CHILD-BYTES)
+  child-is h = rw (l .child0) (child-at s k (rw (l .children) at h))
 
 -- a span from its two fields
 pub span-is : {a n first count : ℕ} → a ≡ first → n ≡ count → _≡_ {A = Span} (record { from = a; to = a + n }) (record { from = first; to = first + count })

@@ -1,20 +1,21 @@
-// The image: its counts and limits, and the readers of its four tables.
+// The image: its type with limits and entry widths as constants, and the readers of its four tables.
 ghost use mathlib.Core.Path.{_≡_};
 ghost use Prim.Native.Nat.{ℕ, _+_, _*_, _≤_, _<_};
 ghost use lib.ListN.{length, getD};
 ghost use Rattle.spec.specs.Bytes as b;
 ghost use Rattle.spec.specs.Image.{tablesOf, theOperation, theClass, theMember};
+ghost use Rattle.image.specs.Layout.{layoutOf};
 ghost use Rattle.image.specs.Loaded.{Loaded, theChild, memberSpan, childSpan};
 
-// The counts of the header and the offsets of the tables.
+// How many entries each table has, and the bytes at which class 0, member 0 and child 0 stand.
 pub struct Image {
     pub operations: usize,
     pub classes: usize,
     pub members: usize,
     pub children: usize,
-    pub classes_at: usize,
-    pub members_at: usize,
-    pub children_at: usize,
+    pub class0: usize,
+    pub member0: usize,
+    pub child0: usize,
 }
 
 // Entries of a table, from the first to before the last.
@@ -24,7 +25,6 @@ pub struct Span {
 }
 
 impl Image {
-    // "operations (1 to 64), classes (1 to 256), members (1 to 1,024), children (0 to 4,096)"
     pub const OPERATIONS: usize = 64;
 
     pub const CLASSES: usize = 256;
@@ -33,10 +33,7 @@ impl Image {
 
     pub const CHILDREN: usize = 4096;
 
-    // "child count (2, at most 64)"
-    pub const OWN_CHILDREN: usize = 64;
-
-    // entry widths
+    // bytes of the header and of an entry
     pub const HEADER: usize = 13;
 
     pub const OPERATION_BYTES: usize = 4;
@@ -47,11 +44,34 @@ impl Image {
 
     pub const CHILD_BYTES: usize = 6;
 
-    // "65,535 for none"
+    pub const VERSION: u8 = 1;
+
+    // the children of a member
+    pub const ARITY: usize = 64;
+
+    // marks an operation without an identity class
     pub const NO_IDENTITY: usize = 65535;
 
-    // "best size (4 bytes, 1 to 2,147,483,646)"
     pub const BEST_SIZE: u64 = 2147483646;
+
+    // The layout of an image with these counts, which are 2-byte numbers.
+    pub fn of(operations: usize, classes: usize, members: usize, children: usize) -> Image
+        requires { ⌜ (operations ≤ 65535) × (classes ≤ 65535) × (members ≤ 65535) ⌝ }
+        ensures { λ r. ⌜ r ≡ layoutOf operations classes members children ⌝ }
+    {
+        let class0 = Image::HEADER + operations * Image::OPERATION_BYTES;
+        let member0 = class0 + classes * Image::CLASS_BYTES;
+        let child0 = member0 + members * Image::MEMBER_BYTES;
+        Image {
+            operations: operations,
+            classes: classes,
+            members: members,
+            children: children,
+            class0: class0,
+            member0: member0,
+            child0: child0,
+        }
+    }
 }
 
 fn byte(x: u8) -> usize
@@ -109,28 +129,28 @@ pub fn first_member(s: &[u8], im: Image, c: usize) -> usize
     requires { ⌜ Loaded (now s) im × (c < im .classes) ⌝ }
     ensures { λ r. ⌜ (r ≡ theClass (tablesOf (now (s .entry))) c .first) × (r < 65536) ⌝ }
 {
-    be2(s, im.classes_at + c * Image::CLASS_BYTES)
+    be2(s, im.class0 + c * Image::CLASS_BYTES)
 }
 
 pub fn member_count(s: &[u8], im: Image, c: usize) -> usize
     requires { ⌜ Loaded (now s) im × (c < im .classes) ⌝ }
     ensures { λ r. ⌜ (r ≡ theClass (tablesOf (now (s .entry))) c .count) × (r < 65536) ⌝ }
 {
-    be2(s, im.classes_at + c * Image::CLASS_BYTES + 2)
+    be2(s, im.class0 + c * Image::CLASS_BYTES + 2)
 }
 
 pub fn best_member(s: &[u8], im: Image, c: usize) -> usize
     requires { ⌜ Loaded (now s) im × (c < im .classes) ⌝ }
     ensures { λ r. ⌜ (r ≡ theClass (tablesOf (now (s .entry))) c .best) × (r < 65536) ⌝ }
 {
-    be2(s, im.classes_at + c * Image::CLASS_BYTES + 4)
+    be2(s, im.class0 + c * Image::CLASS_BYTES + 4)
 }
 
 pub fn best_size(s: &[u8], im: Image, c: usize) -> u64
     requires { ⌜ Loaded (now s) im × (c < im .classes) ⌝ }
     ensures { λ r. ⌜ (r ≡ theClass (tablesOf (now (s .entry))) c .size) × (r < 4294967296) ⌝ }
 {
-    be4(s, im.classes_at + c * Image::CLASS_BYTES + 6)
+    be4(s, im.class0 + c * Image::CLASS_BYTES + 6)
 }
 
 // ---- a member
@@ -138,28 +158,28 @@ pub fn member_op(s: &[u8], im: Image, m: usize) -> usize
     requires { ⌜ Loaded (now s) im × (m < im .members) ⌝ }
     ensures { λ r. ⌜ (r ≡ theMember (tablesOf (now (s .entry))) m .op) × (r < 65536) ⌝ }
 {
-    be2(s, im.members_at + m * Image::MEMBER_BYTES)
+    be2(s, im.member0 + m * Image::MEMBER_BYTES)
 }
 
 pub fn member_value(s: &[u8], im: Image, m: usize) -> u64
     requires { ⌜ Loaded (now s) im × (m < im .members) ⌝ }
     ensures { λ r. ⌜ (r ≡ theMember (tablesOf (now (s .entry))) m .value) × (r < 4294967296) ⌝ }
 {
-    be4(s, im.members_at + m * Image::MEMBER_BYTES + 2)
+    be4(s, im.member0 + m * Image::MEMBER_BYTES + 2)
 }
 
 pub fn first_child(s: &[u8], im: Image, m: usize) -> usize
     requires { ⌜ Loaded (now s) im × (m < im .members) ⌝ }
     ensures { λ r. ⌜ (r ≡ theMember (tablesOf (now (s .entry))) m .first) × (r < 65536) ⌝ }
 {
-    be2(s, im.members_at + m * Image::MEMBER_BYTES + 6)
+    be2(s, im.member0 + m * Image::MEMBER_BYTES + 6)
 }
 
 pub fn child_count(s: &[u8], im: Image, m: usize) -> usize
     requires { ⌜ Loaded (now s) im × (m < im .members) ⌝ }
     ensures { λ r. ⌜ (r ≡ theMember (tablesOf (now (s .entry))) m .count) × (r < 65536) ⌝ }
 {
-    be2(s, im.members_at + m * Image::MEMBER_BYTES + 8)
+    be2(s, im.member0 + m * Image::MEMBER_BYTES + 8)
 }
 
 // ---- a child
@@ -167,14 +187,14 @@ pub fn child_class(s: &[u8], im: Image, k: usize) -> usize
     requires { ⌜ Loaded (now s) im × (k < im .children) ⌝ }
     ensures { λ r. ⌜ (r ≡ theChild (tablesOf (now (s .entry))) k .0) × (r < 65536) ⌝ }
 {
-    be2(s, im.children_at + k * Image::CHILD_BYTES)
+    be2(s, im.child0 + k * Image::CHILD_BYTES)
 }
 
 pub fn child_times(s: &[u8], im: Image, k: usize) -> u64
     requires { ⌜ Loaded (now s) im × (k < im .children) ⌝ }
     ensures { λ r. ⌜ (r ≡ theChild (tablesOf (now (s .entry))) k .1) × (r < 4294967296) ⌝ }
 {
-    be4(s, im.children_at + k * Image::CHILD_BYTES + 2)
+    be4(s, im.child0 + k * Image::CHILD_BYTES + 2)
 }
 
 // ---- the members of a class, the children of a member

@@ -1,4 +1,5 @@
 pub mod Valid
+pub mod Monomials
 pub mod Entries
 pub mod AcceptedLists
 pub mod AcceptedSpans
