@@ -1,22 +1,21 @@
 -- One law for each rule of the table of refusals: its test passes exactly where its record of Valid holds.
-use mathlib.Core.Path.{_≡_, refl, sym, ap, _∙_}
-use mathlib.Core.Logic.{_↔_, _≢_, _⊎_, inl, inr}
-use mathlib.Core.Bool.{Bool, true, false}
-use mathlib.Core.List.{List, [], _∷_, map}
-use Prim.Native.Nat.{ℕ, zero, suc, _+_, _*_, _≤_, _<_, suc-le-suc, zero-le}
-use native.Mathlib.Nat.{not-suc-le-zero, le-of-suc-le-suc}
+use mathlib.Core.Path.{_≡_, ap, _∙_}
+use mathlib.Core.Logic.{_↔_, _≢_, inl, inr}
+use mathlib.Core.Bool.{true}
+use mathlib.Core.List.{List, map}
+use Prim.Native.Nat.{ℕ, suc, _+_, _≤_, _<_, zero-le}
 use native.Mathlib.Decide.{ℕ-discrete}
 use native.Mathlib.Omega.{arith}
 use borrow.Author.Tests.{ltb-true, leb-true, eqb-true, eqb-false, lt-ltb, le-leb, eq-eqb, ne-eqb}
 use lib.Dec.{ltb, leb, eqb}
-use lib.ListN.{length, getD, take, drop, length-map, List·getD-map}
-use Rattle.spec.specs.Bytes.{both, either, all, any, sum, be4, pick, Two, sameTwo, within}
-use Rattle.spec.specs.Image.{Tables, Operation, Class, Member, HEADER, BEST-SIZE, NO-IDENTITY, Lit, MSet, FREE, OPERATIONS, CLASSES, MEMBERS, CHILDREN, arities, isAC, isCommutative, tablesOf, countsRight, operationRight, memberRight, childRight, arityRight, spansRight, childrenRight, bestRight, literalsApart, doubledIn, hasLiteral, spansFollow, rises, sizeOver, theOperation, theClass, theMember, kindOf, identityOf, bestSize, bestMember, membersIn, membersOf, childrenOf, imageEnd, operationCount, classCount, memberCount, childCount}
-use Rattle.spec.specs.Meaning.{In, here, there}
+use lib.ListN.{length, getD, length-map, List·getD-map}
+use Rattle.spec.specs.Bytes.{both, all, be4, pick, Two, within}
+use Rattle.spec.specs.Image.{Tables, Operation, Class, Member, HEADER, BEST-SIZE, NO-IDENTITY, Lit, MSet, FREE, OPERATIONS, CLASSES, MEMBERS, CHILDREN, arities, isAC, isCommutative, tablesOf, countsRight, operationRight, memberRight, childRight, arityRight, spansRight, childrenRight, bestRight, spansFollow, rises, sizeOver, theOperation, theClass, theMember, kindOf, membersIn, childrenOf, operationCount, classCount, memberCount, childCount}
+use Rattle.spec.specs.Meaning.{In}
 use Rattle.laws.specs.Entries.{operations-length, classes-length, members-length, children-length}
-use Rattle.laws.specs.AcceptedLists.{true-not-false, both-true, either-true, either-else, all-in, all-of, all-at, all-from, any-in, any-of, at-in, in-at, follow-said, follow-test, rises-said, rises-test}
+use Rattle.laws.specs.AcceptedLists.{both-true, either-true, either-else, all-in, all-of, all-at, all-from, rises-said, rises-test}
 use Rattle.laws.specs.AcceptedSpans.{follow-rule, classes-within, part-length, part-at}
-use Rattle.laws.specs.Valid.{Counts, Operations, Spans, Children, Best, Apart, Follow, classSpans, memberSpans}
+use Rattle.laws.specs.Valid.{Counts, Operations, Spans, Children, Best, classSpans, memberSpans}
 
 -- ---- 2
 pub length-rule : (s : List ℕ) → both (leb HEADER (length s)) (eqb (be4 s 0 + 4) (length s)) ≡ true ↔ (HEADER ≤ length s) × (be4 s 0 + 4 ≡ length s)
@@ -150,10 +149,10 @@ module _ (t : Tables) (m : Member) where
       )
 
 module _ (t : Tables) (c : Class) (w : c .first + c .count ≤ length (t .members)) where
-  ops-length : length (map (λ m. m .op) (membersIn t c)) ≡ c .count
+  pub ops-length : length (map (λ m. m .op) (membersIn t c)) ≡ c .count
   ops-length = length-map {B = ℕ} (membersIn t c) (λ (m : Member). m .op) ∙ part-length (t .members) (c .first) (c .count) w
 
-  ops-at : (i : ℕ) → i < c .count → getD (map (λ m. m .op) (membersIn t c)) i 0 ≡ theMember t (c .first + i) .op
+  pub ops-at : (i : ℕ) → i < c .count → getD (map (λ m. m .op) (membersIn t c)) i 0 ≡ theMember t (c .first + i) .op
   ops-at i h =
       List·getD-map (λ (m : Member). m .op) (membersIn t c) i _ ∙ ap (λ (m : Member). m .op) (part-at (t .members) (c .first) (c .count) i _ h)
 

@@ -1,17 +1,16 @@
 -- "Spans follow one another without gaps and use up the tables": what that says of the members of a class and of the children of a member.
-use mathlib.Core.Path.{_≡_, refl, sym, ap, _∙_}
-use mathlib.Core.Logic.{_↔_, _≢_, _⊎_, inl, inr}
-use mathlib.Core.Bool.{Bool, true, false}
-use mathlib.Core.List.{List, [], _∷_, _++_, map}
-use Prim.Native.Nat.{ℕ, zero, suc, _+_, _-_, _≤_, _<_, suc-le-suc, zero-le}
+use mathlib.Core.Path.{_≡_, sym, ap, _∙_}
+use mathlib.Core.Logic.{_↔_}
+use mathlib.Core.Bool.{true}
+use mathlib.Core.List.{List, [], _∷_, map}
+use Prim.Native.Nat.{ℕ, zero, suc, _+_, _-_, _≤_, _<_}
 use native.Mathlib.Nat.{not-suc-le-zero, le-of-suc-le-suc}
 use native.Mathlib.Omega.{arith}
-use native.Mathlib.Decide.{decLt}
-use lib.ListN.{length, getD, take, drop, length-map, length-take, length-drop, List·getD-map, drop-of-length-le}
-use lib.Seq.{getD-take, getD-drop, length-take-le, take-suc}
+use lib.ListN.{length, getD, take, drop, length-map, length-drop, List·getD-map}
+use lib.Seq.{getD-take, getD-drop, length-take-le}
 use Rattle.spec.specs.Bytes.{sum, Two}
-use Rattle.spec.specs.Image.{Tables, Class, Member, spansFollow, theClass, theMember, membersIn, membersOf, childrenOf}
-use Rattle.spec.specs.Meaning.{In, here, there}
+use Rattle.spec.specs.Image.{Tables, Class, Member, spansFollow, theClass, theMember}
+use Rattle.spec.specs.Meaning.{In}
 use Rattle.laws.specs.AcceptedLists.{at-in, in-at, follow-said, follow-test}
 use Rattle.laws.specs.Valid.{Follow, classSpans, memberSpans}
 
@@ -37,21 +36,27 @@ span-within end l f i h =
     omega (arith, f .begins i h, f .ends, k, sum-take (map (λ s. s .1) l) i b)
 
 module _ (t : Tables) where
-  class-span : (c : ℕ) → getD (classSpans t) c (0, 0) ≡ (theClass t c .first, theClass t c .count)
+  pub class-spans-length : length (classSpans t) ≡ length (t .classes)
+  class-spans-length = length-map {B = Two} (t .classes) (λ (c : Class). (c .first, c .count))
+
+  pub member-spans-length : length (memberSpans t) ≡ length (t .members)
+  member-spans-length = length-map {B = Two} (t .members) (λ (m : Member). (m .first, m .count))
+
+  pub class-span : (c : ℕ) → getD (classSpans t) c (0, 0) ≡ (theClass t c .first, theClass t c .count)
   class-span c = List·getD-map (λ c. (c .first, c .count)) (t .classes) c _
 
-  member-span : (m : ℕ) → getD (memberSpans t) m (0, 0) ≡ (theMember t m .first, theMember t m .count)
+  pub member-span : (m : ℕ) → getD (memberSpans t) m (0, 0) ≡ (theMember t m .first, theMember t m .count)
   member-span m = List·getD-map (λ m. (m .first, m .count)) (t .members) m _
 
   pub classes-within : Follow (length (t .members)) (classSpans t) → (c : ℕ) → c < length (t .classes)
       → theClass t c .first + theClass t c .count ≤ length (t .members)
   classes-within f c h =
-      rw (class-span c) at (span-within (length (t .members)) (classSpans t) f c (rw (length-map {B = Two} (t .classes) (λ (c : Class). (c .first, c .count))) h))
+      rw (class-span c) at (span-within (length (t .members)) (classSpans t) f c (rw class-spans-length h))
 
   pub members-within : Follow (length (t .children)) (memberSpans t) → (m : ℕ) → m < length (t .members)
       → theMember t m .first + theMember t m .count ≤ length (t .children)
   members-within f m h =
-      rw (member-span m) at (span-within (length (t .children)) (memberSpans t) f m (rw (length-map {B = Two} (t .members) (λ (m : Member). (m .first, m .count))) h))
+      rw (member-span m) at (span-within (length (t .children)) (memberSpans t) f m (rw member-spans-length h))
 
 -- ---- a part of a table, by the table's numbers
 pub part-length : {A : Type 0} (l : List A) (first count : ℕ) → first + count ≤ length l → length (take count (drop first l)) ≡ count

@@ -1,18 +1,25 @@
 -- The tests of the rules, one entry at a time: what is left of a table from entry i on, for each way out of a turn.
 use mathlib.Core.Path.{_≡_, refl, sym, ap, _∙_}
-use mathlib.Core.Bool.{Bool, true, false}
+use mathlib.Core.Bool.{Bool, true, false, not}
 use mathlib.Core.List.{List, [], _∷_, _++_, map}
-use Prim.Native.Nat.{ℕ, zero, suc, _+_, _-_, _*_, _≤_, _<_, zero-le}
+use Prim.Native.Nat.{ℕ, suc, _+_, _≤_, _<_, zero-le}
 use native.Mathlib.Numerals.{add-one}
 use native.Mathlib.Omega.{arith}
-use borrow.Author.Tests.{le-leb, lt-leb, eq-eqb, ne-eqb, eqb-true}
-use lib.Dec.{ltb, leb, eqb}
+use borrow.Author.Tests.{le-leb, lt-leb, eq-eqb, ne-eqb, eqb-true, not-true, not-false}
+use lib.Dec.{eqb}
 use lib.ListN.{length, getD, take, drop, drop-of-length-le, take-append-drop}
 use lib.Seq.{drop-cons, drop-drop}
 use Rattle.spec.specs.Bytes.{both, either, all, any, sum, Two}
-use Rattle.spec.specs.Image.{Tables, Class, Member, spansFollow, rises, doubledIn, hasLiteral, membersIn}
-use Rattle.laws.specs.AcceptedLists.{all-cons, any-cons, follow-cons, rises-cons, both-true, true-not-false}
+use Rattle.spec.specs.Image.{Tables, Class, spansFollow, rises, hasLiteral}
+use Rattle.laws.specs.AcceptedLists.{all-cons, any-cons, follow-cons, rises-cons, both-true}
 use Rattle.laws.specs.AcceptedLiterals.{isLiteral}
+
+-- what `if !r` says of the test that r answers
+pub failed : {r a : Bool} → r ≡ a → not r ≡ true → a ≡ false
+failed {r} e n = sym e ∙ not-true r n
+
+pub passed : {r a : Bool} → r ≡ a → not r ≡ false → a ≡ true
+passed {r} e n = sym e ∙ not-false r n
 
 module _ {A : Type 0} (p : A → Bool) (l : List A) (i : ℕ) (d : A) (h : i < length l) where
   all-next : all p (drop i l) ≡ both (p (getD l i d)) (all p (drop (i + 1) l))

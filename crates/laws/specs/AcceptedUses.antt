@@ -1,16 +1,15 @@
 -- What an accepted image guarantees, in the forms that the other laws use.
 use mathlib.Core.Path.{_≡_, refl, sym, ap, _∙_}
 use mathlib.Core.Logic.{_↔_, _≢_}
-use mathlib.Core.Bool.{true}
 use mathlib.Core.List.{List, [], _∷_, map}
-use Prim.Native.Nat.{ℕ, zero, suc, _+_, _*_, _≤_, _<_}
+use Prim.Native.Nat.{ℕ, _+_, _*_, _≤_, _<_}
 use native.Mathlib.Nat.{mul-le-mul-right}
 use native.Mathlib.Omega.{arith}
 use lib.ListN.{length, getD}
 use Rattle.spec.specs.Bytes.{Two, sum}
-use Rattle.spec.specs.Image.{Tables, Member, arities, FREE, MSet, Lit, BEST-SIZE, theClass, theMember, kindOf, bestSize, bestMember, membersOf, childrenOf, sizeOver}
+use Rattle.spec.specs.Image.{Tables, Member, arities, FREE, MSet, Lit, theClass, theMember, kindOf, bestSize, bestMember, membersOf, childrenOf, sizeOver}
 use Rattle.spec.specs.Meaning.{In, here, there}
-use Rattle.laws.specs.AcceptedLists.{no-entry, in-at}
+use Rattle.laws.specs.AcceptedLists.{no-entry}
 use Rattle.laws.specs.AcceptedSpans.{classes-within, members-within, part-in, part-length, part-at}
 use Rattle.laws.specs.Valid.{Valid}
 

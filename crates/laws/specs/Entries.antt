@@ -1,12 +1,11 @@
 -- An entry of a table is the record at its offset: links the tables of the definitions with the bytes that the code reads.
-use mathlib.Core.Path.{_≡_, refl, sym, ap, _∙_}
-use mathlib.Core.List.{List, [], _∷_}
-use Prim.Native.Nat.{ℕ, zero, suc, _+_, _*_, _≤_, _<_}
+use mathlib.Core.Path.{_≡_, refl, ap, _∙_}
+use mathlib.Core.List.{List}
+use Prim.Native.Nat.{ℕ, zero, suc, _+_, _*_, _<_}
 use native.Mathlib.Nat.{not-suc-le-zero, le-of-suc-le-suc}
 use native.Mathlib.Omega.{arith}
 use lib.ListN.{length, getD}
-use Rattle.spec.specs.Bytes.{Two}
-use Rattle.spec.specs.Image.{Tables, entries, tablesOf, operationAt, classAt, memberAt, childAt, operationCount, classCount, memberCount, childCount, classesFrom, membersFrom, childrenFrom, theOperation, theClass, theMember, HEADER, OPERATION-BYTES, CLASS-BYTES, MEMBER-BYTES, CHILD-BYTES}
+use Rattle.spec.specs.Image.{entries, tablesOf, operationAt, classAt, memberAt, childAt, operationCount, classCount, memberCount, childCount, classesFrom, membersFrom, childrenFrom, theOperation, theClass, theMember, HEADER, OPERATION-BYTES, CLASS-BYTES, MEMBER-BYTES, CHILD-BYTES}
 
 pub entries-length : {A : Type 0} (at : ℕ → A) (w n i : ℕ) → length (entries at w n i) ≡ n
 unfolding entries

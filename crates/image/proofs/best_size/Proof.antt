@@ -4,9 +4,6 @@ use mathlib.Core.Path.{ap, sym, _∙_}
 use borrow.Author.Needs.{needs}
 use Rattle.image.proofs.best_size.Statement.{statement}
 use Rattle.image.proofs.best_size.Tie as tie
-use Rattle.image.proofs.best_size.Reads as reads
-use Rattle.image.proofs.best_size.Lts as lts
-use Rattle.image.proofs.be4.Reads as be4-reads
 
 -- src/lib.rt:136:28
 mul-be4 : tie.Need-mul-be4

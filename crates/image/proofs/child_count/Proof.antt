@@ -4,9 +4,6 @@ use mathlib.Core.Path.{ap, sym, _∙_}
 use borrow.Author.Needs.{needs}
 use Rattle.image.proofs.child_count.Statement.{statement}
 use Rattle.image.proofs.child_count.Tie as tie
-use Rattle.image.proofs.child_count.Reads as reads
-use Rattle.image.proofs.child_count.Lts as lts
-use Rattle.image.proofs.be2.Reads as be2-reads
 
 -- src/lib.rt:165:28
 mul-be2 : tie.Need-mul-be2

@@ -4,9 +4,6 @@ use mathlib.Core.Path.{ap, sym, _∙_}
 use borrow.Author.Needs.{needs}
 use Rattle.image.proofs.child_times.Statement.{statement}
 use Rattle.image.proofs.child_times.Tie as tie
-use Rattle.image.proofs.child_times.Reads as reads
-use Rattle.image.proofs.child_times.Lts as lts
-use Rattle.image.proofs.be4.Reads as be4-reads
 
 -- src/lib.rt:180:29
 mul-be4 : tie.Need-mul-be4

@@ -3,10 +3,6 @@ use native.Mathlib.Omega.{arith}
 use borrow.Author.Needs.{needs}
 use Rattle.image.proofs.children_of.Statement.{statement}
 use Rattle.image.proofs.children_of.Tie as tie
-use Rattle.image.proofs.children_of.Reads as reads
-use Rattle.image.proofs.children_of.Lts as lts
-use Rattle.image.proofs.child_count.Reads as child-count-reads
-use Rattle.image.proofs.first_child.Reads as first-child-reads
 
 -- src/lib.rt:205:9
 first-child-requires : tie.Need-first-child-requires

@@ -4,9 +4,6 @@ use mathlib.Core.Path.{ap, sym, _∙_}
 use borrow.Author.Needs.{needs}
 use Rattle.image.proofs.first_child.Statement.{statement}
 use Rattle.image.proofs.first_child.Tie as tie
-use Rattle.image.proofs.first_child.Reads as reads
-use Rattle.image.proofs.first_child.Lts as lts
-use Rattle.image.proofs.be2.Reads as be2-reads
 
 -- src/lib.rt:158:28
 mul-be2 : tie.Need-mul-be2

@@ -4,9 +4,6 @@ use mathlib.Core.Path.{ap, sym, _∙_}
 use borrow.Author.Needs.{needs}
 use Rattle.image.proofs.flag.Statement.{statement}
 use Rattle.image.proofs.flag.Tie as tie
-use Rattle.image.proofs.flag.Reads as reads
-use Rattle.image.proofs.flag.Lts as lts
-use Rattle.image.proofs.byte.Reads as byte-reads
 
 -- src/lib.rt:99:28
 mul-byte : tie.Need-mul-byte

@@ -4,9 +4,6 @@ use mathlib.Core.Path.{ap, sym, _∙_}
 use borrow.Author.Needs.{needs}
 use Rattle.image.proofs.kind.Statement.{statement}
 use Rattle.image.proofs.kind.Tie as tie
-use Rattle.image.proofs.kind.Reads as reads
-use Rattle.image.proofs.kind.Lts as lts
-use Rattle.image.proofs.byte.Reads as byte-reads
 
 -- src/lib.rt:92:28
 mul-byte : tie.Need-mul-byte

@@ -4,9 +4,6 @@ use mathlib.Core.Path.{ap, sym, _∙_}
 use borrow.Author.Needs.{needs}
 use Rattle.image.proofs.member_op.Statement.{statement}
 use Rattle.image.proofs.member_op.Tie as tie
-use Rattle.image.proofs.member_op.Reads as reads
-use Rattle.image.proofs.member_op.Lts as lts
-use Rattle.image.proofs.be2.Reads as be2-reads
 
 -- src/lib.rt:144:28
 mul-be2 : tie.Need-mul-be2

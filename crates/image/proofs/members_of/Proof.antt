@@ -3,10 +3,6 @@ use native.Mathlib.Omega.{arith}
 use borrow.Author.Needs.{needs}
 use Rattle.image.proofs.members_of.Statement.{statement}
 use Rattle.image.proofs.members_of.Tie as tie
-use Rattle.image.proofs.members_of.Reads as reads
-use Rattle.image.proofs.members_of.Lts as lts
-use Rattle.image.proofs.first_member.Reads as first-member-reads
-use Rattle.image.proofs.member_count.Reads as member-count-reads
 
 -- src/lib.rt:194:9
 first-member-requires : tie.Need-first-member-requires
