@@ -9,7 +9,7 @@ use lib.Dec.{ltb, eqb}
 use borrow.Author.Tests.{eqb-true, eqb-false, eq-eqb}
 use lib.ListN.{length, getD, replicate, length-append, length-replicate, replicate-append-replicate}
 use Rattle.spec.specs.Bytes.{pick, sum, sumTo, each, Two}
-use Rattle.spec.specs.Monomial.{insertAdd, addAll, monomial, classes}
+use Rattle.spec.specs.Monomial.{insertAdd, addAll, monomial, classes, counts}
 use Rattle.spec.specs.Pool.{joinTo, joinRuns, expandedLength}
 use Rattle.spec.specs.Meaning.{In, here, there, occurs, countIn}
 use Rattle.lgg.specs.Bag.{Perm, nil, skip, swap, both, perm-refl, perm-of-eq, perm-left, perm-past, in-nil, in-cons, in-append, in-left, in-right, map-append, map-replicate, replicate-in}
@@ -19,17 +19,29 @@ unfoldable pub written : List Two → List ℕ
 written [] = []
 written (r ∷ l) = replicate (r .1) (r .0) ++ written l
 
--- the numbers f p of the places p, each as often as the counts x say
-unfoldable pub spread : {A : Type 0} → (Two → A) → List Two → List ℕ → List A
-spread f [] x = []
-spread f (p ∷ ps) [] = []
-spread f (p ∷ ps) (n ∷ x) = replicate n (f p) ++ spread f ps x
+-- the entries of a list, each as often as the counts x say
+unfoldable pub spread : {A : Type 0} → List A → List ℕ → List A
+spread [] x = []
+spread (a ∷ l) [] = []
+spread (a ∷ l) (n ∷ x) = replicate n a ++ spread l x
 
-pub map-spread : {A B : Type 0} (h : A → B) (f : Two → A) (ps : List Two) (x : List ℕ) → map h (spread f ps x) ≡ spread (λ p. h (f p)) ps x
+pub map-spread : {A B : Type 0} (h : A → B) (l : List A) (x : List ℕ) → map h (spread l x) ≡ spread (map h l) x
 unfolding spread
-map-spread h f [] x = refl
-map-spread h f (p ∷ ps) [] = refl
-map-spread h f (p ∷ ps) (n ∷ x) = rw (map-append h (replicate n (f p)) (spread f ps x), map-replicate h n (f p), map-spread h f ps x)
+map-spread h [] x = refl
+map-spread h (a ∷ l) [] = refl
+map-spread h (a ∷ l) (n ∷ x) = rw (map-append h (replicate n a) (spread l x), map-replicate h n a, map-spread h l x)
+
+-- each once
+pub spread-ones : {A B : Type 0} (l : List A) (m : List B) → length l ≡ length m → spread l (map (λ b. 1) m) ≡ l
+unfolding spread
+spread-ones [] m e = refl
+spread-ones (a ∷ l) [] e = absurd (omega arith)
+spread-ones (a ∷ l) (b ∷ m) e = ap (λ z. a ∷ z) (spread-ones l m (omega arith))
+
+pub spread-written : (l : List Two) → spread (classes l) (counts l) ≡ written l
+unfolding spread written
+spread-written [] = refl
+spread-written (r ∷ l) = ap (λ (z : List ℕ). replicate (r .1) (r .0) ++ z) (spread-written l)
 
 pub in-written : (a : ℕ) (l : List Two) → In a (written l) → (r : Two) × In r l × (a ≡ r .0) × (1 ≤ r .1)
 unfolding written

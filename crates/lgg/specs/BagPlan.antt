@@ -95,16 +95,16 @@ grid-at (x ∷ xs) ys (suc i) j k h l e =
 abbrev is : ℕ → ℕ → ℕ
 is k c = pick (eqb c k) 1 0
 
-occurs-spread : (k : ℕ) (f : Two → ℕ) (ps : List Two) (x : List ℕ) → occurs k (spread f ps x) ≡ sumTo (length ps) (λ i. getD x i 0 * is k (f (getD ps i (0, 0))))
+occurs-spread : (k : ℕ) (f : Two → ℕ) (ps : List Two) (x : List ℕ) → occurs k (spread (map f ps) x) ≡ sumTo (length ps) (λ i. getD x i 0 * is k (f (getD ps i (0, 0))))
 unfolding occurs spread sumTo
 occurs-spread k f [] x = refl
 occurs-spread k f (p ∷ ps) [] = omega (arith, sumTo-first (length ps) (λ i. 0 * is k (f (getD (p ∷ ps) i (0, 0)))), occurs-spread k f ps [], none ps)
   where
-    none : (ps : List Two) → occurs k (spread f ps []) ≡ 0
+    none : (ps : List Two) → occurs k (spread (map f ps) []) ≡ 0
     none [] = refl
     none (p ∷ ps) = refl
 occurs-spread k f (p ∷ ps) (n ∷ x) =
-    omega (arith, occurs-append k (replicate n (f p)) (spread f ps x), occurs-replicate k n (f p), occurs-spread k f ps x, sumTo-first (length ps) (λ i. getD (n ∷ x) i 0 * is k (f (getD (p ∷ ps) i (0, 0)))))
+    omega (arith, occurs-append k (replicate n (f p)) (spread (map f ps) x), occurs-replicate k n (f p), occurs-spread k f ps x, sumTo-first (length ps) (λ i. getD (n ∷ x) i 0 * is k (f (getD (p ∷ ps) i (0, 0)))))
 
 countIn-sum : (k : ℕ) (l : List Two) → countIn k l ≡ sumTo (length l) (λ i. getD (counts l) i 0 * is k (getD (classes l) i 0))
 unfolding countIn sumTo
@@ -119,7 +119,7 @@ module _ (m : MonomialPair) (x : List ℕ) where
   abbrev cell : ℕ → ℕ → ℕ
   cell i j = getD x (i * wide + j) 0
 
-  cells : (k : ℕ) (f : Two → ℕ) → occurs k (spread f (cellPairs m) x) ≡ sumTo (length (m .rows)) (λ i. sumTo wide (λ j. cell i j * is k (f (getD (classes (m .rows)) i 0, getD (classes (m .cols)) j 0))))
+  cells : (k : ℕ) (f : Two → ℕ) → occurs k (spread (map f (cellPairs m)) x) ≡ sumTo (length (m .rows)) (λ i. sumTo wide (λ j. cell i j * is k (f (getD (classes (m .rows)) i 0, getD (classes (m .cols)) j 0))))
   unfolding cellPairs
   cells k f =
       let R = classes (m .rows) in let C = classes (m .cols) in
@@ -130,13 +130,13 @@ module _ (m : MonomialPair) (x : List ℕ) where
       ∙ sumTo-grid (length (m .rows)) wide (length (cellPairs m)) (λ i. getD x i 0 * is k (f (getD (cellPairs m) i (0, 0)))) long
       ∙ sumTo-cong (length (m .rows)) (λ i hi. sumTo-cong wide (λ j hj. ap (λ (z : Two). cell i j * is k (f z)) (grid-at R C i j (i * wide + j) (omega arith) (omega arith) (ap (λ (n : ℕ). i * n + j) (sym lc)))))
 
-  pub rows-count : ((i : ℕ) → i < length (m .rows) → sumTo wide (λ j. cell i j) ≡ getD (counts (m .rows)) i 0) → (k : ℕ) → occurs k (spread (λ p. p .0) (cellPairs m) x) ≡ countIn k (m .rows)
+  pub rows-count : ((i : ℕ) → i < length (m .rows) → sumTo wide (λ j. cell i j) ≡ getD (counts (m .rows)) i 0) → (k : ℕ) → occurs k (spread (map (λ p. p .0) (cellPairs m)) x) ≡ countIn k (m .rows)
   rows-count h k =
       cells k (λ p. p .0)
       ∙ sumTo-cong (length (m .rows)) (λ i hi. sumTo-scale wide (is k (getD (classes (m .rows)) i 0)) (λ j. cell i j) ∙ ap (λ (z : ℕ). z * is k (getD (classes (m .rows)) i 0)) (h i hi))
       ∙ sym (countIn-sum k (m .rows))
 
-  pub columns-count : ((j : ℕ) → j < wide → sumTo (length (m .rows)) (λ i. cell i j) ≡ getD (counts (m .cols)) j 0) → (k : ℕ) → occurs k (spread (λ p. p .1) (cellPairs m) x) ≡ countIn k (m .cols)
+  pub columns-count : ((j : ℕ) → j < wide → sumTo (length (m .rows)) (λ i. cell i j) ≡ getD (counts (m .cols)) j 0) → (k : ℕ) → occurs k (spread (map (λ p. p .1) (cellPairs m)) x) ≡ countIn k (m .cols)
   columns-count h k =
       cells k (λ p. p .1)
       ∙ sumTo-swap (length (m .rows)) wide (λ i j. cell i j * is k (getD (classes (m .cols)) j 0))
@@ -144,7 +144,7 @@ module _ (m : MonomialPair) (x : List ℕ) where
       ∙ sym (countIn-sum k (m .cols))
 
 -- "Row and column sums of the plan equal the margins": the left classes of its cells, written out, are the rows; the right ones the columns
-pub plan-rows : (a : TransportAction) (qs : List Two) (x : List ℕ) → Plan (problemOver a qs) x → (k : ℕ) → occurs k (spread (λ p. p .0) (cellPairs (a .sides)) x) ≡ countIn k (a .sides .rows)
+pub plan-rows : (a : TransportAction) (qs : List Two) (x : List ℕ) → Plan (problemOver a qs) x → (k : ℕ) → occurs k (spread (map (λ p. p .0) (cellPairs (a .sides))) x) ≡ countIn k (a .sides .rows)
 unfolding rowFlow
 plan-rows a qs x plan = rows-count (a .sides) x (λ i h. ap (λ (n : ℕ). sumTo n (λ j. getD x (i * n + j) 0)) (sym lc) ∙ plan .rows i (omega (arith, lr)))
   where
@@ -154,7 +154,7 @@ plan-rows a qs x plan = rows-count (a .sides) x (λ i h. ap (λ (n : ℕ). sumTo
     lc : colsOf (problemOver a qs) ≡ length (a .sides .cols)
     lc = length-map (a .sides .cols) (λ t. t .1)
 
-pub plan-columns : (a : TransportAction) (qs : List Two) (x : List ℕ) → Plan (problemOver a qs) x → (k : ℕ) → occurs k (spread (λ p. p .1) (cellPairs (a .sides)) x) ≡ countIn k (a .sides .cols)
+pub plan-columns : (a : TransportAction) (qs : List Two) (x : List ℕ) → Plan (problemOver a qs) x → (k : ℕ) → occurs k (spread (map (λ p. p .1) (cellPairs (a .sides))) x) ≡ countIn k (a .sides .cols)
 unfolding colFlow
 plan-columns a qs x plan = columns-count (a .sides) x (λ j h. ap₂ (λ (m n : ℕ). sumTo m (λ i. getD x (i * n + j) 0)) (sym lr) (sym lc) ∙ plan .columns j (omega (arith, lc)))
   where

@@ -4,3 +4,4 @@ pub mod BagPlan
 pub mod Pool
 pub mod PoolTrees
 pub mod PoolIntern
+pub mod ReadingsNode
