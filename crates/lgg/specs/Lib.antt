@@ -5,3 +5,5 @@ pub mod Pool
 pub mod PoolTrees
 pub mod PoolIntern
 pub mod ReadingsNode
+pub mod BestMembers
+pub mod Best
