@@ -7,3 +7,4 @@ pub mod PoolIntern
 pub mod ReadingsNode
 pub mod BestMembers
 pub mod Best
+pub mod ReadingsActions
