@@ -8,3 +8,4 @@ pub mod ReadingsNode
 pub mod BestMembers
 pub mod Best
 pub mod ReadingsActions
+pub mod ReadingsWithin

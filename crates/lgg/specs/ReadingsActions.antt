@@ -49,7 +49,7 @@ two-of (a ∷ []) e = absurd (omega arith)
 two-of (a ∷ b ∷ []) e = refl
 two-of (a ∷ b ∷ c ∷ l) e = absurd (omega arith)
 
-once : (ps : List Two) (f : Two → ℕ) → spread (map f ps) (ones ps) ≡ map f ps
+pub once : (ps : List Two) (f : Two → ℕ) → spread (map f ps) (ones ps) ≡ map f ps
 once ps f = spread-ones (map f ps) ps (length-map ps f)
 
 module _ (t : Tables) (v : Valid t) where
