@@ -21,7 +21,7 @@ use Rattle.lgg.specs.Bag.{bind-ok, ok-inj, false-true, in-nil, map-map, 
 use Rattle.lgg.specs.BagCount.{written, spread, map-spread, spread-written, occurs-written, written-ones, join-written}
 use Rattle.lgg.specs.Pool.{Below, below-nil, below-cons, below-more, PoolValid, op-valid, lit-valid, variants-valid, numbered, tree-operation, tree-literal, tree-marked}
 use Rattle.lgg.specs.PoolTrees.{expand-runs}
-use Rattle.lgg.specs.PoolIntern.{Grown, grown-refl, grown-trans, grown-length, grown-tree, Entered, intern-enters}
+use Rattle.lgg.specs.PoolIntern.{Grown, grown-refl, grown-trans, grown-within, grown-tree, Entered, intern-enters}
 use Rattle.lgg.specs.ReadingsNode.{Covers, inOrder, anyOrder, Good, AllGood, noPlace, place, good-node}
 use Rattle.lgg.specs.BestMembers.{best-in, best-falls, child-within, child-counted, child-single, member-arity}
 
@@ -60,7 +60,7 @@ module _ (t : Tables) where
       rw (← ok-inj e″) (record {
         valid = M .valid;
         grown = grown-trans (A .grown) (M .grown);
-        below = below-cons {r = (a .term, c .1)} (let z = grown-length (M .grown) in let y = A .within in omega arith) (n c here) (M .below);
+        below = below-cons {r = (a .term, c .1)} (grown-within (M .grown) (a .term) (A .within)) (n c here) (M .below);
         same = ap (λ (z : List ℕ). c .1 ∷ z) (M .same);
         good = place g (M .good);
       })
@@ -237,7 +237,7 @@ module _ (t : Tables) where
           let (y, ey, e″) = bind-ok (bestTerm t (x .pool) (c .1)) _ r e′ in
           let X = best-term v p (c .0) x h w ex in
           let Y = best-term v (x .pool) (c .1) y k (X .valid) ey in
-          let l : x .term < length (y .pool) = (let a = grown-length (Y .grown) in let b = X .within in omega arith) in
+          let l : x .term < length (y .pool) = grown-within (Y .grown) (x .term) (X .within) in
           let E = intern-enters (y .pool) (variantsNode (x .term) (y .term)) r (Y .valid) (variants-valid (length (y .pool)) (x .term) (y .term) l (Y .within)) e″ in record {
             valid = E .valid;
             grown = grown-trans (X .grown) (grown-trans (Y .grown) (E .grown));

@@ -9,3 +9,5 @@ pub mod BestMembers
 pub mod Best
 pub mod ReadingsActions
 pub mod ReadingsWithin
+pub mod PoolSort
+pub mod ReadingsRounds

@@ -89,6 +89,9 @@ grown-trans {p} g h = record { later = g .later ++ h .later; is = h .is ∙ ap (
 pub grown-length : {p q : Pool} → Grown p q → length p ≤ length q
 grown-length {p} g = rw (g .is) (omega (arith, length-append p (g .later)))
 
+pub grown-within : {p q : Pool} → Grown p q → (a : ℕ) → a < length p → a < length q
+grown-within g a h = let z = grown-length g in omega arith
+
 pub grown-tree : {p q : Pool} → Grown p q → (a : ℕ) → a < length p → treeAt q a ≡ treeAt p a
 grown-tree {p} g a h = rw (g .is) (tree-grows p (g .later) a h)
 
