@@ -11,3 +11,4 @@ pub mod ReadingsActions
 pub mod ReadingsWithin
 pub mod PoolSort
 pub mod ReadingsRounds
+pub mod Readings

@@ -50,6 +50,29 @@ holds-look {t} {pool} (pair {p = p} {q = q} {a = a} {ps = ps} {qs = qs} {l = l} 
     go false e (inl z) ih = absurd (false-true (sym e ∙ rw z (two-same p)))
     go false e (inr j) ih = rw (e, place) (ih j)
 
+-- what a list of pairs leaves when its checks have passed
+pub record Done (t : Tables) (pool : Pool) (ps qs : List Two) (r : Terms) : Type 0 where
+  pub valid : PoolValid (r .pool)
+  pub grown : Grown pool (r .pool)
+  pub holds : Holds t (r .pool) ps qs (r .terms)
+
+pub done-cons : {t : Tables} (pool : Pool) (p q : Two) (ps qs : List Two) (a : Interned) (s : Terms) → Makes t pool p q a → Done t (a .pool) ps qs s → Done t pool (p ∷ ps) (q ∷ qs) (record { pool = s .pool; terms = a .term ∷ s .terms })
+done-cons pool p q ps qs a s A D = record {
+  valid = D .valid;
+  grown = grown-trans (A .grown) (D .grown);
+  holds = pair (grown-within (D .grown) (a .term) (A .within)) (grown-good (D .grown) p q (a .term) (A .within) (A .good)) (D .holds);
+}
+
+pub prepend-passed : (a : ℕ) (c : Checked Terms) (r : Terms) (b : ℕ) → prepend a c ≡ passed r b → (s : Terms) × (c ≡ passed s b) × (r ≡ record { pool = s .pool; terms = a ∷ s .terms })
+prepend-passed a (passed s b′) r b e = (s, same e, whole e)
+  where
+    same : passed (record { pool = s .pool; terms = a ∷ s .terms }) b′ ≡ passed r b → passed s b′ ≡ passed s b
+    same e = cc
+
+    whole : passed (record { pool = s .pool; terms = a ∷ s .terms }) b′ ≡ passed r b → r ≡ record { pool = s .pool; terms = a ∷ s .terms }
+    whole e = cc
+prepend-passed a cutShort r b e = let z : _≡_ {A = ℕ} 0 1 = cc in absurd (omega arith)
+
 -- ---- turns
 module _ (t : Tables) (v : Valid t) (margins : (p : Problem) (x : List ℕ) → solveCells p ≡ some x → Plan p x) where
   -- what a turn says of its choice
@@ -144,40 +167,17 @@ module _ (t : Tables) (v : Valid t) (margins : (p : Problem) (x : List ℕ) → 
       stays z = rw (← ok-inj z) (record { valid = u; grown = grown-refl pool; within = g .0; good = g .1 })
   choice-made pool p q of w r u (acted o ps x c k L) g h e = rw k (action-made pool p q of o ps x r u L (λ d i. h d (L .joined d i)) (rw c at e))
 
-  -- ---- the turns of a round in order
-  -- what a list of pairs leaves when its checks have passed
-  pub record Done (pool : Pool) (ps qs : List Two) (r : Terms) : Type 0 where
-    pub valid : PoolValid (r .pool)
-    pub grown : Grown pool (r .pool)
-    pub holds : Holds t (r .pool) ps qs (r .terms)
-
-  pub prepend-passed : (a : ℕ) (c : Checked Terms) (r : Terms) (b : ℕ) → prepend a c ≡ passed r b → (s : Terms) × (c ≡ passed s b) × (r ≡ record { pool = s .pool; terms = a ∷ s .terms })
-  prepend-passed a (passed s b′) r b e = (s, same e, whole e)
-    where
-      same : passed (record { pool = s .pool; terms = a ∷ s .terms }) b′ ≡ passed r b → passed s b′ ≡ passed s b
-      same e = cc
-
-      whole : passed (record { pool = s .pool; terms = a ∷ s .terms }) b′ ≡ passed r b → r ≡ record { pool = s .pool; terms = a ∷ s .terms }
-      whole e = cc
-  prepend-passed a cutShort r b e = let z : _≡_ {A = ℕ} 0 1 = cc in absurd (omega arith)
-
-  done-cons : (pool : Pool) (p q : Two) (ps qs : List Two) (a : Interned) (s : Terms) → Makes t pool p q a → Done (a .pool) ps qs s → Done pool (p ∷ ps) (q ∷ qs) (record { pool = s .pool; terms = a .term ∷ s .terms })
-  done-cons pool p q ps qs a s A D = record {
-    valid = D .valid;
-    grown = grown-trans (A .grown) (D .grown);
-    holds = pair (grown-within (D .grown) (a .term) (A .within)) (grown-good (D .grown) p q (a .term) (A .within) (A .good)) (D .holds);
-  }
-
+  -- the turns of a round in order
   pub turns-done : (q : Two → Two) (of : Two → ℕ) (ps : List Two) (b : ℕ) (pool : Pool) (r : Terms) (left : ℕ) → PoolValid pool
       → ((p : Two) → In p ps → GoodAt t pool q of p × ((c : Two) → In c (joins t p) → GoodAt t pool q of c))
-      → turnsTerms t of ps (map (turnOf t q) ps) b pool ≡ ok (passed r left) → Done pool ps (map (λ w. w .quality) (map (turnOf t q) ps)) r
+      → turnsTerms t of ps (map (turnOf t q) ps) b pool ≡ ok (passed r left) → Done t pool ps (map (λ w. w .quality) (map (turnOf t q) ps)) r
   unfolding turnsTerms
   turns-done q of [] b pool r left u h e = nothing e
     where
       same : ok (passed (record { pool = pool; terms = [] }) b) ≡ ok (passed r left) → record { pool = pool; terms = [] } ≡ r
       same e = cc
 
-      nothing : ok (passed (record { pool = pool; terms = [] }) b) ≡ ok (passed r left) → Done pool [] [] r
+      nothing : ok (passed (record { pool = pool; terms = [] }) b) ≡ ok (passed r left) → Done t pool [] [] r
       nothing e = rw (← same e) (record { valid = u; grown = grown-refl pool; holds = noPair })
   turns-done q of (p ∷ ps) zero pool r left u h e = let z : _≡_ {A = ℕ} 0 1 = cc in absurd (omega arith)
   turns-done q of (p ∷ ps) (suc b) pool r left u h e =

@@ -37,30 +37,30 @@ counted-in k (r ∷ l) h = go (eqb (r .0) k) refl h (λ g. counted-in k l g)
     go true e h ih = (r, here, sym (eqb-true _ _ e))
     go false e h ih = let (s, i, f) = ih (omega arith) in (s, there i, f)
 
-module _ (t : Tables) (v : Valid t) where
-  abbrev pub IsClass : ℕ → Type 0
-  IsClass c = c < length (t .classes)
+abbrev pub IsClass : Tables → ℕ → Type 0
+IsClass t c = c < length (t .classes)
 
-  identity-class : (o : ℕ) → identityOf t o ≢ NO-IDENTITY → IsClass (identityOf t o)
+abbrev pub IsPair : Tables → Two → Type 0
+IsPair t p = IsClass t (p .0) × IsClass t (p .1)
+
+module _ (t : Tables) (v : Valid t) where
+  identity-class : (o : ℕ) → identityOf t o ≢ NO-IDENTITY → IsClass t (identityOf t o)
   identity-class o n = go (decLt o (length (t .operations)))
     where
-      go : Dec (o < length (t .operations)) → IsClass (identityOf t o)
+      go : Dec (o < length (t .operations)) → IsClass t (identityOf t o)
       go (yes h) = v .operations .identities o h n .1
       go (no h) = absurd (n (ap (λ (z : _). z .identity) (List·getD-eq-default (t .operations) (record { kind = 0; flag = 0; identity = NO-IDENTITY }) {n = o} (omega arith))))
 
-  side-within : (c o : ℕ) (l : List Two) → IsClass c → Side t c o l → (r : Two) → In r l → IsClass (r .0)
+  side-within : (c o : ℕ) (l : List Two) → IsClass t c → Side t c o l → (r : Two) → In r l → IsClass t (r .0)
   side-within c o l h (member m i e f) r j = child-within t v m c i r (rw f at j)
   side-within c o l h (M.itself n) r j = elim (in-cons j) [ inl e ↦ rw e h | inr k ↦ absurd (in-nil k) ]
   side-within c o l h (padded {l = m} {e = e} k n q s) r j = elim (in-cons j) [ inl z ↦ rw (z, q) (identity-class o n) | inr y ↦ side-within c o m h s r y ]
 
-  covers-within : (o c : ℕ) (cs : List ℕ) → IsClass c → Covers t o c cs → (k : ℕ) → In k cs → IsClass k
+  covers-within : (o c : ℕ) (cs : List ℕ) → IsClass t c → Covers t o c cs → (k : ℕ) → In k cs → IsClass t k
   covers-within o c cs h (inOrder m i e n f) k j = let (r, q, z) = in-map (λ s. s .0) (childrenOf t m) (rw f at j) in rw z (child-within t v m c i r q)
   covers-within o c cs h (anyOrder l s n f) k j = let (r, q, z) = counted-in k l (omega (arith, f k, occurs-in k cs j)) in rw z (side-within c o l h s r q)
 
-  abbrev pub IsPair : Two → Type 0
-  IsPair p = IsClass (p .0) × IsClass (p .1)
-
-  action-within : (p : Two) → IsPair p → (a : Action) → In a (structural t (p .0) (p .1)) → (c : Two) → In c (a .pairs) → IsPair c
+  action-within : (p : Two) → IsPair t p → (a : Action) → In a (structural t (p .0) (p .1)) → (c : Two) → In c (a .pairs) → IsPair t c
   action-within p (h, k) a i c j =
       let L = structural-legal t v p a i in (
         covers-within (a .op) (p .0) _ h (L .left) (c .0) (rw (once (a .pairs) (λ z. z .0)) (map-in (λ z. z .0) j)),
@@ -69,9 +69,9 @@ module _ (t : Tables) (v : Valid t) where
 
   -- every class of a monomial is a class of the image
   abbrev AllClasses : Monomial → Type 0
-  AllClasses m = (r : Two) → In r m → IsClass (r .0)
+  AllClasses m = (r : Two) → In r m → IsClass t (r .0)
 
-  monomials-within : (c o : ℕ) → IsClass c → (m : Monomial) → In m (monomialsOf t c o) → AllClasses m
+  monomials-within : (c o : ℕ) → IsClass t c → (m : Monomial) → In m (monomialsOf t c o) → AllClasses m
   unfolding monomialsOf
   monomials-within c o h m i = go (in-append (map (λ n. monomial (childrenOf t n)) (filter (λ n. eqb (n .op) o) (membersOf t c))) _ i)
     where
@@ -82,7 +82,7 @@ module _ (t : Tables) (v : Valid t) where
       go : In m (map (λ n. monomial (childrenOf t n)) (filter (λ n. eqb (n .op) o) (membersOf t c))) ⊎ In m (pick (eqb (identityOf t o) NO-IDENTITY) [] (itself c ∷ [])) → AllClasses m
       go (inl i) =
           let (n, j, e) = in-map (λ n. monomial (childrenOf t n)) (filter (λ n. eqb (n .op) o) (membersOf t c)) i in
-          rw e (monomial-all IsClass (childrenOf t n) (child-within t v n c (in-filter (λ n. eqb (n .op) o) (membersOf t c) j .0)))
+          rw e (monomial-all (IsClass t) (childrenOf t n) (child-within t v n c (in-filter (λ n. eqb (n .op) o) (membersOf t c) j .0)))
       go (inr i) = its (eqb (identityOf t o) NO-IDENTITY) i
 
   abbrev SidesWithin : MonomialPair → Type 0
@@ -103,10 +103,10 @@ module _ (t : Tables) (v : Valid t) where
           → SidesWithin m
       go true y q z i = only (pairOf a b) i (A, B)
       go false true q z i = absurd (in-nil i)
-      go false false q true i = only (pairOf (insertAdd e (total b - total a) a) b) i (insert-all IsClass e (total b - total a) a (identity-class o (eqb-false _ _ q)) A, B)
-      go false false q false i = only (pairOf a (insertAdd e (total a - total b) b)) i (A, insert-all IsClass e (total a - total b) b (identity-class o (eqb-false _ _ q)) B)
+      go false false q true i = only (pairOf (insertAdd e (total b - total a) a) b) i (insert-all (IsClass t) e (total b - total a) a (identity-class o (eqb-false _ _ q)) A, B)
+      go false false q false i = only (pairOf a (insertAdd e (total a - total b) b)) i (A, insert-all (IsClass t) e (total a - total b) b (identity-class o (eqb-false _ _ q)) B)
 
-  sides-within : (p : Two) → IsPair p → (o : ℕ) (m : MonomialPair) → In m (representationPairs t (p .0) (p .1) o) → SidesWithin m
+  sides-within : (p : Two) → IsPair t p → (o : ℕ) (m : MonomialPair) → In m (representationPairs t (p .0) (p .1) o) → SidesWithin m
   unfolding representationPairs
   sides-within p (h, k) o m i =
       let (a, ia, i′) = in-each (λ a. each (λ b. pairs a b) (monomialsOf t (p .1) o)) (monomialsOf t (p .0) o) i in
@@ -123,7 +123,7 @@ module _ (t : Tables) (v : Valid t) where
       go a b true A B i = absurd (in-nil i)
       go a b false A B i = pad-within o a b A B m i
 
-  transport-within : (p : Two) → IsPair p → (a : TransportAction) → In a (transports t (p .0) (p .1)) → SidesWithin (a .sides)
+  transport-within : (p : Two) → IsPair t p → (a : TransportAction) → In a (transports t (p .0) (p .1)) → SidesWithin (a .sides)
   unfolding transports narrowPairs
   transport-within p h a i = go (eqb (p .0) (p .1)) i
     where
@@ -137,7 +137,7 @@ module _ (t : Tables) (v : Valid t) where
           let (m, k, e) = in-map (λ m. record { op = o; sides = m }) (narrowPairs (representationPairs t (p .0) (p .1) o)) i′ in
           rw e (sides-within p h o m (in-filter (λ z. both (narrow (z .rows)) (narrow (z .cols))) (representationPairs t (p .0) (p .1) o) k .0))
 
-  cells-within : (m : MonomialPair) → SidesWithin m → (c : Two) → In c (cellPairs m) → IsPair c
+  cells-within : (m : MonomialPair) → SidesWithin m → (c : Two) → In c (cellPairs m) → IsPair t c
   unfolding cellPairs
   cells-within m (R, C) c i =
       let (a, ia, i′) = in-each (λ a. map (λ b. (a, b)) (classes (m .cols))) (classes (m .rows)) i in
@@ -147,10 +147,10 @@ module _ (t : Tables) (v : Valid t) where
       rw e (rw er (R r ir), rw es (C s is))
 
   -- What a pair of classes of the image joins are pairs of classes of the image.
-  pub joins-within : (p : Two) → IsPair p → (c : Two) → In c (joins t p) → IsPair c
+  pub joins-within : (p : Two) → IsPair t p → (c : Two) → In c (joins t p) → IsPair t c
   unfolding joins
   joins-within p h c i = go (in-append (each (λ a. a .pairs) (structural t (p .0) (p .1))) (each (λ a. cellPairs (a .sides)) (transports t (p .0) (p .1))) i)
     where
-      go : In c (each (λ a. a .pairs) (structural t (p .0) (p .1))) ⊎ In c (each (λ a. cellPairs (a .sides)) (transports t (p .0) (p .1))) → IsPair c
+      go : In c (each (λ a. a .pairs) (structural t (p .0) (p .1))) ⊎ In c (each (λ a. cellPairs (a .sides)) (transports t (p .0) (p .1))) → IsPair t c
       go (inl i) = let (a, j, k) = in-each (λ a. a .pairs) (structural t (p .0) (p .1)) i in action-within p h a j c k
       go (inr i) = let (a, j, k) = in-each (λ a. cellPairs (a .sides)) (transports t (p .0) (p .1)) i in cells-within (a .sides) (transport-within p h a j) c k
