@@ -12,3 +12,4 @@ pub mod ReadingsWithin
 pub mod PoolSort
 pub mod ReadingsRounds
 pub mod Readings
+pub mod OrderTerms
