@@ -13,3 +13,7 @@ pub mod PoolSort
 pub mod ReadingsRounds
 pub mod Readings
 pub mod OrderTerms
+pub mod OrderRuns
+pub mod Order
+pub mod OrderSort
+pub mod OrderPools

@@ -180,12 +180,19 @@ module _ {A : Type 0} (cmp : A → A → Order) where
   lex-tri h (x ∷ l) (y ∷ m) [] = tri-greater (then (cmp x y) (lex cmp l m))
   lex-tri h (x ∷ l) (y ∷ m) (z ∷ k) = tri-then (cmp x y) (cmp y z) (cmp x z) _ _ _ (h x y z) (lex-tri h l m k)
 
-pub lex-cong : {A B : Type 0} (cmp : A → A → Order) (other : B → B → Order) (f : B → A) (l m : List B) → ((x y : B) → In x l → In y m → cmp (f x) (f y) ≡ other x y) → lex cmp (map f l) (map f m) ≡ lex other l m
+pub lex-map : {A B : Type 0} (cmp : A → A → Order) (f : B → A) (l m : List B) → lex cmp (map f l) (map f m) ≡ lex (λ x y. cmp (f x) (f y)) l m
 unfolding lex
-lex-cong cmp other f [] [] h = refl
-lex-cong cmp other f [] (y ∷ m) h = refl
-lex-cong cmp other f (x ∷ l) [] h = refl
-lex-cong cmp other f (x ∷ l) (y ∷ m) h = ap₂ then (h x y here here) (lex-cong cmp other f l m (λ a b i j. h a b (there i) (there j)))
+lex-map cmp f [] [] = refl
+lex-map cmp f [] (y ∷ m) = refl
+lex-map cmp f (x ∷ l) [] = refl
+lex-map cmp f (x ∷ l) (y ∷ m) = ap (then (cmp (f x) (f y))) (lex-map cmp f l m)
+
+pub lex-agree : {A : Type 0} (cmp other : A → A → Order) (l m : List A) → ((x y : A) → In x l → In y m → cmp x y ≡ other x y) → lex cmp l m ≡ lex other l m
+unfolding lex
+lex-agree cmp other [] [] h = refl
+lex-agree cmp other [] (y ∷ m) h = refl
+lex-agree cmp other (x ∷ l) [] h = refl
+lex-agree cmp other (x ∷ l) (y ∷ m) h = ap₂ then (h x y here here) (lex-agree cmp other l m (λ a b i j. h a b (there i) (there j)))
 
 pub then-equal : (a b : Order) → then a b ≡ equal → (a ≡ equal) × (b ≡ equal)
 then-equal less b e = (e, let z : less ≡ equal = e in cc)
