@@ -25,9 +25,11 @@ use Rattle.lgg.specs.PoolIntern.{Grown, grown-refl, grown-trans, grown-w
 use Rattle.lgg.specs.ReadingsNode.{Covers, inOrder, anyOrder, Good, AllGood, noPlace, place, good-node}
 use Rattle.lgg.specs.BestMembers.{best-in, best-falls, child-within, child-counted, child-single, member-arity}
 
--- an operation's node: it means the operation over its children's trees
-pub op-means : (p : Pool) (o : ℕ) (l : List Two) (r : Interned) → Entered p (opNode o l) r
-    → (treeAt (r .pool) (r .term) ≡ node o (runsOf (treesAfter [] p) (joinRuns l))) × (expand (runsOf (treesAfter [] p) (joinRuns l)) ≡ map (treeAt p) (written l))
+-- an operation's node means the operation over its children's trees
+abbrev pub OpMeans : Pool → ℕ → List Two → Interned → Type 0
+OpMeans p o l r = (treeAt (r .pool) (r .term) ≡ node o (runsOf (treesAfter [] p) (joinRuns l))) × (expand (runsOf (treesAfter [] p) (joinRuns l)) ≡ map (treeAt p) (written l))
+
+pub op-means : (p : Pool) (o : ℕ) (l : List Two) (r : Interned) → Entered p (opNode o l) r → OpMeans p o l r
 op-means p o l r e = (e .means ∙ tree-operation (treesAfter [] p) (opNode o l) refl, expand-runs (treesAfter [] p) (joinRuns l) ∙ ap (map (treeAt p)) (join-written l))
 
 -- what a step that makes a term for a pair in pool p gives: the pool stays valid, and the term is good for the pair and the quality

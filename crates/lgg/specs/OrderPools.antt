@@ -17,7 +17,7 @@ use Rattle.lgg.specs.Bag.{ok-inj, Perm, perm-refl}
 use Rattle.lgg.specs.Pool.{Below, PoolValid, op-valid}
 use Rattle.lgg.specs.PoolTrees.{trees-apart}
 use Rattle.lgg.specs.PoolIntern.{Entered, intern-enters}
-use Rattle.lgg.specs.PoolSort.{sort-perm, perm-below, plan-below}
+use Rattle.lgg.specs.PoolSort.{plan-below, actionRuns, action-enters}
 use Rattle.lgg.specs.Best.{op-means}
 use Rattle.lgg.specs.OrderTerms.{termCmp}
 use Rattle.lgg.specs.Order.{cmp-as-trees, as-expanded, tree-fuel}
@@ -106,22 +106,8 @@ SamePlaces p q of of′ stay = Unit
 SamePlaces p q of of′ (act o ps x) = (c : Two) → In c ps → Same p q (of c) (of′ c)
 
 action-tree : (t : Tables) (p : Pool) → PoolValid p → (of : Two → ℕ) (o : ℕ) (ps : List Two) (x : List ℕ) (r : Interned) → ((c : Two) → In c ps → of c < length p) → actionTerm t p o (planRuns of ps x) ≡ ok r
-    → treeAt (r .pool) (r .term) ≡ node o (runsOf (treesAfter [] p) (joinRuns (pick (isCommutative (kindOf t o)) (sortRuns p (planRuns of ps x)) (planRuns of ps x))))
-unfolding actionTerm
-action-tree t p v of o ps x r h e = op-means p o m r (intern-enters p (opNode o m) r v (op-valid (length p) o m below) e) .0
-  where
-    l : List Two
-    l = planRuns of ps x
-
-    m : List Two
-    m = pick (isCommutative (kindOf t o)) (sortRuns p l) l
-
-    chosen : (b : Bool) → Perm l (pick b (sortRuns p l) l)
-    chosen true = sort-perm p l
-    chosen false = perm-refl l
-
-    below : Below (length p) m
-    below = perm-below (chosen (isCommutative (kindOf t o))) (plan-below of (length p) ps x h)
+    → treeAt (r .pool) (r .term) ≡ node o (runsOf (treesAfter [] p) (joinRuns (actionRuns t p o (planRuns of ps x))))
+action-tree t p v of o ps x r h e = op-means p o (actionRuns t p o (planRuns of ps x)) r (action-enters t p v o (planRuns of ps x) r (plan-below of (length p) ps x h) e) .0
 
 -- A choice gives the same tree over any two valid pools in which its places mean the same trees.
 pub choice-anywhere : (t : Tables) (p q : Pool) → PoolValid p → PoolValid q → (of of′ : Two → ℕ) (old old′ : ℕ) (ch : Choice) → Same p q old old′ → SamePlaces p q of of′ ch

@@ -1,4 +1,4 @@
--- Sorting runs is a permutation; the runs of a plan, written out, are its places with their counts.
+-- The runs of an action's term: sorting is a permutation; written out they are the places with their counts; interning them.
 use mathlib.Core.Path.{_≡_, refl, sym, ap, ap₂, _∙_}
 use mathlib.Core.Logic.{_≢_}
 use mathlib.Core.Bool.{Bool, true, false}
@@ -8,13 +8,15 @@ use native.Mathlib.Omega.{arith}
 use lib.Dec.{eqb}
 use borrow.Author.Tests.{eqb-true, eqb-false}
 use lib.ListN.{length, replicate}
-use Rattle.spec.specs.Bytes.{Two, pick}
-use Rattle.spec.specs.Pool.{Pool, isGreater, structuralCmp, insertRun, sortRuns}
-use Rattle.spec.specs.Round.{planRuns}
+use Rattle.spec.specs.Bytes.{Two, pick, Res, ok}
+use Rattle.spec.specs.Image.{Tables, kindOf, isCommutative}
+use Rattle.spec.specs.Pool.{Pool, Interned, opNode, isGreater, structuralCmp, insertRun, sortRuns}
+use Rattle.spec.specs.Round.{planRuns, actionTerm}
 use Rattle.spec.specs.Meaning.{In, here, there}
 use Rattle.lgg.specs.Bag.{Perm, nil, skip, swap, both, perm-refl, perm-sym, perm-in}
 use Rattle.lgg.specs.BagCount.{written, spread}
-use Rattle.lgg.specs.Pool.{Below, below-nil, below-cons}
+use Rattle.lgg.specs.Pool.{Below, below-nil, below-cons, PoolValid, op-valid}
+use Rattle.lgg.specs.PoolIntern.{Entered, intern-enters}
 
 insert-perm : (p : Pool) (r : Two) (l : List Two) → Perm (r ∷ l) (insertRun p r l)
 unfolding insertRun
@@ -53,3 +55,22 @@ plan-below of i (p ∷ ps) (n ∷ x) h = go (eqb n 0) refl (plan-below of i ps x
     go : (b : Bool) → eqb n 0 ≡ b → Below i (planRuns of ps x) → Below i (elim b [ true ↦ planRuns of ps x | false ↦ (of p, n) ∷ planRuns of ps x ])
     go true e ih = ih
     go false e ih = below-cons {r = (of p, n)} (h p here) (let z : n ≢ 0 = eqb-false n 0 e in omega arith) ih
+
+-- "children of commutative kinds are sorted"
+abbrev pub actionRuns : Tables → Pool → ℕ → List Two → List Two
+actionRuns t p o l = pick (isCommutative (kindOf t o)) (sortRuns p l) l
+
+pub action-perm : (t : Tables) (p : Pool) (o : ℕ) (l : List Two) → Perm l (actionRuns t p o l)
+action-perm t p o l = go (isCommutative (kindOf t o))
+  where
+    go : (b : Bool) → Perm l (pick b (sortRuns p l) l)
+    go true = sort-perm p l
+    go false = perm-refl l
+
+pub action-kept : (t : Tables) (p : Pool) (o : ℕ) (l : List Two) → isCommutative (kindOf t o) ≡ false → actionRuns t p o l ≡ l
+action-kept t p o l e = rw e refl
+
+-- The term of an operation over terms of the pool is entered, and the pool stays valid.
+pub action-enters : (t : Tables) (p : Pool) → PoolValid p → (o : ℕ) (l : List Two) (r : Interned) → Below (length p) l → actionTerm t p o l ≡ ok r → Entered p (opNode o (actionRuns t p o l)) r
+unfolding actionTerm
+action-enters t p v o l r b e = intern-enters p (opNode o (actionRuns t p o l)) r v (op-valid (length p) o (actionRuns t p o l) (perm-below (action-perm t p o l) b)) e

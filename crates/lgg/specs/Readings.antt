@@ -22,7 +22,7 @@ use Rattle.lgg.specs.PoolIntern.{Grown, grown-refl, grown-trans}
 use Rattle.lgg.specs.ReadingsNode.{Good}
 use Rattle.lgg.specs.ReadingsWithin.{IsPair, joins-within}
 use Rattle.lgg.specs.Best.{Makes, starting-made}
-use Rattle.lgg.specs.ReadingsRounds.{Holds, noPair, pair, GoodAt, holds-look, Done, prepend-passed, done-cons, turns-done}
+use Rattle.lgg.specs.ReadingsRounds.{Holds, noPair, pair, GoodAt, holds-look, Done, done-nil, done-step, turns-done}
 
 -- "No unit is lost: row and column sums of the plan equal the margins."
 abbrev pub Margins : Type 0
@@ -50,20 +50,13 @@ module _ (margins : Margins) (t : Tables) (v : Valid t) (p : Two) (h : IsPair t 
   starting-done : (cs : List Two) (b : ℕ) (pool : Pool) (r : Terms) (left : ℕ) → PoolValid pool → ((c : Two) → In c cs → IsPair t c) → startingTerms t cs b pool ≡ ok (passed r left)
       → Done t pool cs (map (startingQuality t) cs) r
   unfolding startingTerms
-  starting-done [] b pool r left u k e = nothing e
-    where
-      same : ok (passed (record { pool = pool; terms = [] }) b) ≡ ok (passed r left) → record { pool = pool; terms = [] } ≡ r
-      same e = cc
-
-      nothing : ok (passed (record { pool = pool; terms = [] }) b) ≡ ok (passed r left) → Done t pool [] [] r
-      nothing e = rw (← same e) (record { valid = u; grown = grown-refl pool; holds = noPair })
+  starting-done [] b pool r left u k e = done-nil pool b r left u e
   starting-done (c ∷ cs) zero pool r left u k e = let z : _≡_ {A = ℕ} 0 1 = cc in absurd (omega arith)
   starting-done (c ∷ cs) (suc b) pool r left u k e =
-      let (a, ea, e′) = bind-ok (startingTerm t pool c) _ (passed r left) e in
-      let (s, es, e″) = bind-ok (startingTerms t cs b (a .pool)) _ (passed r left) e′ in
-      let (m, em, f) = prepend-passed (a .term) s r left (ok-inj e″) in
-      let A = starting-made t v pool c a (k c here .0) (k c here .1) u ea in
-      rw f (done-cons pool c (startingQuality t c) cs _ a m A (starting-done cs b (a .pool) m left (A .valid) (λ d i. k d (there i)) (es ∙ ap ok em)))
+      done-step pool c (startingQuality t c) cs (map (startingQuality t) cs) (startingTerm t pool c) (λ next. startingTerms t cs b next) r left
+      (λ a m. starting-made t v pool c a (k c here .0) (k c here .1) u m)
+      (λ a s A m. starting-done cs b (a .pool) s left (A .valid) (λ d i. k d (there i)) m)
+      e
 
   -- ---- rounds
   record StateGood (pairs : List Two) (s : State) : Type 0 where

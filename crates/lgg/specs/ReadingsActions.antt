@@ -19,6 +19,7 @@ use Rattle.laws.specs.Valid.{Valid}
 use Rattle.lgg.specs.Bag.{false-true, in-nil, in-cons, in-left, in-right, in-append, in-map, in-each, each-in, in-filter}
 use Rattle.lgg.specs.BagCount.{written, spread, spread-ones, occurs-written, written-ones, insert-count, monomial-count, insert-all, monomial-all}
 use Rattle.lgg.specs.BagPlan.{plan-rows, plan-columns}
+use Rattle.lgg.specs.PoolIntern.{both-true}
 use Rattle.lgg.specs.ReadingsNode.{Covers, inOrder, anyOrder}
 use Rattle.lgg.specs.BestMembers.{child-single, child-within, member-arity, member-operation}
 use Rattle.lgg.specs.Best.{member-covers}
@@ -234,9 +235,14 @@ module _ (t : Tables) (v : Valid t) where
   either-right true b e = refl
   either-right false b e = e
 
-  both-left : (a b : Bool) → both a b ≡ true → a ≡ true
-  both-left true b e = refl
-  both-left false b e = e
+  free-operation : (l r o : ℕ) → In o (acOps t l r) → isCommutative (kindOf t o) ≡ true
+  unfolding acOps
+  free-operation l r o i =
+      either-right (eqb (kindOf t o) SPair) (isAC (kindOf t o))
+      (both-true (isAC (kindOf t o)) (used o) (in-filter (λ z. both (isAC (kindOf t z)) (used z)) (upFrom 0 (length (t .operations))) i .1) .0)
+    where
+      used : ℕ → Bool
+      used z = any (λ n. eqb (n .op) z) (membersOf t l ++ membersOf t r)
 
   -- A transport of a pair: of an operation whose order is free, over what the two classes are under it.
   record Carries (l r : ℕ) (a : TransportAction) : Type 0 where
@@ -245,7 +251,7 @@ module _ (t : Tables) (v : Valid t) where
     cols : Stands r (a .op) (a .sides .cols)
 
   transport-carries : (l r : ℕ) (a : TransportAction) → In a (transports t l r) → Carries l r a
-  unfolding transports acOps narrowPairs
+  unfolding transports narrowPairs
   transport-carries l r a h = go (eqb l r) h
     where
       pairsOf : ℕ → List TransportAction
@@ -257,9 +263,8 @@ module _ (t : Tables) (v : Valid t) where
           let (o, i, h′) = in-each pairsOf (acOps t l r) h in
           let (m, j, e) = in-map (λ m. record { op = o; sides = m }) (narrowPairs (representationPairs t l r o)) h′ in
           let (k, w) = in-filter (λ p. both (narrow (p .rows)) (narrow (p .cols))) (representationPairs t l r o) j in
-          let (u, f) = in-filter (λ z. both (isAC (kindOf t z)) (any (λ n. eqb (n .op) z) (membersOf t l ++ membersOf t r))) (upFrom 0 (length (t .operations))) i in
           let (x, y) = sides-stand l r o m k in
-          rw e (record { free = either-right (eqb (kindOf t o) SPair) (isAC (kindOf t o)) (both-left (isAC (kindOf t o)) _ f); rows = x; cols = y })
+          rw e (record { free = free-operation l r o i; rows = x; cols = y })
 
   -- A transport of a pair by a plan.
   pub transport-legal : (p : Two) (a : TransportAction) → In a (transports t (p .0) (p .1)) → (qs : List Two) (x : List ℕ) → Plan (problemOver a qs) x → Legal t p (a .op) (cellPairs (a .sides)) x

@@ -15,15 +15,15 @@ use Rattle.spec.specs.Pool.{Pool, joinRuns, opNode, Interned, interned, intern,
 use Rattle.spec.specs.Round.{better, qualityOver, ones, problemOver, lookUp, Choice, stay, act, Turn, offer, offerActions, offerPlan, offerTransports, turnOf, planRuns, actionTerm, choiceTerm, Terms, prepend, turnsTerms}
 use Rattle.spec.specs.Meaning.{In, here, there, Term, node, Runs, expand, runsOf, treesAfter, treeAt, Plan}
 use Rattle.laws.specs.Valid.{Valid}
-use Rattle.lgg.specs.Bag.{false-true, ok-inj, bind-ok, in-cons, Perm, both, perm-refl, perm-of-eq, perm-sym, perm-map, map-map}
+use Rattle.lgg.specs.Bag.{false-true, ok-inj, refused-ok, in-cons, Perm, both, perm-refl, perm-of-eq, perm-sym, perm-map, map-map}
 use Rattle.lgg.specs.BagCount.{written, spread, map-spread, written-perm}
 use Rattle.lgg.specs.Pool.{Below, PoolValid, op-valid}
 use Rattle.lgg.specs.PoolIntern.{same-two, two-same, Grown, grown-refl, grown-trans, grown-within, grown-tree, Entered, intern-enters}
-use Rattle.lgg.specs.PoolSort.{sort-perm, perm-below, plan-written, plan-below}
+use Rattle.lgg.specs.PoolSort.{plan-written, plan-below, actionRuns, action-perm, action-kept, action-enters}
 use Rattle.lgg.specs.ReadingsNode.{Good, AllGood, noPlace, good-node}
 use Rattle.lgg.specs.ReadingsNode as N
 use Rattle.lgg.specs.ReadingsActions.{Legal, structural-legal, transport-legal}
-use Rattle.lgg.specs.Best.{op-means, Makes}
+use Rattle.lgg.specs.Best.{OpMeans, op-means, Makes}
 
 -- ---- a term for each pair of a list, with its quality
 pub data Holds (t : Tables) (pool : Pool) : List Two → List Two → List ℕ → Type 0 where
@@ -56,22 +56,43 @@ pub record Done (t : Tables) (pool : Pool) (ps qs : List Two) (r : Terms) : Type
   pub grown : Grown pool (r .pool)
   pub holds : Holds t (r .pool) ps qs (r .terms)
 
-pub done-cons : {t : Tables} (pool : Pool) (p q : Two) (ps qs : List Two) (a : Interned) (s : Terms) → Makes t pool p q a → Done t (a .pool) ps qs s → Done t pool (p ∷ ps) (q ∷ qs) (record { pool = s .pool; terms = a .term ∷ s .terms })
+done-cons : {t : Tables} (pool : Pool) (p q : Two) (ps qs : List Two) (a : Interned) (s : Terms) → Makes t pool p q a → Done t (a .pool) ps qs s → Done t pool (p ∷ ps) (q ∷ qs) (record { pool = s .pool; terms = a .term ∷ s .terms })
 done-cons pool p q ps qs a s A D = record {
   valid = D .valid;
   grown = grown-trans (A .grown) (D .grown);
   holds = pair (grown-within (D .grown) (a .term) (A .within)) (grown-good (D .grown) p q (a .term) (A .within) (A .good)) (D .holds);
 }
 
-pub prepend-passed : (a : ℕ) (c : Checked Terms) (r : Terms) (b : ℕ) → prepend a c ≡ passed r b → (s : Terms) × (c ≡ passed s b) × (r ≡ record { pool = s .pool; terms = a ∷ s .terms })
-prepend-passed a (passed s b′) r b e = (s, same e, whole e)
+-- no pair is left
+pub done-nil : {t : Tables} (pool : Pool) (b : ℕ) (r : Terms) (left : ℕ) → PoolValid pool → ok (passed (record { pool = pool; terms = [] }) b) ≡ ok (passed r left) → Done t pool [] [] r
+done-nil pool b r left u e = rw (← same e) (record { valid = u; grown = grown-refl pool; holds = noPair })
   where
-    same : passed (record { pool = s .pool; terms = a ∷ s .terms }) b′ ≡ passed r b → passed s b′ ≡ passed s b
+    same : ok (passed (record { pool = pool; terms = [] }) b) ≡ ok (passed r left) → record { pool = pool; terms = [] } ≡ r
     same e = cc
 
-    whole : passed (record { pool = s .pool; terms = a ∷ s .terms }) b′ ≡ passed r b → r ≡ record { pool = s .pool; terms = a ∷ s .terms }
+prepend-passed : (a : ℕ) (c : Checked Terms) (r : Terms) (left : ℕ) → ok (prepend a c) ≡ ok (passed r left) → (s : Terms) × (c ≡ passed s left) × (record { pool = s .pool; terms = a ∷ s .terms } ≡ r)
+prepend-passed a (passed s b) r left e = (s, same e, whole e)
+  where
+    same : ok (passed (record { pool = s .pool; terms = a ∷ s .terms }) b) ≡ ok (passed r left) → passed s b ≡ passed s left
+    same e = cc
+
+    whole : ok (passed (record { pool = s .pool; terms = a ∷ s .terms }) b) ≡ ok (passed r left) → record { pool = s .pool; terms = a ∷ s .terms } ≡ r
     whole e = cc
-prepend-passed a cutShort r b e = let z : _≡_ {A = ℕ} 0 1 = cc in absurd (omega arith)
+prepend-passed a cutShort r left e = let z : _≡_ {A = ℕ} 0 1 = cc in absurd (omega arith)
+
+-- a pair's term is made, then those of the rest
+pub done-step : {t : Tables} (pool : Pool) (p q : Two) (ps qs : List Two) (made : Res Interned) (rest : Pool → Res (Checked Terms)) (r : Terms) (left : ℕ) → ((a : Interned) → made ≡ ok a → Makes t pool p q a)
+    → ((a : Interned) (s : Terms) → Makes t pool p q a → rest (a .pool) ≡ ok (passed s left) → Done t (a .pool) ps qs s)
+    → (made >>= (λ a. rest (a .pool) >>= (λ c. ok (prepend (a .term) c)))) ≡ ok (passed r left) → Done t pool (p ∷ ps) (q ∷ qs) r
+done-step pool p q ps qs (refused n) rest r left m d e = absurd (refused-ok e)
+done-step {t} pool p q ps qs (ok a) rest r left m d e = go (rest (a .pool)) refl e
+  where
+    last : (c : Checked Terms) → rest (a .pool) ≡ ok c → (s : Terms) × (c ≡ passed s left) × (record { pool = s .pool; terms = a .term ∷ s .terms } ≡ r) → Done t pool (p ∷ ps) (q ∷ qs) r
+    last c k (s, f, g) = rw (← g) (done-cons pool p q ps qs a s (m a refl) (d a s (m a refl) (k ∙ ap ok f)))
+
+    go : (x : Res (Checked Terms)) → rest (a .pool) ≡ x → (x >>= (λ c. ok (prepend (a .term) c))) ≡ ok (passed r left) → Done t pool (p ∷ ps) (q ∷ qs) r
+    go (refused n) k e = absurd (refused-ok e)
+    go (ok c) k e = last c k (prepend-passed (a .term) c r left e)
 
 -- ---- turns
 module _ (t : Tables) (v : Valid t) (margins : (p : Problem) (x : List ℕ) → solveCells p ≡ some x → Plan p x) where
@@ -115,44 +136,26 @@ module _ (t : Tables) (v : Valid t) (margins : (p : Problem) (x : List ℕ) → 
   places-good pool q of [] h = noPlace
   places-good pool q of (c ∷ ps) h = N.place (h c here .1) (places-good pool q of ps (λ d i. h d (there i)))
 
-  -- the runs of an action's term
-  sorted : (b : Bool) (pool : Pool) (l : List Two) → Perm l (pick b (sortRuns pool l) l)
-  sorted true pool l = sort-perm pool l
-  sorted false pool l = perm-refl l
-
-  kept : (b : Bool) (pool : Pool) (l : List Two) → b ≡ false → pick b (sortRuns pool l) l ≡ l
-  kept b pool l e = rw e refl
-
   pub action-made : (pool : Pool) (p : Two) (q : Two → Two) (of : Two → ℕ) (o : ℕ) (ps : List Two) (x : List ℕ) (r : Interned) → PoolValid pool → Legal t p o ps x
       → ((c : Two) → In c ps → GoodAt t pool q of c) → actionTerm t pool o (planRuns of ps x) ≡ ok r → Makes t pool p (qualityOver x (map q ps)) r
-  unfolding actionTerm
   action-made pool p q of o ps x r u L h e = record {
     valid = E .valid;
     grown = E .grown;
     within = E .within;
     good = rw (M .0) (good-node t p o ps (map q ps) (map (treeAt pool) (map of ps)) x _ (places-good pool q of ps h)
-        (both (perm-of-eq (sym written-is)) (both (perm-map (treeAt pool) (written-perm perm)) (perm-of-eq (sym (M .1)))))
-        (λ n. sym (M .1 ∙ ap (λ (z : List Two). map (treeAt pool) (written z)) (kept (isCommutative (kindOf t o)) pool l n) ∙ written-is))
+        (both (perm-of-eq (sym written-is)) (both (perm-map (treeAt pool) (written-perm (action-perm t pool o l))) (perm-of-eq (sym (M .1)))))
+        (λ n. sym (M .1 ∙ ap (λ (z : List Two). map (treeAt pool) (written z)) (action-kept t pool o l n) ∙ written-is))
         (L .left) (L .right));
   }
     where
       l : List Two
       l = planRuns of ps x
 
-      m : List Two
-      m = pick (isCommutative (kindOf t o)) (sortRuns pool l) l
+      E : Entered pool (opNode o (actionRuns t pool o l)) r
+      E = action-enters t pool u o l r (plan-below of (length pool) ps x (λ c i. h c i .0)) e
 
-      perm : Perm l m
-      perm = sorted (isCommutative (kindOf t o)) pool l
-
-      below : Below (length pool) m
-      below = perm-below perm (plan-below of (length pool) ps x (λ c i. h c i .0))
-
-      E : Entered pool (opNode o m) r
-      E = intern-enters pool (opNode o m) r u (op-valid (length pool) o m below) e
-
-      M : (treeAt (r .pool) (r .term) ≡ node o (runsOf (treesAfter [] pool) (joinRuns m))) × (expand (runsOf (treesAfter [] pool) (joinRuns m)) ≡ map (treeAt pool) (written m))
-      M = op-means pool o m r E
+      M : OpMeans pool o (actionRuns t pool o l) r
+      M = op-means pool o (actionRuns t pool o l) r E
 
       written-is : map (treeAt pool) (written l) ≡ spread (map (treeAt pool) (map of ps)) x
       written-is = ap (map (treeAt pool)) (plan-written of ps x) ∙ map-spread (treeAt pool) (map of ps) x
@@ -172,21 +175,13 @@ module _ (t : Tables) (v : Valid t) (margins : (p : Problem) (x : List ℕ) → 
       → ((p : Two) → In p ps → GoodAt t pool q of p × ((c : Two) → In c (joins t p) → GoodAt t pool q of c))
       → turnsTerms t of ps (map (turnOf t q) ps) b pool ≡ ok (passed r left) → Done t pool ps (map (λ w. w .quality) (map (turnOf t q) ps)) r
   unfolding turnsTerms
-  turns-done q of [] b pool r left u h e = nothing e
-    where
-      same : ok (passed (record { pool = pool; terms = [] }) b) ≡ ok (passed r left) → record { pool = pool; terms = [] } ≡ r
-      same e = cc
-
-      nothing : ok (passed (record { pool = pool; terms = [] }) b) ≡ ok (passed r left) → Done t pool [] [] r
-      nothing e = rw (← same e) (record { valid = u; grown = grown-refl pool; holds = noPair })
+  turns-done q of [] b pool r left u h e = done-nil pool b r left u e
   turns-done q of (p ∷ ps) zero pool r left u h e = let z : _≡_ {A = ℕ} 0 1 = cc in absurd (omega arith)
   turns-done q of (p ∷ ps) (suc b) pool r left u h e =
-      let (a, ea, e′) = bind-ok (choiceTerm t of pool (of p) (turnOf t q p .choice)) _ (passed r left) e in
-      let (s, es, e″) = bind-ok (turnsTerms t of ps (map (turnOf t q) ps) b (a .pool)) _ (passed r left) e′ in
-      let (k, ek, f) = prepend-passed (a .term) s r left (ok-inj e″) in
-      let A = choice-made pool p q of (turnOf t q p) a u (turn-won q p) (h p here .0) (h p here .1) ea in
-      rw f (done-cons pool p (turnOf t q p .quality) ps _ a k A
-      (turns-done q of ps b (a .pool) k left (A .valid) (λ c i. (later (A .grown) c (h c (there i) .0), λ d j. later (A .grown) d (h c (there i) .1 d j))) (es ∙ ap ok ek)))
+      done-step pool p (turnOf t q p .quality) ps (map (λ w. w .quality) (map (turnOf t q) ps)) (choiceTerm t of pool (of p) (turnOf t q p .choice)) (λ next. turnsTerms t of ps (map (turnOf t q) ps) b next) r left
+      (λ a k. choice-made pool p q of (turnOf t q p) a u (turn-won q p) (h p here .0) (h p here .1) k)
+      (λ a s A k. turns-done q of ps b (a .pool) s left (A .valid) (λ c i. (later (A .grown) c (h c (there i) .0), λ d j. later (A .grown) d (h c (there i) .1 d j))) k)
+      e
     where
       later : {next : Pool} → Grown pool next → (c : Two) → GoodAt t pool q of c → GoodAt t next q of c
       later g c (a, b) = (grown-within g (of c) a, grown-good g c (q c) (of c) a b)
