@@ -3,12 +3,11 @@ use mathlib.Core.Path.{_≡_, refl, sym, ap, ap₂, _∙_}
 use mathlib.Core.Logic.{_⊎_, inl, inr}
 use mathlib.Core.Bool.{Bool, true, false}
 use mathlib.Core.List.{List, [], _∷_, _++_, map, append-assoc, append-nil}
-use Prim.Native.Nat.{ℕ, zero, suc, _+_, _*_, _-_, _≤_, _<_}
-use native.Mathlib.Nat.{not-suc-le-zero, suc-add, zero-add}
+use Prim.Native.Nat.{ℕ, zero, suc, _+_, _*_, _≤_, _<_}
+use native.Mathlib.Nat.{not-suc-le-zero}
 use native.Mathlib.Omega.{arith}
-use lib.Dec.{eqb}
-use lib.ListN.{length, getD, take, drop, replicate, replicate-append-replicate}
-use Rattle.spec.specs.Bytes.{pick, each, filter, sum, Two, Res, ok, refused, _>>=_}
+use lib.ListN.{length, getD, take, drop, replicate}
+use Rattle.spec.specs.Bytes.{each, filter, sum, Res, ok, refused, _>>=_}
 use Rattle.spec.specs.Meaning.{In, here, there}
 
 -- ---- results: what one that is accepted says

@@ -1,18 +1,18 @@
 -- Lists with counts written out, and how often a number stands in them.
-use mathlib.Core.Path.{_≡_, refl, sym, ap, ap₂, _∙_}
+use mathlib.Core.Path.{_≡_, refl, sym, ap, _∙_}
 use mathlib.Core.Logic.{_⊎_, inl, inr}
 use mathlib.Core.Bool.{Bool, true, false}
 use mathlib.Core.List.{List, [], _∷_, _++_, map, append-assoc}
-use Prim.Native.Nat.{ℕ, zero, suc, _+_, _*_, _-_, _≤_, _<_}
+use Prim.Native.Nat.{ℕ, zero, suc, _+_, _*_, _≤_}
 use native.Mathlib.Omega.{arith}
 use lib.Dec.{ltb, eqb}
-use borrow.Author.Tests.{eqb-true, eqb-false, eq-eqb}
-use lib.ListN.{length, getD, replicate, length-append, length-replicate, replicate-append-replicate}
-use Rattle.spec.specs.Bytes.{pick, sum, sumTo, each, Two}
+use borrow.Author.Tests.{eqb-true}
+use lib.ListN.{length, replicate, length-append, length-replicate, replicate-append-replicate}
+use Rattle.spec.specs.Bytes.{pick, sum, Two}
 use Rattle.spec.specs.Monomial.{insertAdd, addAll, monomial, classes, counts}
 use Rattle.spec.specs.Pool.{joinTo, joinRuns, expandedLength}
 use Rattle.spec.specs.Meaning.{In, here, there, occurs, countIn}
-use Rattle.lgg.specs.Bag.{Perm, nil, skip, swap, both, perm-refl, perm-of-eq, perm-left, perm-past, in-nil, in-cons, in-append, in-left, in-right, map-append, map-replicate, replicate-in}
+use Rattle.lgg.specs.Bag.{Perm, nil, skip, swap, both, perm-left, perm-past, in-nil, in-cons, in-append, map-append, map-replicate, replicate-in}
 
 -- every entry as often as its count says
 unfoldable pub written : List Two → List ℕ

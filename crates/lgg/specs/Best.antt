@@ -1,25 +1,24 @@
 -- Best terms and starting terms: the fuel suffices, the pool stays valid, and each term has its quality and belongs, read either way.
 use mathlib.Core.Path.{_≡_, refl, sym, ap, ap₂, _∙_}
-use mathlib.Core.Logic.{_≢_, _⊎_, inl, inr}
+use mathlib.Core.Logic.{_≢_}
 use mathlib.Core.Bool.{Bool, true, false}
-use mathlib.Core.List.{List, [], _∷_, _++_, map}
-use Prim.Native.Nat.{ℕ, zero, suc, _+_, _*_, _-_, _≤_, _<_}
-use native.Mathlib.Nat.{not-suc-le-zero}
+use mathlib.Core.List.{List, [], _∷_, map}
+use Prim.Native.Nat.{ℕ, zero, suc, _+_, _*_, _≤_, _<_}
 use native.Mathlib.Omega.{arith}
 use lib.Dec.{eqb}
-use borrow.Author.Tests.{eqb-true, eqb-false}
-use lib.ListN.{length, getD}
-use Rattle.spec.specs.Bytes.{Two, pick, sum, either, Res, ok, refused, _>>=_}
-use Rattle.spec.specs.Image.{Tables, Member, MSet, SPair, Set, Lit, arities, FREE, isAC, isCommutative, kindOf, bestSize, membersOf, childrenOf, bestMember, sizeOver}
+use borrow.Author.Tests.{eqb-true}
+use lib.ListN.{length}
+use Rattle.spec.specs.Bytes.{Two, pick, sum, Res, ok, refused, _>>=_}
+use Rattle.spec.specs.Image.{Tables, Member, MSet, Lit, arities, isCommutative, kindOf, bestSize, membersOf, childrenOf, bestMember, sizeOver}
 use Rattle.spec.specs.Monomial.{classes, counts}
 use Rattle.spec.specs.Transport.{planSize, planMass}
-use Rattle.spec.specs.Pool.{Pool, Node, nodeAt, joinRuns, opNode, litNode, variantsNode, Interned, interned, intern, Children, childTerms, bestTermIn, bestTerm, startingTerm}
+use Rattle.spec.specs.Pool.{Pool, joinRuns, opNode, litNode, variantsNode, Interned, intern, Children, childTerms, bestTermIn, bestTerm, startingTerm}
 use Rattle.spec.specs.Round.{startingQuality, cellsOver, qualityOver}
-use Rattle.spec.specs.Meaning.{In, here, there, Term, lit, node, variants, Runs, termQuality, expand, reading, runsOf, treeOf, treesAfter, treeAt, countIn, occurs, Side, member, Belongs, literal}
+use Rattle.spec.specs.Meaning.{In, here, there, Term, lit, node, variants, Runs, termQuality, expand, reading, runsOf, treesAfter, treeAt, member, Belongs, literal}
 use Rattle.laws.specs.Valid.{Valid}
-use Rattle.lgg.specs.Bag.{bind-ok, ok-inj, false-true, in-nil, map-map, perm-of-eq}
+use Rattle.lgg.specs.Bag.{bind-ok, ok-inj, false-true, map-map, perm-of-eq}
 use Rattle.lgg.specs.BagCount.{written, spread, map-spread, spread-written, occurs-written, written-ones, join-written}
-use Rattle.lgg.specs.Pool.{Below, below-nil, below-cons, below-more, PoolValid, op-valid, lit-valid, variants-valid, numbered, tree-operation, tree-literal, tree-marked}
+use Rattle.lgg.specs.Pool.{Below, below-nil, below-cons, PoolValid, op-valid, lit-valid, variants-valid, tree-operation, tree-literal, tree-marked}
 use Rattle.lgg.specs.PoolTrees.{expand-runs}
 use Rattle.lgg.specs.PoolIntern.{Grown, grown-refl, grown-trans, grown-within, grown-tree, Entered, intern-enters}
 use Rattle.lgg.specs.ReadingsNode.{Covers, inOrder, anyOrder, Good, AllGood, noPlace, place, good-node}

@@ -1,14 +1,13 @@
 -- What a valid image says of a class's members, of their children, and of the best one.
-use mathlib.Core.Path.{_≡_, refl, sym, ap, ap₂, _∙_}
-use mathlib.Core.Logic.{_≢_, _⊎_, inl, inr}
-use mathlib.Core.Bool.{Bool, true, false}
-use mathlib.Core.List.{List, [], _∷_, _++_, map}
-use Prim.Native.Nat.{ℕ, zero, suc, _+_, _*_, _-_, _≤_, _<_, min}
+use mathlib.Core.Path.{_≡_, _∙_}
+use mathlib.Core.Logic.{_≢_}
+use mathlib.Core.List.{List, [], _∷_, map}
+use Prim.Native.Nat.{ℕ, zero, suc, _+_, _*_, _≤_, _<_}
 use native.Mathlib.Nat.{not-suc-le-zero, mul-le-mul-right}
 use native.Mathlib.Omega.{arith}
 use lib.ListN.{length, getD, take, drop, length-map, length-take, length-drop, List·getD-map}
 use Rattle.spec.specs.Bytes.{Two, sum}
-use Rattle.spec.specs.Image.{Tables, Member, SPair, MSet, Lit, arities, FREE, theClass, theMember, kindOf, bestSize, membersOf, childrenOf, bestMember, sizeOver}
+use Rattle.spec.specs.Image.{Tables, Member, MSet, arities, FREE, theClass, theMember, kindOf, bestSize, membersOf, childrenOf, bestMember, sizeOver}
 use Rattle.spec.specs.Meaning.{In, here, there}
 use Rattle.laws.specs.Valid.{Valid, Follow, classSpans, memberSpans}
 use Rattle.lgg.specs.Bag.{in-span, span-in}

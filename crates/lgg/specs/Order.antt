@@ -2,22 +2,21 @@
 use mathlib.Core.Path.{_≡_, refl, sym, ap, ap₂, _∙_}
 use mathlib.Core.Logic.{_⊎_, inl, inr}
 use mathlib.Core.Bool.{Bool, true, false}
-use mathlib.Core.List.{List, [], _∷_, _++_, map}
-use Prim.Native.Nat.{ℕ, zero, suc, _+_, _≤_, _<_}
+use mathlib.Core.List.{List, [], _∷_, map}
+use Prim.Native.Nat.{ℕ, zero, suc, _+_, _<_}
 use native.Mathlib.Nat.{not-suc-le-zero}
 use native.Mathlib.Omega.{arith}
-use lib.Dec.{ltb, eqb}
+use lib.Dec.{eqb}
 use borrow.Author.Tests.{eqb-true}
 use lib.ListN.{length, length-map}
-use Rattle.spec.specs.Bytes.{Two}
-use Rattle.spec.specs.Pool.{Node, Pool, nodeAt, OP, LIT, VARIANTS, joinRuns, variantsNode, Order, less, equal, greater, compareℕ, then, expandedLength, runsCmp, structuralCmp, isGreater}
-use Rattle.spec.specs.Meaning.{In, here, there, Term, lit, node, variants, runsOf, treeOf, treesAfter, treeAt}
+use Rattle.spec.specs.Pool.{Node, Pool, nodeAt, Order, less, equal, greater, compareℕ, then, expandedLength, runsCmp, structuralCmp, isGreater}
+use Rattle.spec.specs.Meaning.{In, Term, treeOf, treesAfter, treeAt}
 use Rattle.lgg.specs.Bag.{false-true}
 use Rattle.lgg.specs.BagCount.{written, written-length, in-written, join-written}
-use Rattle.lgg.specs.Pool.{Formed, operation, literal, marked, NodeValid, PoolValid, numbered, tree-operation, tree-literal, tree-marked}
+use Rattle.lgg.specs.Pool.{Formed, operation, literal, marked, PoolValid, tree-operation, tree-literal, tree-marked}
 use Rattle.lgg.specs.PoolTrees.{tree-is, expand-runs, node-ext}
 use Rattle.lgg.specs.OrderTerms.{headOf, opOf, valueOf, childrenOf, lex, termCmp, flip, Tri, compare-same, then-equal, lex-map, lex-agree, lex-same, term-flip, term-tri, term-refl}
-use Rattle.lgg.specs.OrderRuns.{listCmp, runs-as-lists, lists-as-lex, written-inj}
+use Rattle.lgg.specs.OrderRuns.{runs-as-lists, lists-as-lex, written-inj}
 
 -- ---- the parts of a number's tree are those of its node
 pub record Parts (p : Pool) (n : Node) (s : Term) : Type 0 where

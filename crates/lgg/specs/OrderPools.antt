@@ -1,26 +1,24 @@
 -- The tree of a choice's term does not depend on what else is in the pool: so interning only the final term of a turn changes no result.
 use mathlib.Core.Path.{_≡_, refl, sym, ap, ap₂, _∙_}
-use mathlib.Core.Logic.{_⊎_, inl, inr}
 use mathlib.Core.Bool.{Bool, true, false}
-use mathlib.Core.List.{List, [], _∷_, _++_, map}
-use Prim.Native.Nat.{ℕ, zero, suc, _+_, _≤_, _<_}
+use mathlib.Core.List.{List, [], _∷_}
+use Prim.Native.Nat.{ℕ, _+_, _<_}
 use native.Mathlib.Omega.{arith}
 use lib.Dec.{eqb}
 use borrow.Author.Tests.{eqb-true, eqb-false, eq-eqb, ne-eqb}
 use lib.ListN.{length}
-use Rattle.spec.specs.Bytes.{Two, pick, Res, ok}
+use Rattle.spec.specs.Bytes.{Two, pick, ok}
 use Rattle.spec.specs.Image.{Tables, kindOf, isCommutative}
-use Rattle.spec.specs.Pool.{Pool, joinTo, joinRuns, opNode, Interned, interned, intern, isGreater, structuralCmp, insertRun, sortRuns}
+use Rattle.spec.specs.Pool.{Pool, joinTo, joinRuns, Interned, isGreater, structuralCmp, insertRun, sortRuns}
 use Rattle.spec.specs.Round.{Choice, stay, act, planRuns, actionTerm, choiceTerm}
-use Rattle.spec.specs.Meaning.{In, here, there, Term, node, Runs, run, runsOf, treesAfter, treeAt}
-use Rattle.lgg.specs.Bag.{ok-inj, Perm, perm-refl}
-use Rattle.lgg.specs.Pool.{Below, PoolValid, op-valid}
+use Rattle.spec.specs.Meaning.{In, here, there, node, runsOf, treesAfter, treeAt}
+use Rattle.lgg.specs.Bag.{ok-inj}
+use Rattle.lgg.specs.Pool.{PoolValid}
 use Rattle.lgg.specs.PoolTrees.{trees-apart}
-use Rattle.lgg.specs.PoolIntern.{Entered, intern-enters}
 use Rattle.lgg.specs.PoolSort.{plan-below, actionRuns, action-enters}
 use Rattle.lgg.specs.Best.{op-means}
 use Rattle.lgg.specs.OrderTerms.{termCmp}
-use Rattle.lgg.specs.Order.{cmp-as-trees, as-expanded, tree-fuel}
+use Rattle.lgg.specs.Order.{as-expanded, tree-fuel}
 
 -- number a of pool p and number b of pool q mean the same tree
 pub record Same (p q : Pool) (a b : ℕ) : Type 0 where

@@ -11,7 +11,7 @@ use lib.ListN.{length, replicate}
 use Rattle.spec.specs.Bytes.{Two, pick}
 use Rattle.spec.specs.Pool.{Pool, joinRuns, Order, less, equal, greater, structuralCmp, isGreater, insertRun, sortRuns}
 use Rattle.spec.specs.Meaning.{In, here, there, occurs, countIn}
-use Rattle.lgg.specs.Bag.{false-true, in-nil, in-cons, in-append, Perm, both, perm-in, perm-sym, replicate-in}
+use Rattle.lgg.specs.Bag.{false-true, in-nil, in-cons, in-append, Perm, both, perm-sym, replicate-in}
 use Rattle.lgg.specs.BagCount.{written, in-written, join-written, written-perm, occurs-perm, occurs-written}
 use Rattle.lgg.specs.Pool.{Below, below-tail, PoolValid, join-below, join-joined}
 use Rattle.lgg.specs.PoolSort.{sort-perm, perm-below}

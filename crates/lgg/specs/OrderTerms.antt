@@ -1,16 +1,15 @@
 -- The order of terms on expanded child lists: "head's rank, operation, value, length, then the children from the left". At every fuel it can be reversed and is transitive.
 use mathlib.Core.Path.{_≡_, refl, sym, ap, ap₂, _∙_}
-use mathlib.Core.Logic.{_⊎_, inl, inr}
 use mathlib.Core.Bool.{Bool, true, false}
-use mathlib.Core.List.{List, [], _∷_, _++_, map}
-use Prim.Native.Nat.{ℕ, zero, suc, _+_, _≤_, _<_}
+use mathlib.Core.List.{List, [], _∷_, map}
+use Prim.Native.Nat.{ℕ, zero, suc, _<_}
 use native.Mathlib.Omega.{arith}
 use lib.Dec.{ltb, eqb}
 use borrow.Author.Tests.{ltb-true, ltb-false, eqb-true, eqb-false, lt-ltb, le-ltb, eq-eqb, ne-eqb}
 use lib.ListN.{length}
 use Rattle.spec.specs.Bytes.{pick}
 use Rattle.spec.specs.Pool.{OP, LIT, VARIANTS, Order, less, equal, greater, compareℕ, then}
-use Rattle.spec.specs.Meaning.{In, here, there, Term, lit, node, variants, Runs, expand}
+use Rattle.spec.specs.Meaning.{In, here, there, Term, lit, node, variants, expand}
 
 -- ---- a term's parts
 abbrev pub headOf : Term → ℕ

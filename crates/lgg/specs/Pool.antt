@@ -1,18 +1,18 @@
 -- The pool: what keeps its entries in order, what its numbers mean as trees, and what interning does.
-use mathlib.Core.Path.{_≡_, refl, sym, ap, ap₂, _∙_}
-use mathlib.Core.Logic.{_≢_, _⊎_, inl, inr}
+use mathlib.Core.Path.{_≡_, refl, sym, _∙_}
+use mathlib.Core.Logic.{_≢_, inl, inr}
 use mathlib.Core.Bool.{Bool, true, false}
-use mathlib.Core.List.{List, [], _∷_, _++_, map, append-assoc, append-nil}
-use Prim.Native.Nat.{ℕ, zero, suc, _+_, _*_, _-_, _≤_, _<_}
+use mathlib.Core.List.{List, [], _∷_, _++_}
+use Prim.Native.Nat.{ℕ, _+_, _≤_, _<_}
 use native.Mathlib.Nat.{not-suc-le-zero}
 use native.Mathlib.Omega.{arith}
-use lib.Dec.{ltb, leb, eqb}
-use borrow.Author.Tests.{eqb-true, eqb-false, eq-eqb, ne-eqb, ltb-true, ltb-false, lt-ltb}
+use lib.Dec.{eqb}
+use borrow.Author.Tests.{eqb-true, eqb-false}
 use lib.ListN.{length, getD, length-append, List·getD-append}
-use Rattle.spec.specs.Bytes.{pick, both, place, Two, sameTwo, sameTwos, Res, ok, refused}
-use Rattle.spec.specs.Pool.{Node, Pool, nodeAt, OP, LIT, VARIANTS, joinTo, joinRuns, opNode, litNode, variantsNode, TERMS, RUNS, sameNode, runCount, Interned, interned, intern}
-use Rattle.spec.specs.Meaning.{In, here, there, Term, lit, node, variants, Runs, done, run, runsOf, firstBranch, secondBranch, treeOf, treesAfter, treeAt}
-use Rattle.lgg.specs.Bag.{ok-inj, refused-ok, false-true, in-nil, in-cons, in-getD}
+use Rattle.spec.specs.Bytes.{pick, Two}
+use Rattle.spec.specs.Pool.{Node, Pool, nodeAt, OP, LIT, joinTo, joinRuns, opNode, litNode, variantsNode}
+use Rattle.spec.specs.Meaning.{In, here, there, Term, lit, node, variants, runsOf, firstBranch, secondBranch, treeOf, treesAfter, treeAt}
+use Rattle.lgg.specs.Bag.{in-nil, in-cons}
 
 -- ---- "runs of (child, count), neighbours with the same child joined"
 pub data Joined : List Two → Type 0 where

@@ -1,17 +1,17 @@
 -- Interning: a node that is there keeps its number; a new one is entered at the end.
 use mathlib.Core.Path.{_≡_, refl, sym, ap, ap₂, _∙_}
-use mathlib.Core.Logic.{_≢_, _⊎_, inl, inr}
+use mathlib.Core.Logic.{_⊎_, inl, inr}
 use mathlib.Core.Bool.{Bool, true, false}
-use mathlib.Core.List.{List, [], _∷_, _++_, map, append-nil, append-assoc}
+use mathlib.Core.List.{List, [], _∷_, _++_, append-nil, append-assoc}
 use Prim.Native.Nat.{ℕ, zero, suc, _+_, _≤_, _<_}
 use native.Mathlib.Nat.{not-suc-le-zero, eq-or-lt-of-le}
 use native.Mathlib.Omega.{arith}
 use lib.Dec.{ltb, leb, eqb}
 use borrow.Author.Tests.{eqb-true, eq-eqb, ltb-true, ltb-false, lt-ltb}
 use lib.ListN.{length, getD, length-append, List·getD-append}
-use Rattle.spec.specs.Bytes.{pick, both, place, Two, sameTwo, sameTwos, Res, ok, refused}
+use Rattle.spec.specs.Bytes.{pick, both, place, Two, sameTwo, sameTwos, ok, refused}
 use Rattle.spec.specs.Pool.{Node, Pool, nodeAt, TERMS, RUNS, sameNode, runCount, Interned, interned, intern}
-use Rattle.spec.specs.Meaning.{Term, treeOf, treesAfter, treeAt}
+use Rattle.spec.specs.Meaning.{treeOf, treesAfter, treeAt}
 use Rattle.lgg.specs.Bag.{ok-inj, refused-ok, false-true}
 use Rattle.lgg.specs.Pool.{NodeValid, PoolValid, getD-last, tree-last, tree-grows}
 use Rattle.lgg.specs.PoolTrees.{node-ext, tree-is}

@@ -1,14 +1,14 @@
 -- The runs of an action's term: sorting is a permutation; written out they are the places with their counts; interning them.
-use mathlib.Core.Path.{_≡_, refl, sym, ap, ap₂, _∙_}
+use mathlib.Core.Path.{_≡_, refl, ap}
 use mathlib.Core.Logic.{_≢_}
 use mathlib.Core.Bool.{Bool, true, false}
 use mathlib.Core.List.{List, [], _∷_, _++_, map}
-use Prim.Native.Nat.{ℕ, zero, suc, _+_, _≤_, _<_}
+use Prim.Native.Nat.{ℕ, _<_}
 use native.Mathlib.Omega.{arith}
 use lib.Dec.{eqb}
 use borrow.Author.Tests.{eqb-true, eqb-false}
 use lib.ListN.{length, replicate}
-use Rattle.spec.specs.Bytes.{Two, pick, Res, ok}
+use Rattle.spec.specs.Bytes.{Two, pick, ok}
 use Rattle.spec.specs.Image.{Tables, kindOf, isCommutative}
 use Rattle.spec.specs.Pool.{Pool, Interned, opNode, isGreater, structuralCmp, insertRun, sortRuns}
 use Rattle.spec.specs.Round.{planRuns, actionTerm}

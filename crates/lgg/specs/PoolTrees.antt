@@ -1,6 +1,5 @@
 -- The numbers of a valid pool mean trees over the trees of earlier numbers, and different numbers mean different trees.
 use mathlib.Core.Path.{_≡_, refl, sym, ap, ap₂, _∙_}
-use mathlib.Core.Logic.{_≢_, _⊎_, inl, inr}
 use mathlib.Core.Bool.{Bool, true, false}
 use mathlib.Core.List.{List, [], _∷_, _++_, map}
 use Prim.Native.Nat.{ℕ, zero, suc, _+_, _≤_, _<_}
@@ -8,13 +7,13 @@ use native.Mathlib.Nat.{not-suc-le-zero}
 use native.Mathlib.Omega.{arith}
 use lib.Dec.{eqb}
 use borrow.Author.Tests.{eqb-true}
-use lib.ListN.{length, getD, length-append, replicate}
+use lib.ListN.{length, length-append, replicate}
 use Rattle.spec.specs.Bytes.{pick, Two}
-use Rattle.spec.specs.Pool.{Node, Pool, nodeAt, OP, LIT, VARIANTS, joinRuns, variantsNode}
-use Rattle.spec.specs.Meaning.{In, here, there, Term, lit, node, variants, Runs, done, run, expand, runsOf, treeOf, treesAfter, treeAt}
+use Rattle.spec.specs.Pool.{Node, Pool, nodeAt, joinRuns, variantsNode}
+use Rattle.spec.specs.Meaning.{here, there, Term, lit, node, variants, Runs, run, expand, runsOf, treeOf, treesAfter, treeAt}
 use Rattle.lgg.specs.Bag.{map-append, map-replicate}
 use Rattle.lgg.specs.BagCount.{written}
-use Rattle.lgg.specs.Pool.{Below, below-tail, Formed, operation, literal, marked, NodeValid, PoolValid, numbered, trees-length, trees-keep, getD-last, tree-operation, tree-literal, tree-marked}
+use Rattle.lgg.specs.Pool.{Below, below-tail, Formed, operation, literal, marked, NodeValid, PoolValid, numbered, trees-keep, getD-last, tree-operation, tree-literal, tree-marked}
 
 -- ---- a node's tree depends on its children's alone
 runs-cong : (ts us : List Term) (i : ℕ) (l : List Two) → Below i l → ((a : ℕ) → a < i → numbered ts a ≡ numbered us a) → runsOf ts l ≡ runsOf us l

@@ -1,28 +1,26 @@
 -- Demand 2, of a run: the term that the steps build has the reported quality, belongs to the left class read by the first branch at every marked place, and to the right class read by the second.
-use mathlib.Core.Path.{_≡_, refl, sym, ap, ap₂, _∙_}
+use mathlib.Core.Path.{_≡_}
 use mathlib.Core.Bool.{Bool, true, false}
 use mathlib.Core.Option.{some}
-use mathlib.Core.List.{List, [], _∷_, _++_, map}
-use Prim.Native.Nat.{ℕ, zero, suc, _+_, _≤_, _<_}
+use mathlib.Core.List.{List, [], _∷_, map}
+use Prim.Native.Nat.{ℕ, zero, suc, _<_}
 use native.Mathlib.Omega.{arith}
 use lib.ListN.{length, getD}
-use Rattle.spec.specs.Bytes.{Two, any, Res, ok, refused, _>>=_, Checked, passed, cutShort}
+use Rattle.spec.specs.Bytes.{Two, any, ok, Checked, passed, cutShort}
 use Rattle.spec.specs.Image.{Tables}
 use Rattle.spec.specs.Transport.{Problem, solveCells}
-use Rattle.spec.specs.Action.{joins}
 use Rattle.spec.specs.Graph.{build}
 use Rattle.spec.specs.Pool.{Pool, Interned, startingTerm}
-use Rattle.spec.specs.Round.{startingQuality, lookUp, Turn, changes, turnOf, turnsOf, Terms, prepend}
+use Rattle.spec.specs.Round.{startingQuality, lookUp, changes, turnsOf, Terms}
 use Rattle.spec.specs.Run.{Outcome, startingTerms, State, outcome, roundTerms, afterRound, roundsFrom, started, afterStarting, afterBuilding, runOf}
-use Rattle.spec.specs.Meaning.{In, here, there, Term, termQuality, readFirst, readSecond, treeAt, Belongs, Plan, Reachable, queried, joined}
+use Rattle.spec.specs.Meaning.{In, here, there, termQuality, readFirst, readSecond, treeAt, Belongs, Plan, Reachable, queried, joined}
 use Rattle.laws.specs.Valid.{Valid}
 use Rattle.lgg.specs.Bag.{ok-inj, bind-ok}
 use Rattle.lgg.specs.Pool.{PoolValid, empty-valid}
-use Rattle.lgg.specs.PoolIntern.{Grown, grown-refl, grown-trans}
 use Rattle.lgg.specs.ReadingsNode.{Good}
 use Rattle.lgg.specs.ReadingsWithin.{IsPair, joins-within}
 use Rattle.lgg.specs.Best.{Makes, starting-made}
-use Rattle.lgg.specs.ReadingsRounds.{Holds, noPair, pair, GoodAt, holds-look, Done, done-nil, done-step, turns-done}
+use Rattle.lgg.specs.ReadingsRounds.{Holds, pair, holds-look, Done, done-nil, done-step, turns-done}
 
 -- "No unit is lost: row and column sums of the plan equal the margins."
 abbrev pub Margins : Type 0

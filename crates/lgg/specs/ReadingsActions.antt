@@ -1,28 +1,27 @@
 -- What the actions of a pair join covers both classes: by position, SPair both ways, and by the rows and columns of a plan.
-use mathlib.Core.Path.{_≡_, refl, sym, ap, ap₂, _∙_}
+use mathlib.Core.Path.{_≡_, refl, sym, ap, _∙_}
 use mathlib.Core.Logic.{_≢_, _⊎_, inl, inr}
 use mathlib.Core.Bool.{Bool, true, false}
 use mathlib.Core.List.{List, [], _∷_, _++_, map}
-use Prim.Native.Nat.{ℕ, zero, suc, _+_, _*_, _-_, _≤_, _<_}
+use Prim.Native.Nat.{ℕ, _-_}
 use native.Mathlib.Omega.{arith}
 use lib.Dec.{eqb, ltb}
 use borrow.Author.Tests.{eqb-true, eqb-false}
 use lib.ListN.{length, getD, length-map}
 use Rattle.spec.specs.Bytes.{Two, pick, both, either, each, filter, any, upFrom}
-use Rattle.spec.specs.Image.{Tables, Member, SPair, MSet, Lit, NO-IDENTITY, arities, FREE, isAC, isCommutative, kindOf, identityOf, membersOf, childrenOf}
-use Rattle.spec.specs.Monomial.{Monomial, MonomialPair, pairOf, classes, counts, total, insertAdd, monomial, itself, monomialsOf, padPair, bothItself, representationPairs, narrow, narrowPairs}
+use Rattle.spec.specs.Image.{Tables, Member, SPair, Lit, NO-IDENTITY, arities, isAC, isCommutative, kindOf, identityOf, membersOf, childrenOf}
+use Rattle.spec.specs.Monomial.{Monomial, MonomialPair, pairOf, classes, total, insertAdd, monomial, itself, monomialsOf, padPair, bothItself, representationPairs, narrow, narrowPairs}
 use Rattle.spec.specs.Action.{Action, TransportAction, zip, byPosition, straightAndCrossed, alignments, alignMembers, structural, acOps, transports, cellPairs, joins}
 use Rattle.spec.specs.Round.{ones, problemOver}
-use Rattle.spec.specs.Meaning.{In, here, there, occurs, countIn, Side, member, padded, Plan}
+use Rattle.spec.specs.Meaning.{In, occurs, countIn, Side, member, padded, Plan}
 use Rattle.spec.specs.Meaning as M
 use Rattle.laws.specs.Valid.{Valid}
-use Rattle.lgg.specs.Bag.{false-true, in-nil, in-cons, in-left, in-right, in-append, in-map, in-each, each-in, in-filter}
-use Rattle.lgg.specs.BagCount.{written, spread, spread-ones, occurs-written, written-ones, insert-count, monomial-count, insert-all, monomial-all}
+use Rattle.lgg.specs.Bag.{in-nil, in-cons, in-left, in-right, in-append, in-map, in-each, each-in, in-filter}
+use Rattle.lgg.specs.BagCount.{spread, spread-ones, occurs-written, written-ones, insert-count, monomial-count}
 use Rattle.lgg.specs.BagPlan.{plan-rows, plan-columns}
 use Rattle.lgg.specs.PoolIntern.{both-true}
 use Rattle.lgg.specs.ReadingsNode.{Covers, inOrder, anyOrder}
-use Rattle.lgg.specs.BestMembers.{child-single, child-within, member-arity, member-operation}
-use Rattle.lgg.specs.Best.{member-covers}
+use Rattle.lgg.specs.BestMembers.{child-single, member-arity}
 
 -- operation o over the places ps, with counts x, is an action of pair p: its left classes cover the left class, its right ones the right, and it joins the places
 pub record Legal (t : Tables) (p : Two) (o : ℕ) (ps : List Two) (x : List ℕ) : Type 0 where

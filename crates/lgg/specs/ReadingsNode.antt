@@ -1,19 +1,18 @@
 -- A node over the terms of places: its quality, and what it belongs to when it is read.
 use mathlib.Core.Path.{_≡_, refl, sym, ap, ap₂, _∙_}
-use mathlib.Core.Logic.{_⊎_, inl, inr}
 use mathlib.Core.Bool.{Bool, true, false}
 use mathlib.Core.List.{List, [], _∷_, _++_, map}
-use Prim.Native.Nat.{ℕ, zero, suc, _+_, _*_, _≤_, _<_}
+use Prim.Native.Nat.{ℕ, zero, suc, _+_, _*_}
 use native.Mathlib.Omega.{arith}
-use lib.ListN.{length, replicate}
-use Rattle.spec.specs.Bytes.{pick, sum, Two}
+use lib.ListN.{replicate}
+use Rattle.spec.specs.Bytes.{sum, Two}
 use Rattle.spec.specs.Image.{Tables, Member, kindOf, isCommutative, membersOf, childrenOf}
 use Rattle.spec.specs.Monomial.{classes}
 use Rattle.spec.specs.Transport.{planSize, planMass}
 use Rattle.spec.specs.Round.{cellsOver, qualityOver}
-use Rattle.spec.specs.Meaning.{In, Term, lit, node, variants, Runs, done, run, termQuality, runsQuality, expand, reading, readingRuns, readFirst, readSecond, occurs, countIn, Side, Belongs, literal, ordered, unordered, AllBelong, noMore, andThen}
+use Rattle.spec.specs.Meaning.{In, Term, node, Runs, done, run, termQuality, runsQuality, expand, reading, readingRuns, readFirst, readSecond, occurs, countIn, Side, Belongs, ordered, unordered, AllBelong, noMore, andThen}
 use Rattle.lgg.specs.Bag.{Perm, nil, skip, swap, both, perm-map, map-append, map-replicate, sum-append, sum-perm, sum-replicate}
-use Rattle.lgg.specs.BagCount.{spread, map-spread}
+use Rattle.lgg.specs.BagCount.{spread}
 
 -- ---- qualities
 abbrev pub size : Term → ℕ

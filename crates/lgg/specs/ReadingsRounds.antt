@@ -1,24 +1,24 @@
 -- Rounds: each pair's term follows its choice, and stays good for the pair and its quality.
-use mathlib.Core.Path.{_≡_, refl, sym, ap, ap₂, _∙_}
-use mathlib.Core.Logic.{_≢_, _⊎_, inl, inr}
+use mathlib.Core.Path.{_≡_, refl, sym, ap, _∙_}
+use mathlib.Core.Logic.{_⊎_, inl, inr}
 use mathlib.Core.Bool.{Bool, true, false}
 use mathlib.Core.Option.{Option, none, some}
-use mathlib.Core.List.{List, [], _∷_, _++_, map}
-use Prim.Native.Nat.{ℕ, zero, suc, _+_, _≤_, _<_}
+use mathlib.Core.List.{List, [], _∷_, map}
+use Prim.Native.Nat.{ℕ, zero, suc, _<_}
 use native.Mathlib.Omega.{arith}
-use lib.ListN.{length, getD}
+use lib.ListN.{length}
 use Rattle.spec.specs.Bytes.{Two, pick, place, sameTwo, Res, ok, refused, _>>=_, Checked, passed, cutShort}
-use Rattle.spec.specs.Image.{Tables, kindOf, isCommutative}
+use Rattle.spec.specs.Image.{Tables}
 use Rattle.spec.specs.Transport.{Problem, solveCells}
 use Rattle.spec.specs.Action.{Action, TransportAction, structural, transports, cellPairs, joins}
-use Rattle.spec.specs.Pool.{Pool, joinRuns, opNode, Interned, interned, intern, sortRuns}
-use Rattle.spec.specs.Round.{better, qualityOver, ones, problemOver, lookUp, Choice, stay, act, Turn, offer, offerActions, offerPlan, offerTransports, turnOf, planRuns, actionTerm, choiceTerm, Terms, prepend, turnsTerms}
-use Rattle.spec.specs.Meaning.{In, here, there, Term, node, Runs, expand, runsOf, treesAfter, treeAt, Plan}
+use Rattle.spec.specs.Pool.{Pool, opNode, Interned, interned}
+use Rattle.spec.specs.Round.{better, qualityOver, ones, problemOver, lookUp, stay, act, Turn, offer, offerActions, offerPlan, offerTransports, turnOf, planRuns, actionTerm, choiceTerm, Terms, prepend, turnsTerms}
+use Rattle.spec.specs.Meaning.{In, here, there, treeAt, Plan}
 use Rattle.laws.specs.Valid.{Valid}
-use Rattle.lgg.specs.Bag.{false-true, ok-inj, refused-ok, in-cons, Perm, both, perm-refl, perm-of-eq, perm-sym, perm-map, map-map}
+use Rattle.lgg.specs.Bag.{false-true, ok-inj, refused-ok, in-cons, both, perm-of-eq, perm-map}
 use Rattle.lgg.specs.BagCount.{written, spread, map-spread, written-perm}
-use Rattle.lgg.specs.Pool.{Below, PoolValid, op-valid}
-use Rattle.lgg.specs.PoolIntern.{same-two, two-same, Grown, grown-refl, grown-trans, grown-within, grown-tree, Entered, intern-enters}
+use Rattle.lgg.specs.Pool.{PoolValid}
+use Rattle.lgg.specs.PoolIntern.{same-two, two-same, Grown, grown-refl, grown-trans, grown-within, grown-tree, Entered}
 use Rattle.lgg.specs.PoolSort.{plan-written, plan-below, actionRuns, action-perm, action-kept, action-enters}
 use Rattle.lgg.specs.ReadingsNode.{Good, AllGood, noPlace, good-node}
 use Rattle.lgg.specs.ReadingsNode as N

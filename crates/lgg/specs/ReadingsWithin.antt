@@ -1,26 +1,25 @@
 -- Pairs of classes of the image join pairs of classes of the image.
-use mathlib.Core.Path.{_≡_, refl, sym, ap, ap₂, _∙_}
+use mathlib.Core.Path.{_≡_, refl, sym, ap}
 use mathlib.Core.Logic.{_≢_, _⊎_, inl, inr}
 use mathlib.Core.Bool.{Bool, true, false}
-use mathlib.Core.List.{List, [], _∷_, _++_, map}
-use Prim.Native.Nat.{ℕ, zero, suc, _+_, _*_, _-_, _≤_, _<_}
+use mathlib.Core.List.{List, [], _∷_, map}
+use Prim.Native.Nat.{ℕ, _+_, _-_, _≤_, _<_}
 use native.Mathlib.Decide.{decLt}
 use native.Mathlib.Omega.{arith}
 use lib.Dec.{eqb, ltb}
 use borrow.Author.Tests.{eqb-true, eqb-false, eq-eqb}
 use lib.ListN.{length, List·getD-eq-default}
 use Rattle.spec.specs.Bytes.{Two, pick, both, each, filter}
-use Rattle.spec.specs.Image.{Tables, NO-IDENTITY, theOperation, identityOf, membersOf, childrenOf}
+use Rattle.spec.specs.Image.{Tables, NO-IDENTITY, identityOf, membersOf, childrenOf}
 use Rattle.spec.specs.Monomial.{Monomial, MonomialPair, pairOf, classes, total, insertAdd, monomial, itself, monomialsOf, padPair, bothItself, representationPairs, narrow, narrowPairs}
 use Rattle.spec.specs.Action.{Action, TransportAction, structural, acOps, transports, cellPairs, joins}
-use Rattle.spec.specs.Round.{ones}
 use Rattle.spec.specs.Meaning.{In, here, there, occurs, countIn, Side, member, padded}
 use Rattle.spec.specs.Meaning as M
 use Rattle.laws.specs.Valid.{Valid}
 use Rattle.lgg.specs.Bag.{in-nil, in-cons, in-append, in-map, map-in, in-each, in-filter}
-use Rattle.lgg.specs.BagCount.{spread, insert-all, monomial-all}
+use Rattle.lgg.specs.BagCount.{insert-all, monomial-all}
 use Rattle.lgg.specs.ReadingsNode.{Covers, inOrder, anyOrder}
-use Rattle.lgg.specs.ReadingsActions.{Legal, structural-legal, once}
+use Rattle.lgg.specs.ReadingsActions.{structural-legal, once}
 use Rattle.lgg.specs.BestMembers.{child-within}
 
 occurs-in : (k : ℕ) (l : List ℕ) → In k l → 1 ≤ occurs k l
