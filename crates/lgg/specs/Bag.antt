@@ -1,5 +1,5 @@
 -- Permutations, entries of lists, and lists in which each entry stands so many times.
-use mathlib.Core.Path.{_≡_, refl, sym, ap, ap₂, _∙_}
+use mathlib.Core.Path.{_≡_, refl, sym, ap, _∙_}
 use mathlib.Core.Logic.{_⊎_, inl, inr}
 use mathlib.Core.Bool.{Bool, true, false}
 use mathlib.Core.List.{List, [], _∷_, _++_, map, append-assoc, append-nil}
@@ -48,11 +48,6 @@ module _ {A : Type 0} where
       go : (x ≡ y) ⊎ In x (l ++ m) → (In x (l ++ m) → In x l ⊎ In x m) → In x (y ∷ l) ⊎ In x m
       go (inl e) ih = inl (rw e here)
       go (inr j) ih = elim (ih j) [ inl a ↦ inl (there a) | inr b ↦ inr b ]
-
-  pub in-getD : (l : List A) (i : ℕ) (d : A) → i < length l → In (getD l i d) l
-  in-getD [] i d h = absurd (not-suc-le-zero h)
-  in-getD (x ∷ l) zero d h = here
-  in-getD (x ∷ l) (suc i) d h = there (in-getD l i d (omega arith))
 
   -- an entry of a span of a table, by its number in the table
   pub in-span : (l : List A) (k n i : ℕ) (d : A) → k ≤ i → i < k + n → i < length l → In (getD l i d) (take n (drop k l))
@@ -165,12 +160,6 @@ module _ {A : Type 0} where
       go (inr j) = elim (in-cons j) [ inl e ↦ rw e here | inr k ↦ there (there k) ]
   perm-in (both p q) i = perm-in q (perm-in p i)
 
-  pub perm-length : {l m : List A} → Perm l m → length l ≡ length m
-  perm-length nil = refl
-  perm-length (skip x p) = ap suc (perm-length p)
-  perm-length (swap x y l) = refl
-  perm-length (both p q) = perm-length p ∙ perm-length q
-
 module _ {A B : Type 0} (h : A → B) where
   pub perm-map : {l m : List A} → Perm l m → Perm (map h l) (map h m)
   perm-map nil = nil
@@ -189,10 +178,6 @@ module _ {A B : Type 0} (h : A → B) where
 pub map-map : {A B C : Type 0} (g : B → C) (h : A → B) (l : List A) → map g (map h l) ≡ map (λ x. g (h x)) l
 map-map g h [] = refl
 map-map g h (x ∷ l) = ap (λ z. g (h x) ∷ z) (map-map g h l)
-
-pub map-cong : {A B : Type 0} {f g : A → B} (l : List A) → ((x : A) → In x l → f x ≡ g x) → map f l ≡ map g l
-map-cong [] h = refl
-map-cong {B = B} {f = f} {g = g} (x ∷ l) h = ap₂ (λ (y : B) (z : List B). y ∷ z) (h x here) (map-cong l (λ y i. h y (there i)))
 
 pub sum-append : (l m : List ℕ) → sum (l ++ m) ≡ sum l + sum m
 unfolding sum

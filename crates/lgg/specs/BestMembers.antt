@@ -53,9 +53,6 @@ module _ (t : Tables) (v : Valid t) where
   pub member-arity : (m : Member) (c : ℕ) → In m (membersOf t c) → getD arities (kindOf t (m .op)) FREE ≢ FREE → length (childrenOf t m) ≡ getD arities (kindOf t (m .op)) FREE
   member-arity m c i n = let (k, h, e) = member-number m c i in children-length m c i ∙ rw e (v .children .arity k h (rw e at n))
 
-  pub member-operation : (m : Member) (c : ℕ) → In m (membersOf t c) → m .op < length (t .operations)
-  member-operation m c i = let (k, h, e) = member-number m c i in rw e (v .spans .operationWithin k h)
-
   -- "best member by its number in the member table"
   pub best-in : (c : ℕ) → c < length (t .classes) → In (bestMember t c) (membersOf t c)
   best-in c h = let (a, b) = v .best .bestWithin c h in in-span (t .members) (theClass t c .first) (theClass t c .count) (theClass t c .best) _ a b (omega (arith, class-fits c h))

@@ -72,9 +72,6 @@ below-cons h k b = record {
 pub below-nil : (i : ℕ) → Below i []
 below-nil i = record { earlier = λ r j. absurd (in-nil j); counted = λ r j. absurd (in-nil j) }
 
-pub below-more : {i j : ℕ} {l : List Two} → i ≤ j → Below i l → Below j l
-below-more h b = record { earlier = λ r k. let z = b .earlier r k in omega arith; counted = λ r k. b .counted r k }
-
 pub join-below : (i : ℕ) (l : List Two) → Below i l → Below i (joinRuns l)
 unfolding joinRuns
 join-below i [] b = b

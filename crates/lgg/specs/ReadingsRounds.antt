@@ -37,10 +37,6 @@ GoodAt t pool q of c = (of c < length pool) × Good t c (q c) (treeAt pool (of c
 grown-good : {t : Tables} {pool next : Pool} → Grown pool next → (p q : Two) (a : ℕ) → a < length pool → Good t p q (treeAt pool a) → Good t p q (treeAt next a)
 grown-good g p q a h k = rw (grown-tree g a h) k
 
-pub holds-grown : {t : Tables} {pool next : Pool} {ps qs : List Two} {l : List ℕ} → Grown pool next → Holds t pool ps qs l → Holds t next ps qs l
-holds-grown g noPair = noPair
-holds-grown g (pair {p = p} {q = q} {a = a} h k hs) = pair (grown-within g a h) (grown-good g p q a h k) (holds-grown g hs)
-
 pub holds-look : {t : Tables} {pool : Pool} {ps qs : List Two} {l : List ℕ} → Holds t pool ps qs l → (c : Two) → In c ps → GoodAt t pool (lookUp (0, 0) ps qs) (lookUp 0 ps l) c
 unfolding place
 holds-look {t} {pool} (pair {p = p} {q = q} {a = a} {ps = ps} {qs = qs} {l = l} h k hs) c i = go (sameTwo c p) refl (in-cons i) (λ j. holds-look hs c j)
