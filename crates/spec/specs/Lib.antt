@@ -11,3 +11,8 @@ pub mod Listing
 pub mod Merge
 pub mod Meaning
 pub mod Edges
+pub mod Asked
+pub mod Samples
+pub mod Refusals
+pub mod Limits
+pub mod Slips
