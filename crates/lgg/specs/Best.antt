@@ -16,13 +16,15 @@ use Rattle.spec.specs.Pool.{Pool, joinRuns, opNode, litNode, variantsNode, Inte
 use Rattle.spec.specs.Round.{startingQuality, cellsOver, qualityOver}
 use Rattle.spec.specs.Meaning.{In, here, there, Term, lit, node, variants, Runs, termQuality, expand, reading, runsOf, treesAfter, treeAt, member, Belongs, literal}
 use Rattle.laws.specs.Valid.{Valid}
-use Rattle.lgg.specs.Bag.{bind-ok, ok-inj, false-true, map-map, perm-of-eq}
+use Rattle.lgg.specs.Bag.{perm-of-eq}
 use Rattle.lgg.specs.BagCount.{written, spread, map-spread, spread-written, occurs-written, written-ones, join-written}
 use Rattle.lgg.specs.Pool.{Below, below-nil, below-cons, PoolValid, op-valid, lit-valid, variants-valid, tree-operation, tree-literal, tree-marked}
 use Rattle.lgg.specs.PoolTrees.{expand-runs}
 use Rattle.lgg.specs.PoolIntern.{Grown, grown-refl, grown-trans, grown-within, grown-tree, Entered, intern-enters}
 use Rattle.lgg.specs.ReadingsNode.{Covers, inOrder, anyOrder, Good, AllGood, noPlace, place, good-node}
 use Rattle.lgg.specs.BestMembers.{best-in, best-falls, child-within, child-counted, child-single, member-arity}
+use Rattle.lgg.specs.Lists.{clash, map-map}
+use Rattle.lgg.specs.Results.{bind-ok, ok-inj}
 
 -- an operation's node means the operation over its children's trees
 abbrev pub OpMeans : Pool → ℕ → List Two → Interned → Type 0
@@ -119,7 +121,7 @@ module _ (t : Tables) where
   best-mass (c ∷ l) = omega (arith, best-mass l)
 
   not-mset : (k : ℕ) → isCommutative k ≡ false → k ≢ MSet
-  not-mset k e z = false-true (sym (rw z at e))
+  not-mset k e z = clash (rw z at e)
 
   -- a member is what its class is under the member's operation
   pub member-covers : Valid t → (m : Member) (c : ℕ) → In m (membersOf t c) → Covers t (m .op) c (written (childrenOf t m))
@@ -156,8 +158,8 @@ module _ (t : Tables) where
   unfolding sizeOver
   node-good v c h ts r g e =
       rw (best-is) (good-node t (c, c) (m .op) (map (λ d. (d .0, d .0)) l) (map (λ d. (bestSize t (d .0), 0)) l) ts (counts l) r g (perm-of-eq (sym e)) (λ n. sym e)
-      (rw (map-map {B = Two} (λ d. d .0) (λ d. (d .0, d .0)) l, spread-written l) (member-covers v m c (best-in t v c h)))
-      (rw (map-map {B = Two} (λ d. d .1) (λ d. (d .0, d .0)) l, spread-written l) (member-covers v m c (best-in t v c h))))
+      (rw (map-map {B = Two} (λ d. (d .0, d .0)) (λ d. d .0) l, spread-written l) (member-covers v m c (best-in t v c h)))
+      (rw (map-map {B = Two} (λ d. (d .0, d .0)) (λ d. d .1) l, spread-written l) (member-covers v m c (best-in t v c h))))
     where
       m : Member
       m = bestMember t c

@@ -11,12 +11,12 @@ use borrow.Author.Tests.{eqb-true}
 use lib.ListN.{length, length-map}
 use Rattle.spec.specs.Pool.{Node, Pool, nodeAt, Order, less, equal, greater, compareℕ, then, expandedLength, runsCmp, structuralCmp, isGreater}
 use Rattle.spec.specs.Meaning.{In, Term, treeOf, treesAfter, treeAt}
-use Rattle.lgg.specs.Bag.{false-true}
 use Rattle.lgg.specs.BagCount.{written, written-length, in-written, join-written}
 use Rattle.lgg.specs.Pool.{Formed, operation, literal, marked, PoolValid, tree-operation, tree-literal, tree-marked}
 use Rattle.lgg.specs.PoolTrees.{tree-is, expand-runs, node-ext}
 use Rattle.lgg.specs.OrderTerms.{headOf, opOf, valueOf, childrenOf, lex, termCmp, flip, Tri, compare-same, then-equal, lex-map, lex-agree, lex-same, term-flip, term-tri, term-refl}
 use Rattle.lgg.specs.OrderRuns.{runs-as-lists, lists-as-lex, written-inj}
+use Rattle.lgg.specs.Lists.{clash}
 
 -- ---- the parts of a number's tree are those of its node
 pub record Parts (p : Pool) (n : Node) (s : Term) : Type 0 where
@@ -178,16 +178,16 @@ module _ (p : Pool) (v : PoolValid p) where
       go equal y z e p q = rw e q
       go less equal z e p q = rw e refl
       go less less z e p q = rw e refl
-      go less greater z e p q = absurd (false-true (sym q))
-      go greater y z e p q = absurd (false-true (sym p))
+      go less greater z e p q = absurd (clash q)
+      go greater y z e p q = absurd (clash p)
 
   pub antisymmetric : (a b : ℕ) → a < length p → b < length p → AtMost p a b → AtMost p b a → a ≡ b
   antisymmetric a b h k x y = equal-only a b h k (go (structuralCmp (length p) p a b) x (rw (reversible a b h k) at y))
     where
       go : (o : Order) → isGreater o ≡ false → isGreater (flip o) ≡ false → o ≡ equal
-      go less p q = absurd (false-true (sym q))
+      go less p q = absurd (clash q)
       go equal p q = refl
-      go greater p q = absurd (false-true (sym p))
+      go greater p q = absurd (clash p)
 
   pub total : (a b : ℕ) → a < length p → b < length p → AtMost p a b ⊎ AtMost p b a
   total a b h k = go (structuralCmp (length p) p a b) refl

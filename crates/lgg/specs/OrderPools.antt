@@ -12,13 +12,13 @@ use Rattle.spec.specs.Image.{Tables, kindOf, isCommutative}
 use Rattle.spec.specs.Pool.{Pool, joinTo, joinRuns, Interned, isGreater, structuralCmp, insertRun, sortRuns}
 use Rattle.spec.specs.Round.{Choice, stay, act, planRuns, actionTerm, choiceTerm}
 use Rattle.spec.specs.Meaning.{In, here, there, node, runsOf, treesAfter, treeAt}
-use Rattle.lgg.specs.Bag.{ok-inj}
 use Rattle.lgg.specs.Pool.{PoolValid}
 use Rattle.lgg.specs.PoolTrees.{trees-apart}
 use Rattle.lgg.specs.PoolSort.{plan-below, actionRuns, action-enters}
 use Rattle.lgg.specs.Best.{op-means}
 use Rattle.lgg.specs.OrderTerms.{termCmp}
 use Rattle.lgg.specs.Order.{as-expanded, tree-fuel}
+use Rattle.lgg.specs.Results.{ok-inj}
 
 -- number a of pool p and number b of pool q mean the same tree
 pub record Same (p q : Pool) (a b : ℕ) : Type 0 where

@@ -13,10 +13,10 @@ use borrow.Author.Tests.{ltb-true, ltb-false, eqb-true, eq-eqb, eqb-false}
 use Rattle.spec.specs.Bytes.{Two}
 use Rattle.spec.specs.Pool.{Order, less, equal, greater, then, past, runsCmp}
 use Rattle.spec.specs.Meaning.{In, here, there}
-use Rattle.lgg.specs.Bag.{in-cons}
 use Rattle.lgg.specs.BagCount.{written}
 use Rattle.lgg.specs.Pool.{Joined, none, one, more}
 use Rattle.lgg.specs.OrderTerms.{lex}
+use Rattle.lgg.specs.Lists.{in-cons}
 
 -- n copies, then more copies
 copies : (n k m a : ℕ) (s : List ℕ) → m ≡ n + k → replicate m a ++ s ≡ replicate n a ++ (replicate k a ++ s)

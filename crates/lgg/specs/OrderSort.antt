@@ -11,13 +11,14 @@ use lib.ListN.{length, replicate}
 use Rattle.spec.specs.Bytes.{Two, pick}
 use Rattle.spec.specs.Pool.{Pool, joinRuns, Order, less, equal, greater, structuralCmp, isGreater, insertRun, sortRuns}
 use Rattle.spec.specs.Meaning.{In, here, there, occurs, countIn}
-use Rattle.lgg.specs.Bag.{false-true, in-nil, in-cons, in-append, Perm, both, perm-sym, replicate-in}
+use Rattle.lgg.specs.Bag.{Perm, both, perm-sym, replicate-in}
 use Rattle.lgg.specs.BagCount.{written, in-written, join-written, written-perm, occurs-perm, occurs-written}
 use Rattle.lgg.specs.Pool.{Below, below-tail, PoolValid, join-below, join-joined}
 use Rattle.lgg.specs.PoolSort.{sort-perm, perm-below}
 use Rattle.lgg.specs.OrderTerms.{flip}
 use Rattle.lgg.specs.OrderRuns.{written-inj}
 use Rattle.lgg.specs.Order.{AtMost, reversible, transitive, antisymmetric, total}
+use Rattle.lgg.specs.Lists.{clash, in-append, in-cons, in-nil}
 
 -- each run's child at most the next one's
 pub data Sorted (p : Pool) : List Two → Type 0 where
@@ -31,8 +32,8 @@ module _ (p : Pool) (v : PoolValid p) where
   not-greater a b h k e = rw (reversible p v a b h k) (go (structuralCmp (length p) p a b) e)
     where
       go : (o : Order) → isGreater o ≡ true → isGreater (flip o) ≡ false
-      go less e = absurd (false-true e)
-      go equal e = absurd (false-true e)
+      go less e = absurd (clash (sym e))
+      go equal e = absurd (clash (sym e))
       go greater e = refl
 
   -- the head of an insertion is the new run or the old head
@@ -81,7 +82,7 @@ module _ (p : Pool) (v : PoolValid p) where
 
   copies-rise : (n a : ℕ) (l : List ℕ) → a < length p → ((b : ℕ) → In b l → AtMost p a b) → Rising l → Rising (replicate n a ++ l)
   copies-rise zero a l h k i = i
-  copies-rise (suc n) a l h k i = then {a = a} {l = replicate n a ++ l} (λ b j. elim (in-append (replicate n a) l j) [ inl x ↦ rw (replicate-in n x .0) (at-most-self a h) | inr y ↦ k b y ]) (copies-rise n a l h k i)
+  copies-rise (suc n) a l h k i = then {a = a} {l = replicate n a ++ l} (λ b j. elim (in-append (replicate n a) j) [ inl x ↦ rw (replicate-in n x .0) (at-most-self a h) | inr y ↦ k b y ]) (copies-rise n a l h k i)
 
   runs-rise : (l : List Two) → Below (length p) l → Sorted p l → Rising (written l)
   unfolding written

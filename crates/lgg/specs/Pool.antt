@@ -12,7 +12,7 @@ use lib.ListN.{length, getD, length-append, List·getD-append}
 use Rattle.spec.specs.Bytes.{pick, Two}
 use Rattle.spec.specs.Pool.{Node, Pool, nodeAt, OP, LIT, joinTo, joinRuns, opNode, litNode, variantsNode}
 use Rattle.spec.specs.Meaning.{In, here, there, Term, lit, node, variants, runsOf, firstBranch, secondBranch, treeOf, treesAfter, treeAt}
-use Rattle.lgg.specs.Bag.{in-nil, in-cons}
+use Rattle.lgg.specs.Lists.{in-cons, in-nil}
 
 -- ---- "runs of (child, count), neighbours with the same child joined"
 pub data Joined : List Two → Type 0 where

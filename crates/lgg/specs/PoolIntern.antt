@@ -12,36 +12,31 @@ use lib.ListN.{length, getD, length-append, List·getD-append}
 use Rattle.spec.specs.Bytes.{pick, both, place, Two, sameTwo, sameTwos, ok, refused}
 use Rattle.spec.specs.Pool.{Node, Pool, nodeAt, TERMS, RUNS, sameNode, runCount, Interned, interned, intern}
 use Rattle.spec.specs.Meaning.{treeOf, treesAfter, treeAt}
-use Rattle.lgg.specs.Bag.{ok-inj, refused-ok, false-true}
 use Rattle.lgg.specs.Pool.{NodeValid, PoolValid, getD-last, tree-last, tree-grows}
 use Rattle.lgg.specs.PoolTrees.{node-ext, tree-is}
+use Rattle.lgg.specs.Lists.{clash, same-eq, same-refl}
+use Rattle.lgg.specs.Results.{ok-inj, refused-ok}
 
 -- ---- tests
 pub both-true : (a b : Bool) → both a b ≡ true → (a ≡ true) × (b ≡ true)
 both-true true b e = (refl, e)
-both-true false b e = absurd (false-true e)
-
-pub same-two : (p q : Two) → sameTwo p q ≡ true → p ≡ q
-same-two p q e = let (a, b) = both-true (eqb (p .0) (q .0)) (eqb (p .1) (q .1)) e in ap₂ (λ (x y : ℕ). (x, y)) (eqb-true (p .0) (q .0) a) (eqb-true (p .1) (q .1) b)
-
-pub two-same : (p : Two) → sameTwo p p ≡ true
-two-same p = rw (eq-eqb (p .0) (p .0) refl, eq-eqb (p .1) (p .1) refl) refl
+both-true false b e = absurd (clash (sym e))
 
 pub same-twos : (l m : List Two) → sameTwos l m ≡ true → l ≡ m
 unfolding sameTwos
 same-twos [] [] e = refl
-same-twos [] (q ∷ m) e = absurd (false-true e)
-same-twos (p ∷ l) [] e = absurd (false-true e)
+same-twos [] (q ∷ m) e = absurd (clash (sym e))
+same-twos (p ∷ l) [] e = absurd (clash (sym e))
 same-twos (p ∷ l) (q ∷ m) e = go (sameTwo p q) refl (λ z. same-twos l m z)
   where
     go : (b : Bool) → sameTwo p q ≡ b → (sameTwos l m ≡ true → l ≡ m) → p ∷ l ≡ q ∷ m
-    go false x ih = absurd (false-true (rw (x, sameTwos) at e))
-    go true x ih = ap₂ (λ (a : Two) (b : List Two). a ∷ b) (same-two p q x) (ih (rw (x, sameTwos) at e))
+    go false x ih = absurd (clash (sym (rw (x, sameTwos) at e)))
+    go true x ih = ap₂ (λ (a : Two) (b : List Two). a ∷ b) (same-eq p q x) (ih (rw (x, sameTwos) at e))
 
 twos-same : (l : List Two) → sameTwos l l ≡ true
 unfolding sameTwos
 twos-same [] = refl
-twos-same (p ∷ l) = rw (two-same p, sameTwos) (twos-same l)
+twos-same (p ∷ l) = rw (same-refl p, sameTwos) (twos-same l)
 
 same-node : (x y : Node) → sameNode x y ≡ true → x ≡ y
 same-node x y e =
@@ -72,7 +67,7 @@ module _ {A : Type 0} (f : A → Bool) (d : A) where
     where
       go : (b : Bool) → f x ≡ b → (i : ℕ) → i < suc (length l) → f (getD (x ∷ l) i d) ≡ true → ((j : ℕ) → j < length l → f (getD l j d) ≡ true → place f l ≤ j) → place f (x ∷ l) ≤ i
       go true p i h e ih = rw (p, place) (omega arith)
-      go false p zero h e ih = absurd (false-true (sym p ∙ e))
+      go false p zero h e ih = absurd (clash (sym e ∙ p))
       go false p (suc i) h e ih = rw (p, place) (omega (arith, ih i (omega arith) e))
 
 -- ---- the pool grows at its end only

@@ -14,6 +14,7 @@ use Rattle.spec.specs.Meaning.{here, there, Term, lit, node, variants, Runs, ru
 use Rattle.lgg.specs.Bag.{map-append, map-replicate}
 use Rattle.lgg.specs.BagCount.{written}
 use Rattle.lgg.specs.Pool.{Below, below-tail, Formed, operation, literal, marked, NodeValid, PoolValid, numbered, trees-keep, getD-last, tree-operation, tree-literal, tree-marked}
+use Rattle.lgg.specs.Lists.{clash}
 
 -- ---- a node's tree depends on its children's alone
 runs-cong : (ts us : List Term) (i : ℕ) (l : List Two) → Below i l → ((a : ℕ) → a < i → numbered ts a ≡ numbered us a) → runsOf ts l ≡ runsOf us l

@@ -15,15 +15,17 @@ use Rattle.spec.specs.Pool.{Pool, opNode, Interned, interned}
 use Rattle.spec.specs.Round.{better, qualityOver, ones, problemOver, lookUp, stay, act, Turn, offer, offerActions, offerPlan, offerTransports, turnOf, planRuns, actionTerm, choiceTerm, Terms, prepend, turnsTerms}
 use Rattle.spec.specs.Meaning.{In, here, there, treeAt, Plan}
 use Rattle.laws.specs.Valid.{Valid}
-use Rattle.lgg.specs.Bag.{false-true, ok-inj, refused-ok, in-cons, both, perm-of-eq, perm-map}
+use Rattle.lgg.specs.Bag.{both, perm-of-eq, perm-map}
 use Rattle.lgg.specs.BagCount.{written, spread, map-spread, written-perm}
 use Rattle.lgg.specs.Pool.{PoolValid}
-use Rattle.lgg.specs.PoolIntern.{same-two, two-same, Grown, grown-refl, grown-trans, grown-within, grown-tree, Entered}
+use Rattle.lgg.specs.PoolIntern.{Grown, grown-refl, grown-trans, grown-within, grown-tree, Entered}
 use Rattle.lgg.specs.PoolSort.{plan-written, plan-below, actionRuns, action-perm, action-kept, action-enters}
 use Rattle.lgg.specs.ReadingsNode.{Good, AllGood, noPlace, good-node}
 use Rattle.lgg.specs.ReadingsNode as N
 use Rattle.lgg.specs.ReadingsActions.{Legal, structural-legal, transport-legal}
 use Rattle.lgg.specs.Best.{OpMeans, op-means, Makes}
+use Rattle.lgg.specs.Lists.{clash, in-cons, same-eq, same-refl}
+use Rattle.lgg.specs.Results.{ok-inj, refused-ok}
 
 -- ---- a term for each pair of a list, with its quality
 pub data Holds (t : Tables) (pool : Pool) : List Two → List Two → List ℕ → Type 0 where
@@ -42,8 +44,8 @@ unfolding place
 holds-look {t} {pool} (pair {p = p} {q = q} {a = a} {ps = ps} {qs = qs} {l = l} h k hs) c i = go (sameTwo c p) refl (in-cons i) (λ j. holds-look hs c j)
   where
     go : (b : Bool) → sameTwo c p ≡ b → (c ≡ p) ⊎ In c ps → (In c ps → GoodAt t pool (lookUp (0, 0) ps qs) (lookUp 0 ps l) c) → GoodAt t pool (lookUp (0, 0) (p ∷ ps) (q ∷ qs)) (lookUp 0 (p ∷ ps) (a ∷ l)) c
-    go true e z ih = rw (e, place, same-two c p e) (h, k)
-    go false e (inl z) ih = absurd (false-true (sym e ∙ rw z (two-same p)))
+    go true e z ih = rw (e, place, same-eq c p e) (h, k)
+    go false e (inl z) ih = absurd (clash (sym (rw z (same-refl p)) ∙ e))
     go false e (inr j) ih = rw (e, place) (ih j)
 
 -- what a list of pairs leaves when its checks have passed

@@ -7,7 +7,7 @@ use Prim.Native.Nat.{ℕ, zero, suc, _+_, _≤_, _<_, zero-le}
 use native.Mathlib.Omega.{arith}
 use native.Mathlib.Nat.{le-refl, le-trans, zero-add, suc-add, eq-or-lt-of-le}
 use lib.ListN.{length}
-use Rattle.spec.specs.Bytes.{any, place, Two}
+use Rattle.spec.specs.Bytes.{any, Two}
 use Rattle.spec.specs.Image.{Tables}
 use Rattle.spec.specs.Action.{cellPairs, joins}
 use Rattle.spec.specs.Round.{startingQuality, qualityOver, lookUp, Turn, changes, turnOf, turnsOf, next, qualitiesAfter}
