@@ -7,7 +7,7 @@ use Prim.Native.Nat.{ℕ, zero, suc, _+_, _*_, _≤_, _<_}
 use native.Mathlib.Nat.{not-suc-le-zero}
 use native.Mathlib.Omega.{arith}
 use lib.ListN.{length, getD, take, drop, replicate}
-use Rattle.spec.specs.Bytes.{each, filter, sum, Res, ok, refused, _>>=_}
+use Rattle.spec.specs.Bytes.{each, filter, sum}
 use Rattle.spec.specs.Meaning.{In, here, there}
 use Rattle.lgg.specs.Lists.{in-nil, in-cons, in-append}
 

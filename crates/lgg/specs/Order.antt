@@ -14,7 +14,7 @@ use Rattle.spec.specs.Meaning.{In, Term, treeOf, treesAfter, treeAt}
 use Rattle.lgg.specs.BagCount.{written, written-length, in-written, join-written}
 use Rattle.lgg.specs.Pool.{Formed, operation, literal, marked, PoolValid, tree-operation, tree-literal, tree-marked}
 use Rattle.lgg.specs.PoolTrees.{tree-is, expand-runs, node-ext}
-use Rattle.lgg.specs.OrderTerms.{headOf, opOf, valueOf, childrenOf, lex, termCmp, flip, Tri, compare-same, then-equal, lex-map, lex-agree, lex-same, term-flip, term-tri, term-refl}
+use Rattle.lgg.specs.OrderTerms.{headOf, opOf, valueOf, expandedChildren, lex, termCmp, flip, Tri, compare-same, then-equal, lex-map, lex-agree, lex-same, term-flip, term-tri, term-refl}
 use Rattle.lgg.specs.OrderRuns.{runs-as-lists, lists-as-lex, written-inj}
 use Rattle.lgg.specs.Lists.{clash}
 
@@ -23,10 +23,10 @@ pub record Parts (p : Pool) (n : Node) (s : Term) : Type 0 where
   pub head : headOf s ≡ n .head
   pub op : opOf s ≡ n .op
   pub value : valueOf s ≡ n .value
-  pub children : childrenOf s ≡ map (treeAt p) (written (n .runs))
+  pub children : expandedChildren s ≡ map (treeAt p) (written (n .runs))
 
 node-parts : (p : Pool) (n : Node) → Formed n → Parts p n (treeOf (treesAfter [] p) n)
-unfolding childrenOf written
+unfolding expandedChildren written
 node-parts p n (operation e z) = rw (tree-operation (treesAfter [] p) n e) (record { head = sym e; op = refl; value = sym z; children = expand-runs (treesAfter [] p) (n .runs) })
 node-parts p n (literal e z) = rw (tree-literal (treesAfter [] p) n e) (record { head = sym e; op = refl; value = refl; children = rw z refl })
 node-parts p n (marked a b e) = rw (e, tree-marked (treesAfter [] p) a b) (record { head = refl; op = refl; value = refl; children = sym (ap (map (treeAt p)) (join-written ((a, 1) ∷ (b, 1) ∷ []))) })
@@ -53,8 +53,8 @@ module _ (p : Pool) (v : PoolValid p) where
   unfolding termCmp
   by-nodes f a b h k =
       let A = tree-parts p v a h in let B = tree-parts p v b k in
-      let la : length (childrenOf (tree a)) ≡ expandedLength (nodeAt p a .runs) = ap (λ (z : List Term). length z) (A .children) ∙ length-map (kids a) (treeAt p) ∙ written-length (nodeAt p a .runs) in
-      let lb : length (childrenOf (tree b)) ≡ expandedLength (nodeAt p b .runs) = ap (λ (z : List Term). length z) (B .children) ∙ length-map (kids b) (treeAt p) ∙ written-length (nodeAt p b .runs) in
+      let la : length (expandedChildren (tree a)) ≡ expandedLength (nodeAt p a .runs) = ap (λ (z : List Term). length z) (A .children) ∙ length-map (kids a) (treeAt p) ∙ written-length (nodeAt p a .runs) in
+      let lb : length (expandedChildren (tree b)) ≡ expandedLength (nodeAt p b .runs) = ap (λ (z : List Term). length z) (B .children) ∙ length-map (kids b) (treeAt p) ∙ written-length (nodeAt p b .runs) in
       ap₂ then (ap₂ compareℕ (A .head) (B .head))
       (ap₂ then (ap₂ compareℕ (A .op) (B .op))
       (ap₂ then (ap₂ compareℕ (A .value) (B .value))
@@ -150,8 +150,8 @@ module _ (p : Pool) (v : PoolValid p) where
 
 -- ---- the theorems
 -- a does not stand after b: the test of `sortRuns`
-abbrev pub AtMost : Pool → ℕ → ℕ → Type 0
-AtMost p a b = isGreater (structuralCmp (length p) p a b) ≡ false
+abbrev pub NotAfter : Pool → ℕ → ℕ → Type 0
+NotAfter p a b = isGreater (structuralCmp (length p) p a b) ≡ false
 
 module _ (p : Pool) (v : PoolValid p) where
   -- "`structural_cmp` must order as it does on the expanded lists."
@@ -170,7 +170,7 @@ module _ (p : Pool) (v : PoolValid p) where
   pub equal-only : (a b : ℕ) → a < length p → b < length p → structuralCmp (length p) p a b ≡ equal → a ≡ b
   equal-only a b h k e = same-tree p v (length p) a b h k h k (sym (as-expanded a b h k) ∙ e)
 
-  pub transitive : (a b c : ℕ) → a < length p → b < length p → c < length p → AtMost p a b → AtMost p b c → AtMost p a c
+  pub transitive : (a b c : ℕ) → a < length p → b < length p → c < length p → NotAfter p a b → NotAfter p b c → NotAfter p a c
   transitive a b c h k l x y =
       rw (as-expanded a c h l) (go (termCmp (length p) (treeAt p a) (treeAt p b)) (termCmp (length p) (treeAt p b) (treeAt p c)) (termCmp (length p) (treeAt p a) (treeAt p c)) (term-tri (length p) (treeAt p a) (treeAt p b) (treeAt p c)) (rw (as-expanded a b h k) at x) (rw (as-expanded b c k l) at y))
     where
@@ -181,7 +181,7 @@ module _ (p : Pool) (v : PoolValid p) where
       go less greater z e p q = absurd (clash q)
       go greater y z e p q = absurd (clash p)
 
-  pub antisymmetric : (a b : ℕ) → a < length p → b < length p → AtMost p a b → AtMost p b a → a ≡ b
+  pub antisymmetric : (a b : ℕ) → a < length p → b < length p → NotAfter p a b → NotAfter p b a → a ≡ b
   antisymmetric a b h k x y = equal-only a b h k (go (structuralCmp (length p) p a b) x (rw (reversible a b h k) at y))
     where
       go : (o : Order) → isGreater o ≡ false → isGreater (flip o) ≡ false → o ≡ equal
@@ -189,10 +189,10 @@ module _ (p : Pool) (v : PoolValid p) where
       go equal p q = refl
       go greater p q = absurd (clash p)
 
-  pub total : (a b : ℕ) → a < length p → b < length p → AtMost p a b ⊎ AtMost p b a
+  pub total : (a b : ℕ) → a < length p → b < length p → NotAfter p a b ⊎ NotAfter p b a
   total a b h k = go (structuralCmp (length p) p a b) refl
     where
-      go : (o : Order) → structuralCmp (length p) p a b ≡ o → AtMost p a b ⊎ AtMost p b a
+      go : (o : Order) → structuralCmp (length p) p a b ≡ o → NotAfter p a b ⊎ NotAfter p b a
       go less e = inl (rw e refl)
       go equal e = inl (rw e refl)
       go greater e = inr (rw (reversible a b h k, e) refl)

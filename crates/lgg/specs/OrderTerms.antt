@@ -28,11 +28,11 @@ valueOf (node o r) = 0
 valueOf (variants a b) = 0
 
 -- the child list, every run written out
-unfoldable pub childrenOf : Term → List Term
+unfoldable pub expandedChildren : Term → List Term
 unfolding expand
-childrenOf (lit o v) = []
-childrenOf (node o r) = expand r
-childrenOf (variants a b) = a ∷ b ∷ []
+expandedChildren (lit o v) = []
+expandedChildren (node o r) = expand r
+expandedChildren (variants a b) = a ∷ b ∷ []
 
 -- from the left; a list before a longer one that it begins
 unfoldable pub lex : {A : Type 0} → (A → A → Order) → List A → List A → Order
@@ -43,13 +43,13 @@ lex cmp (x ∷ l) (y ∷ m) = then (cmp x y) (lex cmp l m)
 
 -- `structural_cmp` "as it does on the expanded lists". Fuel: above the depth.
 unfoldable pub termCmp : ℕ → Term → Term → Order
-unfolding childrenOf lex
+unfolding expandedChildren lex
 termCmp zero s t = equal
 termCmp (suc f) s t =
     then (compareℕ (headOf s) (headOf t))
     (then (compareℕ (opOf s) (opOf t))
     (then (compareℕ (valueOf s) (valueOf t))
-    (then (compareℕ (length (childrenOf s)) (length (childrenOf t))) (lex (termCmp f) (childrenOf s) (childrenOf t)))))
+    (then (compareℕ (length (expandedChildren s)) (length (expandedChildren t))) (lex (termCmp f) (expandedChildren s) (expandedChildren t)))))
 
 -- ---- reversed
 abbrev pub flip : Order → Order
@@ -216,8 +216,8 @@ term-flip (suc f) s t =
     turn (compareℕ (headOf s) (headOf t)) _ _ _ (compare-flip (headOf s) (headOf t))
     (turn (compareℕ (opOf s) (opOf t)) _ _ _ (compare-flip (opOf s) (opOf t))
     (turn (compareℕ (valueOf s) (valueOf t)) _ _ _ (compare-flip (valueOf s) (valueOf t))
-    (turn (compareℕ (length (childrenOf s)) (length (childrenOf t))) _ _ _ (compare-flip (length (childrenOf s)) (length (childrenOf t)))
-    (lex-flip (termCmp f) (λ a b. term-flip f a b) (childrenOf s) (childrenOf t)))))
+    (turn (compareℕ (length (expandedChildren s)) (length (expandedChildren t))) _ _ _ (compare-flip (length (expandedChildren s)) (length (expandedChildren t)))
+    (lex-flip (termCmp f) (λ a b. term-flip f a b) (expandedChildren s) (expandedChildren t)))))
   where
     turn : (x y x′ y′ : Order) → x′ ≡ flip x → y′ ≡ flip y → then x′ y′ ≡ flip (then x y)
     turn x y x′ y′ e k = ap₂ then e k ∙ sym (flip-then x y)
@@ -229,8 +229,8 @@ term-tri (suc f) s t u =
     tri-then (compareℕ (headOf s) (headOf t)) (compareℕ (headOf t) (headOf u)) (compareℕ (headOf s) (headOf u)) _ _ _ (compare-tri (headOf s) (headOf t) (headOf u))
     (tri-then (compareℕ (opOf s) (opOf t)) (compareℕ (opOf t) (opOf u)) (compareℕ (opOf s) (opOf u)) _ _ _ (compare-tri (opOf s) (opOf t) (opOf u))
     (tri-then (compareℕ (valueOf s) (valueOf t)) (compareℕ (valueOf t) (valueOf u)) (compareℕ (valueOf s) (valueOf u)) _ _ _ (compare-tri (valueOf s) (valueOf t) (valueOf u))
-    (tri-then (compareℕ (length (childrenOf s)) (length (childrenOf t))) (compareℕ (length (childrenOf t)) (length (childrenOf u))) (compareℕ (length (childrenOf s)) (length (childrenOf u))) _ _ _ (compare-tri (length (childrenOf s)) (length (childrenOf t)) (length (childrenOf u)))
-    (lex-tri (termCmp f) (λ a b c. term-tri f a b c) (childrenOf s) (childrenOf t) (childrenOf u)))))
+    (tri-then (compareℕ (length (expandedChildren s)) (length (expandedChildren t))) (compareℕ (length (expandedChildren t)) (length (expandedChildren u))) (compareℕ (length (expandedChildren s)) (length (expandedChildren u))) _ _ _ (compare-tri (length (expandedChildren s)) (length (expandedChildren t)) (length (expandedChildren u)))
+    (lex-tri (termCmp f) (λ a b c. term-tri f a b c) (expandedChildren s) (expandedChildren t) (expandedChildren u)))))
 
 pub term-refl : (f : ℕ) (s : Term) → termCmp f s s ≡ equal
 term-refl f s = go (termCmp f s s) (term-flip f s s)

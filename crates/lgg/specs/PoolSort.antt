@@ -15,8 +15,8 @@ use Rattle.spec.specs.Round.{planRuns, actionTerm}
 use Rattle.spec.specs.Meaning.{In, here, there}
 use Rattle.lgg.specs.Bag.{Perm, nil, skip, swap, both, perm-refl, perm-sym, perm-in}
 use Rattle.lgg.specs.BagCount.{written, spread}
-use Rattle.lgg.specs.Pool.{Below, below-nil, below-cons, PoolValid, op-valid}
-use Rattle.lgg.specs.PoolIntern.{Entered, intern-enters}
+use Rattle.lgg.specs.Pool.{RunsBelow, runs-below-nil, runs-below-cons, PoolValid, op-valid}
+use Rattle.lgg.specs.PoolIntern.{Interns, intern-enters}
 
 insert-perm : (p : Pool) (r : Two) (l : List Two) → Perm (r ∷ l) (insertRun p r l)
 unfolding insertRun
@@ -32,7 +32,7 @@ unfolding sortRuns
 sort-perm p [] = nil
 sort-perm p (r ∷ l) = both (skip r (sort-perm p l)) (insert-perm p r (sortRuns p l))
 
-pub perm-below : {i : ℕ} {l m : List Two} → Perm l m → Below i l → Below i m
+pub perm-below : {i : ℕ} {l m : List Two} → Perm l m → RunsBelow i l → RunsBelow i m
 perm-below q b = record { earlier = λ r j. b .earlier r (perm-in (perm-sym q) j); counted = λ r j. b .counted r (perm-in (perm-sym q) j) }
 
 -- places that are not used leave no run
@@ -46,15 +46,15 @@ plan-written of (p ∷ ps) (n ∷ x) = go (eqb n 0) refl (plan-written of ps x)
     go true e ih = rw (eqb-true n 0 e) ih
     go false e ih = ap (λ (z : List ℕ). replicate n (of p) ++ z) ih
 
-pub plan-below : (of : Two → ℕ) (i : ℕ) (ps : List Two) (x : List ℕ) → ((c : Two) → In c ps → of c < i) → Below i (planRuns of ps x)
+pub plan-below : (of : Two → ℕ) (i : ℕ) (ps : List Two) (x : List ℕ) → ((c : Two) → In c ps → of c < i) → RunsBelow i (planRuns of ps x)
 unfolding planRuns
-plan-below of i [] x h = below-nil i
-plan-below of i (p ∷ ps) [] h = below-nil i
+plan-below of i [] x h = runs-below-nil i
+plan-below of i (p ∷ ps) [] h = runs-below-nil i
 plan-below of i (p ∷ ps) (n ∷ x) h = go (eqb n 0) refl (plan-below of i ps x (λ c j. h c (there j)))
   where
-    go : (b : Bool) → eqb n 0 ≡ b → Below i (planRuns of ps x) → Below i (elim b [ true ↦ planRuns of ps x | false ↦ (of p, n) ∷ planRuns of ps x ])
+    go : (b : Bool) → eqb n 0 ≡ b → RunsBelow i (planRuns of ps x) → RunsBelow i (elim b [ true ↦ planRuns of ps x | false ↦ (of p, n) ∷ planRuns of ps x ])
     go true e ih = ih
-    go false e ih = below-cons {r = (of p, n)} (h p here) (let z : n ≢ 0 = eqb-false n 0 e in omega arith) ih
+    go false e ih = runs-below-cons {r = (of p, n)} (h p here) (let z : n ≢ 0 = eqb-false n 0 e in omega arith) ih
 
 -- "children of commutative kinds are sorted"
 abbrev pub actionRuns : Tables → Pool → ℕ → List Two → List Two
@@ -71,6 +71,6 @@ pub action-kept : (t : Tables) (p : Pool) (o : ℕ) (l : List Two) → isCommuta
 action-kept t p o l e = rw e refl
 
 -- The term of an operation over terms of the pool is entered, and the pool stays valid.
-pub action-enters : (t : Tables) (p : Pool) → PoolValid p → (o : ℕ) (l : List Two) (r : Interned) → Below (length p) l → actionTerm t p o l ≡ ok r → Entered p (opNode o (actionRuns t p o l)) r
+pub action-enters : (t : Tables) (p : Pool) → PoolValid p → (o : ℕ) (l : List Two) (r : Interned) → RunsBelow (length p) l → actionTerm t p o l ≡ ok r → Interns p (opNode o (actionRuns t p o l)) r
 unfolding actionTerm
 action-enters t p v o l r b e = intern-enters p (opNode o (actionRuns t p o l)) r v (op-valid (length p) o (actionRuns t p o l) (perm-below (action-perm t p o l) b)) e

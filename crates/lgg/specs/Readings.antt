@@ -1,25 +1,23 @@
 -- Demand 2, of a run: the term that the steps build has the reported quality, belongs to the left class read by the first branch at every marked place, and to the right class read by the second.
 use mathlib.Core.Path.{_≡_}
 use mathlib.Core.Bool.{Bool, true, false}
-use mathlib.Core.Option.{some}
 use mathlib.Core.List.{List, [], _∷_, map}
 use Prim.Native.Nat.{ℕ, zero, suc, _<_}
 use native.Mathlib.Omega.{arith}
 use lib.ListN.{length, getD}
 use Rattle.spec.specs.Bytes.{Two, any, ok, Checked, passed, cutShort}
 use Rattle.spec.specs.Image.{Tables}
-use Rattle.spec.specs.Transport.{Problem, solveCells}
 use Rattle.spec.specs.Graph.{build}
 use Rattle.spec.specs.Pool.{Pool, Interned, startingTerm}
 use Rattle.spec.specs.Round.{startingQuality, lookUp, changes, turnsOf, Terms}
 use Rattle.spec.specs.Run.{Outcome, startingTerms, State, outcome, roundTerms, afterRound, roundsFrom, started, afterStarting, afterBuilding, runOf}
-use Rattle.spec.specs.Meaning.{In, here, there, termQuality, readFirst, readSecond, treeAt, Belongs, Plan, Reachable, queried, joined}
+use Rattle.spec.specs.Meaning.{In, here, there, termQuality, readFirst, readSecond, treeAt, Belongs, Reachable, queried, joined}
 use Rattle.laws.specs.Valid.{Valid}
 use Rattle.lgg.specs.Turn.{TransportTheorems}
 use Rattle.lgg.specs.Enter.{Starts}
 use Rattle.lgg.specs.Graph.{Whole, build-whole, build-first}
 use Rattle.lgg.specs.Pool.{PoolValid, empty-valid}
-use Rattle.lgg.specs.ReadingsNode.{Good}
+use Rattle.lgg.specs.ReadingsNode.{TermFor}
 use Rattle.lgg.specs.BestMembers.{IsPair}
 use Rattle.lgg.specs.ReadingsWithin.{joins-within}
 use Rattle.lgg.specs.Best.{Makes, starting-made}
@@ -30,7 +28,7 @@ use Rattle.lgg.specs.Results.{bind-ok, ok-inj}
 pub record RunGood (t : Tables) (p : Two) (o : Outcome) : Type 0 where
   pub valid : PoolValid (o .pool)
   pub within : o .root < length (o .pool)
-  pub good : Good t p (o .quality) (treeAt (o .pool) (o .root))
+  pub good : TermFor t p (o .quality) (treeAt (o .pool) (o .root))
 
 reach-within : (t : Tables) → Valid t → (p q : Two) → IsPair t p → Reachable t p q → IsPair t q
 reach-within t v p q h (queried e) = rw e h

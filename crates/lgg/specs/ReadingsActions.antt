@@ -3,14 +3,14 @@ use mathlib.Core.Path.{_≡_, refl, sym, ap, _∙_}
 use mathlib.Core.Logic.{_≢_, _⊎_, inl, inr}
 use mathlib.Core.Bool.{Bool, true, false}
 use mathlib.Core.List.{List, [], _∷_, _++_, map}
-use Prim.Native.Nat.{ℕ, _-_}
+use Prim.Native.Nat.{ℕ}
 use native.Mathlib.Omega.{arith}
-use lib.Dec.{eqb, ltb}
+use lib.Dec.{eqb}
 use borrow.Author.Tests.{eqb-true, eqb-false}
 use lib.ListN.{length, getD, length-map}
 use Rattle.spec.specs.Bytes.{Two, pick, both, either, each, filter, any, upFrom}
 use Rattle.spec.specs.Image.{Tables, Member, SPair, Lit, NO-IDENTITY, arities, isAC, isCommutative, kindOf, identityOf, membersOf, childrenOf}
-use Rattle.spec.specs.Monomial.{Monomial, MonomialPair, pairOf, classes, total, insertAdd, monomial, itself, monomialsOf, padPair, bothItself, representationPairs, narrow, narrowPairs}
+use Rattle.spec.specs.Monomial.{Monomial, MonomialPair, classes, insertAdd, monomial, itself, monomialsOf, padPair, bothItself, representationPairs, narrow, narrowPairs}
 use Rattle.spec.specs.Action.{Action, TransportAction, zip, byPosition, straightAndCrossed, alignments, alignMembers, structural, acOps, transports, cellPairs, joins}
 use Rattle.spec.specs.Round.{ones, problemOver}
 use Rattle.spec.specs.Meaning.{In, occurs, countIn, Side, member, Plan}
@@ -23,7 +23,7 @@ use Rattle.lgg.specs.BagPlan.{plan-rows, plan-columns}
 use Rattle.lgg.specs.PoolIntern.{both-true}
 use Rattle.lgg.specs.ReadingsNode.{Covers, inOrder, anyOrder}
 use Rattle.lgg.specs.BestMembers.{IsClass, identity-class, child-within, child-single, member-arity}
-use Rattle.lgg.specs.Lists.{map-in, in-append, in-cons, in-each, in-left, in-map, in-nil, in-right}
+use Rattle.lgg.specs.Lists.{map-in, in-append, in-cons, in-each, in-left, in-nil, in-right}
 
 -- operation o over the places ps, with counts x, is an action of pair p: its left classes cover the left class, its right ones the right, and it joins the places
 pub record Legal (t : Tables) (p : Two) (o : ℕ) (ps : List Two) (x : List ℕ) : Type 0 where

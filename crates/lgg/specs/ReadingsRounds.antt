@@ -18,9 +18,9 @@ use Rattle.laws.specs.Valid.{Valid}
 use Rattle.lgg.specs.Bag.{both, perm-of-eq, perm-map}
 use Rattle.lgg.specs.BagCount.{written, spread, map-spread, written-perm}
 use Rattle.lgg.specs.Pool.{PoolValid}
-use Rattle.lgg.specs.PoolIntern.{Grown, grown-refl, grown-trans, grown-within, grown-tree, Entered}
+use Rattle.lgg.specs.PoolIntern.{Extends, extends-refl, extends-trans, extends-within, extends-tree, Interns}
 use Rattle.lgg.specs.PoolSort.{plan-written, plan-below, actionRuns, action-perm, action-kept, action-enters}
-use Rattle.lgg.specs.ReadingsNode.{Good, AllGood, noPlace, good-node}
+use Rattle.lgg.specs.ReadingsNode.{TermFor, TermsFor, noPlace, good-node}
 use Rattle.lgg.specs.ReadingsNode as N
 use Rattle.lgg.specs.ReadingsActions.{Legal, structural-legal, transport-legal}
 use Rattle.lgg.specs.Best.{OpMeans, op-means, Makes}
@@ -30,20 +30,20 @@ use Rattle.lgg.specs.Results.{ok-inj, refused-ok}
 -- ---- a term for each pair of a list, with its quality
 pub data Holds (t : Tables) (pool : Pool) : List Two → List Two → List ℕ → Type 0 where
   noPair : Holds t pool [] [] []
-  pair : {p q : Two} {a : ℕ} {ps qs : List Two} {l : List ℕ} → a < length pool → Good t p q (treeAt pool a) → Holds t pool ps qs l → Holds t pool (p ∷ ps) (q ∷ qs) (a ∷ l)
+  pair : {p q : Two} {a : ℕ} {ps qs : List Two} {l : List ℕ} → a < length pool → TermFor t p q (treeAt pool a) → Holds t pool ps qs l → Holds t pool (p ∷ ps) (q ∷ qs) (a ∷ l)
 
 -- the term `of c` is good for pair c and the quality q c
-abbrev pub GoodAt : Tables → Pool → (Two → Two) → (Two → ℕ) → Two → Type 0
-GoodAt t pool q of c = (of c < length pool) × Good t c (q c) (treeAt pool (of c))
+abbrev pub TermAt : Tables → Pool → (Two → Two) → (Two → ℕ) → Two → Type 0
+TermAt t pool q of c = (of c < length pool) × TermFor t c (q c) (treeAt pool (of c))
 
-grown-good : {t : Tables} {pool next : Pool} → Grown pool next → (p q : Two) (a : ℕ) → a < length pool → Good t p q (treeAt pool a) → Good t p q (treeAt next a)
-grown-good g p q a h k = rw (grown-tree g a h) k
+extends-good : {t : Tables} {pool next : Pool} → Extends pool next → (p q : Two) (a : ℕ) → a < length pool → TermFor t p q (treeAt pool a) → TermFor t p q (treeAt next a)
+extends-good g p q a h k = rw (extends-tree g a h) k
 
-pub holds-look : {t : Tables} {pool : Pool} {ps qs : List Two} {l : List ℕ} → Holds t pool ps qs l → (c : Two) → In c ps → GoodAt t pool (lookUp (0, 0) ps qs) (lookUp 0 ps l) c
+pub holds-look : {t : Tables} {pool : Pool} {ps qs : List Two} {l : List ℕ} → Holds t pool ps qs l → (c : Two) → In c ps → TermAt t pool (lookUp (0, 0) ps qs) (lookUp 0 ps l) c
 unfolding place
 holds-look {t} {pool} (pair {p = p} {q = q} {a = a} {ps = ps} {qs = qs} {l = l} h k hs) c i = go (sameTwo c p) refl (in-cons i) (λ j. holds-look hs c j)
   where
-    go : (b : Bool) → sameTwo c p ≡ b → (c ≡ p) ⊎ In c ps → (In c ps → GoodAt t pool (lookUp (0, 0) ps qs) (lookUp 0 ps l) c) → GoodAt t pool (lookUp (0, 0) (p ∷ ps) (q ∷ qs)) (lookUp 0 (p ∷ ps) (a ∷ l)) c
+    go : (b : Bool) → sameTwo c p ≡ b → (c ≡ p) ⊎ In c ps → (In c ps → TermAt t pool (lookUp (0, 0) ps qs) (lookUp 0 ps l) c) → TermAt t pool (lookUp (0, 0) (p ∷ ps) (q ∷ qs)) (lookUp 0 (p ∷ ps) (a ∷ l)) c
     go true e z ih = rw (e, place, same-eq c p e) (h, k)
     go false e (inl z) ih = absurd (clash (sym (rw z (same-refl p)) ∙ e))
     go false e (inr j) ih = rw (e, place) (ih j)
@@ -51,19 +51,19 @@ holds-look {t} {pool} (pair {p = p} {q = q} {a = a} {ps = ps} {qs = qs} {l = l} 
 -- what a list of pairs leaves when its checks have passed
 pub record Done (t : Tables) (pool : Pool) (ps qs : List Two) (r : Terms) : Type 0 where
   pub valid : PoolValid (r .pool)
-  pub grown : Grown pool (r .pool)
+  pub grown : Extends pool (r .pool)
   pub holds : Holds t (r .pool) ps qs (r .terms)
 
 done-cons : {t : Tables} (pool : Pool) (p q : Two) (ps qs : List Two) (a : Interned) (s : Terms) → Makes t pool p q a → Done t (a .pool) ps qs s → Done t pool (p ∷ ps) (q ∷ qs) (record { pool = s .pool; terms = a .term ∷ s .terms })
 done-cons pool p q ps qs a s A D = record {
   valid = D .valid;
-  grown = grown-trans (A .grown) (D .grown);
-  holds = pair (grown-within (D .grown) (a .term) (A .within)) (grown-good (D .grown) p q (a .term) (A .within) (A .good)) (D .holds);
+  grown = extends-trans (A .grown) (D .grown);
+  holds = pair (extends-within (D .grown) (a .term) (A .within)) (extends-good (D .grown) p q (a .term) (A .within) (A .good)) (D .holds);
 }
 
 -- no pair is left
 pub done-nil : {t : Tables} (pool : Pool) (b : ℕ) (r : Terms) (left : ℕ) → PoolValid pool → ok (passed (record { pool = pool; terms = [] }) b) ≡ ok (passed r left) → Done t pool [] [] r
-done-nil pool b r left u e = rw (← same e) (record { valid = u; grown = grown-refl pool; holds = noPair })
+done-nil pool b r left u e = rw (← same e) (record { valid = u; grown = extends-refl pool; holds = noPair })
   where
     same : ok (passed (record { pool = pool; terms = [] }) b) ≡ ok (passed r left) → record { pool = pool; terms = [] } ≡ r
     same e = cc
@@ -95,47 +95,47 @@ done-step {t} pool p q ps qs (ok a) rest r left m d e = go (rest (a .pool)) refl
 -- ---- turns
 module _ (t : Tables) (v : Valid t) (margins : (p : Problem) (x : List ℕ) → solveCells p ≡ some x → Plan p x) where
   -- what a turn says of its choice
-  pub data Won (q : Two → Two) (p : Two) (w : Turn) : Type 0 where
-    stayed : w .choice ≡ stay → w .quality ≡ q p → Won q p w
-    acted : (o : ℕ) (ps : List Two) (x : List ℕ) → w .choice ≡ act o ps x → w .quality ≡ qualityOver x (map q ps) → Legal t p o ps x → Won q p w
+  pub data Chosen (q : Two → Two) (p : Two) (w : Turn) : Type 0 where
+    stayed : w .choice ≡ stay → w .quality ≡ q p → Chosen q p w
+    acted : (o : ℕ) (ps : List Two) (x : List ℕ) → w .choice ≡ act o ps x → w .quality ≡ qualityOver x (map q ps) → Legal t p o ps x → Chosen q p w
 
-  offer-won : (q : Two → Two) (p : Two) (w : Turn) (o : ℕ) (ps : List Two) (x : List ℕ) → Legal t p o ps x → Won q p w → Won q p (offer (qualityOver x (map q ps)) (act o ps x) w)
-  offer-won q p w o ps x L W = go (better (qualityOver x (map q ps)) (w .quality))
+  offer-chosen : (q : Two → Two) (p : Two) (w : Turn) (o : ℕ) (ps : List Two) (x : List ℕ) → Legal t p o ps x → Chosen q p w → Chosen q p (offer (qualityOver x (map q ps)) (act o ps x) w)
+  offer-chosen q p w o ps x L W = go (better (qualityOver x (map q ps)) (w .quality))
     where
-      go : (b : Bool) → Won q p (pick b (record { quality = qualityOver x (map q ps); choice = act o ps x }) w)
+      go : (b : Bool) → Chosen q p (pick b (record { quality = qualityOver x (map q ps); choice = act o ps x }) w)
       go true = acted o ps x refl refl L
       go false = W
 
-  actions-won : (q : Two → Two) (p : Two) (l : List Action) → ((a : Action) → In a l → In a (structural t (p .0) (p .1))) → (w : Turn) → Won q p w → Won q p (offerActions q l w)
+  actions-chosen : (q : Two → Two) (p : Two) (l : List Action) → ((a : Action) → In a l → In a (structural t (p .0) (p .1))) → (w : Turn) → Chosen q p w → Chosen q p (offerActions q l w)
   unfolding offerActions
-  actions-won q p [] h w W = W
-  actions-won q p (a ∷ l) h w W = actions-won q p l (λ b i. h b (there i)) _ (offer-won q p w (a .op) (a .pairs) (ones (a .pairs)) (structural-legal t v p a (h a here)) W)
+  actions-chosen q p [] h w W = W
+  actions-chosen q p (a ∷ l) h w W = actions-chosen q p l (λ b i. h b (there i)) _ (offer-chosen q p w (a .op) (a .pairs) (ones (a .pairs)) (structural-legal t v p a (h a here)) W)
 
-  transports-won : (q : Two → Two) (p : Two) (l : List TransportAction) → ((a : TransportAction) → In a l → In a (transports t (p .0) (p .1))) → (w : Turn) → Won q p w → Won q p (offerTransports q l w)
+  transports-chosen : (q : Two → Two) (p : Two) (l : List TransportAction) → ((a : TransportAction) → In a l → In a (transports t (p .0) (p .1))) → (w : Turn) → Chosen q p w → Chosen q p (offerTransports q l w)
   unfolding offerTransports offerPlan
-  transports-won q p [] h w W = W
-  transports-won q p (a ∷ l) h w W = transports-won q p l (λ b i. h b (there i)) _ (go (solveCells P) refl)
+  transports-chosen q p [] h w W = W
+  transports-chosen q p (a ∷ l) h w W = transports-chosen q p l (λ b i. h b (there i)) _ (go (solveCells P) refl)
     where
       P : Problem
       P = problemOver a (map q (cellPairs (a .sides)))
 
-      go : (s : Option (List ℕ)) → solveCells P ≡ s → Won q p (offerPlan q a s w)
+      go : (s : Option (List ℕ)) → solveCells P ≡ s → Chosen q p (offerPlan q a s w)
       go none e = W
-      go (some x) e = offer-won q p w (a .op) (cellPairs (a .sides)) x (transport-legal t v p a (h a here) (map q (cellPairs (a .sides))) x (margins P x e)) W
+      go (some x) e = offer-chosen q p w (a .op) (cellPairs (a .sides)) x (transport-legal t v p a (h a here) (map q (cellPairs (a .sides))) x (margins P x e)) W
 
-  pub turn-won : (q : Two → Two) (p : Two) → Won q p (turnOf t q p)
+  pub turn-chosen : (q : Two → Two) (p : Two) → Chosen q p (turnOf t q p)
   unfolding turnOf
-  turn-won q p =
-      transports-won q p (transports t (p .0) (p .1)) (λ a i. i) _
-      (actions-won q p (structural t (p .0) (p .1)) (λ a i. i) _ (stayed refl refl))
+  turn-chosen q p =
+      transports-chosen q p (transports t (p .0) (p .1)) (λ a i. i) _
+      (actions-chosen q p (structural t (p .0) (p .1)) (λ a i. i) _ (stayed refl refl))
 
   -- ---- terms
-  places-good : (pool : Pool) (q : Two → Two) (of : Two → ℕ) (ps : List Two) → ((c : Two) → In c ps → GoodAt t pool q of c) → AllGood t ps (map q ps) (map (treeAt pool) (map of ps))
+  places-good : (pool : Pool) (q : Two → Two) (of : Two → ℕ) (ps : List Two) → ((c : Two) → In c ps → TermAt t pool q of c) → TermsFor t ps (map q ps) (map (treeAt pool) (map of ps))
   places-good pool q of [] h = noPlace
   places-good pool q of (c ∷ ps) h = N.place (h c here .1) (places-good pool q of ps (λ d i. h d (there i)))
 
   pub action-made : (pool : Pool) (p : Two) (q : Two → Two) (of : Two → ℕ) (o : ℕ) (ps : List Two) (x : List ℕ) (r : Interned) → PoolValid pool → Legal t p o ps x
-      → ((c : Two) → In c ps → GoodAt t pool q of c) → actionTerm t pool o (planRuns of ps x) ≡ ok r → Makes t pool p (qualityOver x (map q ps)) r
+      → ((c : Two) → In c ps → TermAt t pool q of c) → actionTerm t pool o (planRuns of ps x) ≡ ok r → Makes t pool p (qualityOver x (map q ps)) r
   action-made pool p q of o ps x r u L h e = record {
     valid = E .valid;
     grown = E .grown;
@@ -149,7 +149,7 @@ module _ (t : Tables) (v : Valid t) (margins : (p : Problem) (x : List ℕ) → 
       l : List Two
       l = planRuns of ps x
 
-      E : Entered pool (opNode o (actionRuns t pool o l)) r
+      E : Interns pool (opNode o (actionRuns t pool o l)) r
       E = action-enters t pool u o l r (plan-below of (length pool) ps x (λ c i. h c i .0)) e
 
       M : OpMeans pool o (actionRuns t pool o l) r
@@ -159,27 +159,27 @@ module _ (t : Tables) (v : Valid t) (margins : (p : Problem) (x : List ℕ) → 
       written-is = ap (map (treeAt pool)) (plan-written of ps x) ∙ map-spread (treeAt pool) (map of ps) x
 
   -- "one final term for each pair improved in a round, from the previous round's terms"
-  pub choice-made : (pool : Pool) (p : Two) (q : Two → Two) (of : Two → ℕ) (w : Turn) (r : Interned) → PoolValid pool → Won q p w
-      → GoodAt t pool q of p → ((c : Two) → In c (joins t p) → GoodAt t pool q of c) → choiceTerm t of pool (of p) (w .choice) ≡ ok r → Makes t pool p (w .quality) r
+  pub choice-made : (pool : Pool) (p : Two) (q : Two → Two) (of : Two → ℕ) (w : Turn) (r : Interned) → PoolValid pool → Chosen q p w
+      → TermAt t pool q of p → ((c : Two) → In c (joins t p) → TermAt t pool q of c) → choiceTerm t of pool (of p) (w .choice) ≡ ok r → Makes t pool p (w .quality) r
   unfolding choiceTerm
   choice-made pool p q of w r u (stayed c k) g h e = rw k (stays (rw c at e))
     where
       stays : ok (interned pool (of p)) ≡ ok r → Makes t pool p (q p) r
-      stays z = rw (← ok-inj z) (record { valid = u; grown = grown-refl pool; within = g .0; good = g .1 })
+      stays z = rw (← ok-inj z) (record { valid = u; grown = extends-refl pool; within = g .0; good = g .1 })
   choice-made pool p q of w r u (acted o ps x c k L) g h e = rw k (action-made pool p q of o ps x r u L (λ d i. h d (L .joined d i)) (rw c at e))
 
   -- the turns of a round in order
   pub turns-done : (q : Two → Two) (of : Two → ℕ) (ps : List Two) (b : ℕ) (pool : Pool) (r : Terms) (left : ℕ) → PoolValid pool
-      → ((p : Two) → In p ps → GoodAt t pool q of p × ((c : Two) → In c (joins t p) → GoodAt t pool q of c))
+      → ((p : Two) → In p ps → TermAt t pool q of p × ((c : Two) → In c (joins t p) → TermAt t pool q of c))
       → turnsTerms t of ps (map (turnOf t q) ps) b pool ≡ ok (passed r left) → Done t pool ps (map (λ w. w .quality) (map (turnOf t q) ps)) r
   unfolding turnsTerms
   turns-done q of [] b pool r left u h e = done-nil pool b r left u e
   turns-done q of (p ∷ ps) zero pool r left u h e = let z : _≡_ {A = ℕ} 0 1 = cc in absurd (omega arith)
   turns-done q of (p ∷ ps) (suc b) pool r left u h e =
       done-step pool p (turnOf t q p .quality) ps (map (λ w. w .quality) (map (turnOf t q) ps)) (choiceTerm t of pool (of p) (turnOf t q p .choice)) (λ next. turnsTerms t of ps (map (turnOf t q) ps) b next) r left
-      (λ a k. choice-made pool p q of (turnOf t q p) a u (turn-won q p) (h p here .0) (h p here .1) k)
+      (λ a k. choice-made pool p q of (turnOf t q p) a u (turn-chosen q p) (h p here .0) (h p here .1) k)
       (λ a s A k. turns-done q of ps b (a .pool) s left (A .valid) (λ c i. (later (A .grown) c (h c (there i) .0), λ d j. later (A .grown) d (h c (there i) .1 d j))) k)
       e
     where
-      later : {next : Pool} → Grown pool next → (c : Two) → GoodAt t pool q of c → GoodAt t next q of c
-      later g c (a, b) = (grown-within g (of c) a, grown-good g c (q c) (of c) a b)
+      later : {next : Pool} → Extends pool next → (c : Two) → TermAt t pool q of c → TermAt t next q of c
+      later g c (a, b) = (extends-within g (of c) a, extends-good g c (q c) (of c) a b)

@@ -1,27 +1,24 @@
 -- Pairs of classes of the image join pairs of classes of the image.
-use mathlib.Core.Path.{_≡_, refl, sym, ap}
-use mathlib.Core.Logic.{_≢_, _⊎_, inl, inr}
+use mathlib.Core.Path.{_≡_, refl, sym}
+use mathlib.Core.Logic.{_⊎_, inl, inr}
 use mathlib.Core.Bool.{Bool, true, false}
 use mathlib.Core.List.{List, [], _∷_, map}
-use Prim.Native.Nat.{ℕ, _+_, _-_, _≤_, _<_}
-use native.Mathlib.Decide.{decLt}
+use Prim.Native.Nat.{ℕ, _+_, _≤_}
 use native.Mathlib.Omega.{arith}
-use lib.Dec.{eqb, ltb}
-use borrow.Author.Tests.{eqb-true, eqb-false, eq-eqb}
-use lib.ListN.{length, List·getD-eq-default}
-use Rattle.spec.specs.Bytes.{Two, pick, both, each, filter}
-use Rattle.spec.specs.Image.{Tables, NO-IDENTITY, identityOf, membersOf, childrenOf}
-use Rattle.spec.specs.Monomial.{Monomial, MonomialPair, pairOf, classes, total, insertAdd, monomial, itself, monomialsOf, padPair, bothItself, representationPairs, narrow, narrowPairs}
-use Rattle.spec.specs.Action.{Action, TransportAction, structural, acOps, transports, cellPairs, joins}
+use lib.Dec.{eqb}
+use borrow.Author.Tests.{eqb-true, eq-eqb}
+use Rattle.spec.specs.Bytes.{Two, pick, each}
+use Rattle.spec.specs.Image.{Tables, childrenOf}
+use Rattle.spec.specs.Monomial.{MonomialPair, classes}
+use Rattle.spec.specs.Action.{Action, structural, transports, cellPairs, joins}
 use Rattle.spec.specs.Meaning.{In, here, there, occurs, countIn, Side, member, padded}
 use Rattle.spec.specs.Meaning as M
 use Rattle.laws.specs.Valid.{Valid}
-use Rattle.lgg.specs.Bag.{each-in, filter-in}
-use Rattle.lgg.specs.BagCount.{insert-all, monomial-all}
+use Rattle.lgg.specs.Bag.{each-in}
 use Rattle.lgg.specs.ReadingsNode.{Covers, inOrder, anyOrder}
 use Rattle.lgg.specs.ReadingsActions.{AllClasses, transport-carries, structural-legal, once}
 use Rattle.lgg.specs.BestMembers.{IsClass, IsPair, identity-class, child-within}
-use Rattle.lgg.specs.Lists.{in-append, in-cons, in-each, in-map, in-nil, map-in}
+use Rattle.lgg.specs.Lists.{in-append, in-cons, in-map, in-nil, map-in}
 
 occurs-in : (k : ℕ) (l : List ℕ) → In k l → 1 ≤ occurs k l
 unfolding occurs
