@@ -32,3 +32,4 @@ pub mod OrderRuns
 pub mod Order
 pub mod OrderSort
 pub mod OrderPools
+pub mod OrderListing

@@ -14,6 +14,7 @@ use Rattle.spec.specs.Round.{Choice, stay, act, planRuns, actionTerm, choiceTer
 use Rattle.spec.specs.Meaning.{In, here, there, node, runsOf, treesAfter, treeAt}
 use Rattle.lgg.specs.Pool.{PoolValid}
 use Rattle.lgg.specs.PoolTrees.{trees-apart}
+use Rattle.lgg.specs.PoolIntern.{Extends, extends-within, extends-tree}
 use Rattle.lgg.specs.PoolSort.{plan-below, actionRuns, action-enters}
 use Rattle.lgg.specs.Best.{op-means}
 use Rattle.lgg.specs.OrderTerms.{termCmp}
@@ -26,9 +27,13 @@ pub record Same (p q : Pool) (a b : ℕ) : Type 0 where
   pub right : b < length q
   pub tree : treeAt p a ≡ treeAt q b
 
+-- in a pool that has grown a number means what it meant
+pub same-extends : {p q : Pool} → Extends p q → (a : ℕ) → a < length p → Same p q a a
+same-extends g a h = record { left = h; right = extends-within g a h; tree = sym (extends-tree g a h) }
+
 module _ (p q : Pool) (v : PoolValid p) (w : PoolValid q) where
   -- runs of the same trees with the same counts
-  data Alike : List Two → List Two → Type 0 where
+  pub data Alike : List Two → List Two → Type 0 where
     none : Alike [] []
     next : {r s : Two} {l m : List Two} → Same p q (r .0) (s .0) → r .1 ≡ s .1 → Alike l m → Alike (r ∷ l) (s ∷ m)
 
@@ -43,7 +48,7 @@ module _ (p q : Pool) (v : PoolValid p) (w : PoolValid q) where
       ∙ tree-fuel q w n (length q) c d (omega arith) (omega arith) ar br ar br
       ∙ sym (as-expanded q w c d ar br)
 
-  eqb-same : (a b c d : ℕ) → Same p q a c → Same p q b d → eqb a b ≡ eqb c d
+  pub eqb-same : (a b c d : ℕ) → Same p q a c → Same p q b d → eqb a b ≡ eqb c d
   eqb-same a b c d A B = go (eqb a b) refl
     where
       go : (x : Bool) → eqb a b ≡ x → eqb a b ≡ eqb c d
@@ -74,7 +79,7 @@ module _ (p q : Pool) (v : PoolValid p) (w : PoolValid q) where
       go true c z = rw (← z) (next {r = (r .0, r .1 + x .1)} {s = (s .0, s .1 + y .1)} h (ap₂ (λ (a b : ℕ). a + b) e f) i)
       go false c z = rw (← z) (next h e (next g f i))
 
-  join-alike : {l m : List Two} → Alike l m → Alike (joinRuns l) (joinRuns m)
+  pub join-alike : {l m : List Two} → Alike l m → Alike (joinRuns l) (joinRuns m)
   unfolding joinRuns
   join-alike none = none
   join-alike (next {r = r} {s = s} {l = l} {m = m} h e i) = joinTo-alike r s (joinRuns l) (joinRuns m) h e (join-alike i)
@@ -116,3 +121,14 @@ choice-anywhere t p q v w of of′ old old′ (act o ps x) S P r s e f =
     action-tree t p v of o ps x r (λ c i. P c i .left) e
     ∙ ap (node o) (runs-same p q v w (join-alike p q v w (picked p q v w (isCommutative (kindOf t o)) (plan-alike p q v w of of′ ps x P))))
     ∙ sym (action-tree t q w of′ o ps x s (λ c i. P c i .right) f)
+
+-- the places that a choice uses stand in the pool
+abbrev pub PlacesWithin : Pool → (Two → ℕ) → Choice → Type 0
+PlacesWithin p of stay = Unit
+PlacesWithin p of (act o ps x) = (c : Two) → In c ps → of c < length p
+
+-- So over a pool and over a larger one: what else has been interned changes nothing.
+pub choice-larger : (t : Tables) (p q : Pool) → PoolValid p → PoolValid q → Extends p q → (of : Two → ℕ) (old : ℕ) (ch : Choice) → old < length p → PlacesWithin p of ch
+    → (r s : Interned) → choiceTerm t of p old ch ≡ ok r → choiceTerm t of q old ch ≡ ok s → treeAt (r .pool) (r .term) ≡ treeAt (s .pool) (s .term)
+choice-larger t p q v w g of old stay h k = choice-anywhere t p q v w of of old old stay (same-extends g old h) tt
+choice-larger t p q v w g of old (act o ps x) h k = choice-anywhere t p q v w of of old old (act o ps x) (same-extends g old h) (λ c i. same-extends g (of c) (k c i))
