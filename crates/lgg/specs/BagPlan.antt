@@ -1,4 +1,4 @@
--- A plan's cells written out: "row sums give the left member's children .., column sums the right's", by counting.
+-- "Row and column sums of the plan equal the margins": written out, the cells of a plan have the rows as their left classes and the columns as their right ones.
 use mathlib.Core.Path.{_≡_, refl, sym, ap, ap₂, _∙_}
 use mathlib.Core.List.{List, [], _∷_, _++_, map}
 use Prim.Native.Nat.{ℕ, zero, suc, _+_, _*_, _<_}

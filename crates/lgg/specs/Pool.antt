@@ -1,4 +1,4 @@
--- The pool: what keeps its entries in order, what its numbers mean as trees, and what interning does.
+-- The pool: what keeps its entries in order, and what its numbers mean as trees.
 use mathlib.Core.Path.{_≡_, refl, sym, _∙_}
 use mathlib.Core.Logic.{_≢_, inl, inr}
 use mathlib.Core.Bool.{Bool, true, false}
