@@ -1,0 +1,4 @@
+pub mod OperationLaws
+pub mod SpanLaws
+pub mod ChildLaws
+pub mod BestLaws

@@ -1,0 +1,40 @@
+use Rattle.rules.proofs.BestLaws.{product-le}
+use Rattle.spec.specs.Image.{tablesOf}
+use Prim.Native.Nat.{ℕ}
+use native.Mathlib.Omega.{arith}
+use mathlib.Core.Path.{refl, ap}
+use borrow.Author.Needs.{needs}
+use Rattle.rules.proofs.bests.child_size.Statement.{statement}
+use Rattle.rules.proofs.bests.child_size.Tie as tie
+
+-- src/bests.rt:17:5
+child-times-requires : tie.Need-child-times-requires
+child-times-requires c κs = search needs
+
+-- src/bests.rt:17:46
+child-class-requires : tie.Need-child-class-requires
+child-class-requires c κs = search needs
+
+-- src/bests.rt:17:29
+best-size-requires : tie.Need-best-size-requires
+best-size-requires c κs =
+    let b = c .before .before .before in (b .pre .0, omega (arith, ap (λ (k : ℕ). k) (c .child-class .ensures .0), b .pre .2))
+
+-- src/bests.rt:17:5
+mul-result : tie.Need-mul-result
+mul-result c =
+    record { fits = omega (arith, product-le (c .before .before .child-times .result) (c .best-size .result) (omega arith) (omega arith)) }
+
+-- src/bests.rt:13:1
+returns : tie.Need-returns
+returns c =
+    let b = c .before .before .before .before in
+    let t = tablesOf (b .args .s .now) in (
+      rw (c .before .before .child-times .ensures .0, ← c .before .child-class .ensures .0, c .best-size .ensures .0) refl,
+      product-le (c .before .before .child-times .result) (c .best-size .result) (omega arith) (omega arith),
+    )
+
+pub child-size-spec : {M : Type 1} → statement M
+child-size-spec =
+    tie.close
+    (tie.spec child-times-requires child-class-requires best-size-requires mul-result returns)

@@ -1,0 +1,5 @@
+pub mod Words
+pub mod Order
+pub mod Columns
+pub mod Times
+pub mod Cap
