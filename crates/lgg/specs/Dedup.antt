@@ -7,7 +7,8 @@ use mathlib.Core.Option.{Option, none, some}
 use Prim.Native.Nat.{ℕ, _+_, _*_}
 use native.Mathlib.Omega.{arith}
 use lib.Dec.{eqb}
-use Rattle.spec.specs.Bytes.{both, each, Two, Res, ok, refused, _>>=_}
+use Rattle.spec.specs.Bytes as S
+use Rattle.spec.specs.Bytes.{each, Two, Res, ok, refused, _>>=_}
 use Rattle.spec.specs.Image.{Tables, identityOf}
 use Rattle.spec.specs.Monomial.{Monomial, MonomialPair, monomialsOf, padPair, bothItself, representationPairs, narrow, narrowPairs}
 use Rattle.spec.specs.Transport.{planSize, planMass}
@@ -19,31 +20,20 @@ use Rattle.lgg.specs.Lists.{in-nil, in-cons, in-any}
 use Rattle.lgg.specs.Quality.{⊑-refl, ⊑-of-eq, ⊑-trans, ⊏-not, better-is, two-eq, Total}
 use Rattle.lgg.specs.Turn.{actionQuality, cellQualities, solved, offer-old, offer-new, actions-new, plan-new, transports-new}
 use Rattle.lgg.specs.Enter.{Entered, grown, enter-says, starts-in}
+use Rattle.lgg.specs.Bag.{Perm, nil, skip, swap, both, perm-in, perm-sym}
 use Rattle.lgg.specs.Repeats.{Fewer, done, keep, drop, Equal, fewer-all, fewer-seen, fewer-append, fewer-in, fewer-each, fewer-map, fewer-filter, fewer-trans}
 
 -- ---- the same action twice: by operation and joined pairs, in whatever order (the signature of `dedup_and_insert`)
-pub data Perm {A : Type 0} : List A → List A → Type 0 where
-  nil : Perm [] []
-  skip : {x : A} {l m : List A} → Perm l m → Perm (x ∷ l) (x ∷ m)
-  swap : {x y : A} {l : List A} → Perm (x ∷ y ∷ l) (y ∷ x ∷ l)
-  then : {l m n : List A} → Perm l m → Perm m n → Perm l n
-
 pub record Repeats (a b : Action) : Type 0 where
   pub op : a .op ≡ b .op
   pub pairs : Perm (a .pairs) (b .pairs)
 
-perm-in : {A : Type 0} (l m : List A) → Perm l m → (z : A) → In z m → In z l
-perm-in l m nil z i = i
-perm-in l m (skip {x = x} {l = j} {m = k} d) z i = elim (in-cons i) [ inl e ↦ rw e here | inr h ↦ there (perm-in j k d z h) ]
-perm-in l m (swap {x = x} {y = y} {l = k}) z i = elim (in-cons i) [ inl e ↦ there {l = y ∷ k} (rw e here) | inr h ↦ elim (in-cons h) [ inl e ↦ rw e here | inr j ↦ there (there j) ] ]
-perm-in l m (then {m = k} d e) z i = perm-in l k d z (perm-in k m e z i)
-
 perm-total : (q : Two → Two) (l m : List Two) → Perm l m → Total (ones l) (map q l) ≡ Total (ones m) (map q m)
 unfolding planSize planMass
 perm-total q l m nil = refl
-perm-total q l m (skip {x = x} {l = j} {m = k} d) = ap {B = Two} (λ (z : Two). (1 * q x .0 + z .0, 1 * q x .1 + z .1)) (perm-total q j k d)
-perm-total q l m swap = two-eq (omega arith) (omega arith)
-perm-total q l m (then {m = k} d e) = perm-total q l k d ∙ perm-total q k m e
+perm-total q l m (skip x {l = j} {m = k} d) = ap {B = Two} (λ (z : Two). (1 * q x .0 + z .0, 1 * q x .1 + z .1)) (perm-total q j k d)
+perm-total q l m (swap x y k) = two-eq (omega arith) (omega arith)
+perm-total q l m (both {m = k} d e) = perm-total q l k d ∙ perm-total q k m e
 
 repeat-quality : (q : Two → Two) (a b : Action) → Repeats a b → actionQuality q a ≡ actionQuality q b
 repeat-quality q a b r = ap {B = Two} (λ (z : Two). (1 + z .0, z .1)) (perm-total q (a .pairs) (b .pairs) (r .pairs))
@@ -151,7 +141,7 @@ joins-without-repeats t p ps l m d e = sym (enterAll-fewer [] (joins t p) (kept 
     kept = each (λ a. a .pairs) l
 
     first : Fewer Equal [] (each (λ a. a .pairs) (structural t (p .0) (p .1))) kept
-    first = fewer-each (λ a. a .pairs) (λ a. a .pairs) [] [] (structural t (p .0) (p .1)) l (λ a s. fewer-all (a .pairs) s) (λ y x r z i. perm-in (y .pairs) (x .pairs) (r .pairs) z i) (λ y i. absurd (in-nil i)) d
+    first = fewer-each (λ a. a .pairs) (λ a. a .pairs) [] [] (structural t (p .0) (p .1)) l (λ a s. fewer-all (a .pairs) s) (λ y x r z i. perm-in (perm-sym (r .pairs)) i) (λ y i. absurd (in-nil i)) d
 
     second : Fewer Equal (kept ++ []) (each cells (transports t (p .0) (p .1))) (each cells m)
     second = fewer-each cells cells [] (kept ++ []) (transports t (p .0) (p .1)) m (λ a s. fewer-all (cells a) s) (λ y x r z i. subst (λ a. In z (cells a)) (sym r) i) (λ y i. absurd (in-nil i)) e
@@ -185,7 +175,7 @@ transports-without-repeats t l r ls rs ms d e f = go (eqb l r)
     make o l = map (λ m. record { op = o; sides = m }) (narrowPairs l)
 
     made : (o : ℕ) → Fewer Equal [] (make o (representationPairs t l r o)) (make o (ms o))
-    made o = fewer-map (λ m. record { op = o; sides = m }) [] (narrowPairs (representationPairs t l r o)) (narrowPairs (ms o)) (fewer-filter (λ p. both (narrow (p .rows)) (narrow (p .cols))) [] [] (representationPairs t l r o) (ms o) (λ x i. absurd (in-nil i)) (sides o))
+    made o = fewer-map (λ m. record { op = o; sides = m }) [] (narrowPairs (representationPairs t l r o)) (narrowPairs (ms o)) (fewer-filter (λ p. S.both (narrow (p .rows)) (narrow (p .cols))) [] [] (representationPairs t l r o) (ms o) (λ x i. absurd (in-nil i)) (sides o))
 
     go : (b : Bool) → Fewer {A = TransportAction} Equal [] (elim b [ true ↦ [] | false ↦ each (λ o. make o (representationPairs t l r o)) (acOps t l r) ]) (elim b [ true ↦ [] | false ↦ each (λ o. make o (ms o)) (acOps t l r) ])
     go true = done

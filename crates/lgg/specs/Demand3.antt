@@ -20,7 +20,7 @@ use Rattle.spec.specs.Merge.{mergeOf}
 use Rattle.spec.specs.Meaning.{In, _⊑_, Derivation, Reachable}
 use Rattle.lgg.specs.Lists.{clash, Distinct}
 use Rattle.lgg.specs.Results.{refused-ok, ok-inj}
-use Rattle.lgg.specs.Turn.{TransportTheorems}
+use Rattle.lgg.specs.Transport.{transport-theorems}
 use Rattle.lgg.specs.Rounds.{LeastOf, qualityAfter, changed, q-start, quiet-same, changed-differs, attained, least, least-every, bound}
 use Rattle.lgg.specs.Graph.{PairCount, some-count, count-unique, build-closed, build-whole, build-first, build-passed, build-cut, build-same, build-short, build-enough, build-over, build-at}
 use Rattle.lgg.specs.Count as C
@@ -49,11 +49,11 @@ graph-checks t p n count few =
     let (ps, l, e) = build-at t p n count few in
     (ps, l, λ b. ((λ h. build-short t p n 0 ps e b (omega arith)), λ h. build-enough t p n 0 ps e b (b - n) (omega arith)))
 
-module _ (T : TransportTheorems) (t : Tables) (p : Two) where
+module _ (t : Tables) (p : Two) where
   -- ---- 6. least of height r
   -- After r finished rounds every pair of the graph has the quality of one of its derivations of height at most r, and every such derivation has at least as much.
   pub least-after-rounds : (b c : ℕ) (ps : List Two) → build t p b ≡ ok (passed ps c) → (r : ℕ) (q : Two) → In q ps → LeastOf t r q (qualityAfter t ps r q)
-  least-after-rounds b c ps e r q i = (attained T t ps (build-closed t p b c ps e) r q i, least T t ps (build-closed t p b c ps e) r q i)
+  least-after-rounds b c ps e r q i = (attained transport-theorems t ps (build-closed t p b c ps e) r q i, least transport-theorems t ps (build-closed t p b c ps e) r q i)
 
   -- A run that reports r rounds has the quality of one of the queried pair's derivations of height at most r, and every such derivation has at least as much.
   pub least-of-height : (b : ℕ) (o : Outcome) → runOf t p b ≡ ok o → LeastOf t (o .rounds) p (o .quality)
@@ -75,7 +75,7 @@ module _ (T : TransportTheorems) (t : Tables) (p : Two) where
       go (inBuilding root k s) = partial root 1 s
       go (inStarting root ps c k l s) = partial root (length ps) s
       go (inRounds ps c m k l f) =
-          rw (root-quality t p b c m ps o k f) (least-every T t ps (build-closed t p b c ps k) (o .rounds) (quiet-if-complete t ps m o f full) p (root-in t p b c ps k) h z d)
+          rw (root-quality t p b c m ps o k f) (least-every transport-theorems t ps (build-closed t p b c ps k) (o .rounds) (quiet-if-complete t ps m o f full) p (root-in t p b c ps k) h z d)
 
   -- ---- 8. the bound
   -- The round with index n, and every later one, changes nothing.
@@ -83,7 +83,7 @@ module _ (T : TransportTheorems) (t : Tables) (p : Two) where
   settled b c ps e d h = quiet-same t ps d (go (changed t ps d) refl)
     where
       go : (x : Bool) → changed t ps d ≡ x → changed t ps d ≡ false
-      go true k = absurd (omega (arith, bound T t ps (build-closed t p b c ps e) d k))
+      go true k = absurd (omega (arith, bound transport-theorems t ps (build-closed t p b c ps e) d k))
       go false k = k
 
   -- A run whose full graph has n pairs and that is not refused is complete with 2n + (n + 1)(n + 1) checks.
@@ -95,7 +95,7 @@ module _ (T : TransportTheorems) (t : Tables) (p : Two) where
       go (inStarting root ps c k l s) = let (x, y) = build-passed t p n count b c ps k in absurd (omega arith)
       go (inRounds ps c m k l f) =
           let (x, y) = build-passed t p n count b c ps k in
-          complete-if T t ps m o (build-closed t p b c ps k) f (omega (arith, ap (λ (z : ℕ). suc z * suc z) x))
+          complete-if transport-theorems t ps m o (build-closed t p b c ps k) f (omega (arith, ap (λ (z : ℕ). suc z * suc z) x))
 
   -- ---- 9. budgets
   -- The longer of two runs is never above the shorter.
@@ -178,11 +178,11 @@ abbrev Earlier : Tables → List Two → ℕ → Type 0
 Earlier t ps r = (k : ℕ) → k < r → qualitiesAfter (suc k) t ps ≢ qualitiesAfter k t ps
 
 -- There is one, and its index is n at most.
-pub first-quiet : TransportTheorems → (t : Tables) (p : Two) (b c : ℕ) (ps : List Two) → build t p b ≡ ok (passed ps c) → (R : ℕ) × (R ≤ length ps) × FirstQuiet t ps R
-first-quiet T t p b c ps e = go (length ps) 0 (omega arith) (λ r h. absurd (omega arith))
+pub first-quiet : (t : Tables) (p : Two) (b c : ℕ) (ps : List Two) → build t p b ≡ ok (passed ps c) → (R : ℕ) × (R ≤ length ps) × FirstQuiet t ps R
+first-quiet t p b c ps e = go (length ps) 0 (omega arith) (λ r h. absurd (omega arith))
   where
     go : (d r : ℕ) → r + d ≡ length ps → Earlier t ps r → (R : ℕ) × (R ≤ length ps) × FirstQuiet t ps R
-    go zero r z h = (r, omega arith, record { earlier = h; quiet = settled T t p b c ps e r (omega arith) })
+    go zero r z h = (r, omega arith, record { earlier = h; quiet = settled t p b c ps e r (omega arith) })
     go (suc d) r z h = by (changed t ps r) refl (λ g. go d (suc r) (omega arith) g)
       where
         by : (x : Bool) → changed t ps r ≡ x → (Earlier t ps (suc r) → (R : ℕ) × (R ≤ length ps) × FirstQuiet t ps R) → (R : ℕ) × (R ≤ length ps) × FirstQuiet t ps R

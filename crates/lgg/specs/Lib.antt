@@ -13,6 +13,7 @@ pub mod Within
 pub mod Count
 pub mod Refusals
 pub mod Outcomes
+pub mod Transport
 pub mod Demand3
 pub mod Bag
 pub mod BagCount
