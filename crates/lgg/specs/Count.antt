@@ -1,33 +1,20 @@
 -- Every query has its number of pairs: the classes of reachable pairs come from the image and from the query, so there are finitely many.
-use mathlib.Core.Path.{_≡_, refl, sym, ap, _∙_, subst}
-use mathlib.Core.Logic.{_≢_, _⊎_, inl, inr}
-use mathlib.Core.Bool.{Bool, true, false}
+use mathlib.Core.Path.{_≡_, refl}
+use mathlib.Core.Logic.{_⊎_, inl, inr}
 use mathlib.Core.List.{List, [], _∷_, _++_, map}
-use Prim.Native.Nat.{ℕ, zero, suc, _+_, _-_, _≤_, _<_}
+use Prim.Native.Nat.{ℕ, zero, suc, _+_, _≤_, _<_}
 use native.Mathlib.Omega.{arith}
 use native.Mathlib.Decide.{decLt}
-use lib.Dec.{ltb, eqb}
-use lib.ListN.{length, getD, take, drop}
-use borrow.Author.Tests.{eqb-false}
-use Rattle.spec.specs.Bytes.{pick, either, filter, each, Two}
-use Rattle.spec.specs.Image.{Tables, Operation, Member, NO-IDENTITY, SPair, Lit, isAC, kindOf, identityOf, membersOf, childrenOf}
-use Rattle.spec.specs.Monomial.{Monomial, MonomialPair, pairOf, insertAdd, addAll, monomial, classes, itself, total, monomialsOf, padPair, bothItself, representationPairs, narrowPairs}
-use Rattle.spec.specs.Action.{Action, TransportAction, zip, byPosition, straightAndCrossed, alignments, alignMembers, structural, acOps, transports, cellPairs, joins}
-use Rattle.spec.specs.Meaning.{In, here, there, Reachable, queried, joined}
-use Rattle.lgg.specs.Lists.{in-nil, in-cons, in-left, in-right, in-append, in-map, map-in, in-each, pigeon}
+use lib.ListN.{length, getD}
+use Rattle.spec.specs.Bytes.{each, Two}
+use Rattle.spec.specs.Image.{Tables, Operation, NO-IDENTITY}
+use Rattle.spec.specs.Action.{joins}
+use Rattle.spec.specs.Meaning.{In, here, there, Reachable}
+use Rattle.lgg.specs.Lists.{get-in, in-left, in-right, in-map, in-each, pigeon}
+use Rattle.lgg.specs.Bag.{span-in}
 use Rattle.lgg.specs.Within.{reachable-in}
-use Rattle.lgg.specs.Enter.{Grown, grow}
-use Rattle.lgg.specs.Graph.{Some, Good, good-start, good-next, good-reach, Whole, PairCount}
-
-in-take : {A : Type 0} (n : ℕ) (l : List A) (x : A) → In x (take n l) → In x l
-in-take zero l x i = absurd (in-nil i)
-in-take (suc n) [] x i = absurd (in-nil i)
-in-take (suc n) (y ∷ l) x i = elim (in-cons i) [ inl e ↦ rw e here | inr j ↦ there (in-take n l x j) ]
-
-in-drop : {A : Type 0} (n : ℕ) (l : List A) (x : A) → In x (drop n l) → In x l
-in-drop zero l x i = i
-in-drop (suc n) [] x i = absurd (in-nil i)
-in-drop (suc n) (y ∷ l) x i = there (in-drop n l x i)
+use Rattle.lgg.specs.Enter.{grow}
+use Rattle.lgg.specs.Graph.{Some, Good, good-start, good-next, good-reach, PairCount}
 
 -- the classes at hand
 universe : Tables → Two → List ℕ
@@ -55,9 +42,12 @@ module _ (t : Tables) (root : Two) where
   unfolding universe
   reachable-grid p r =
       in-grid p (reachable-in t (λ c. In c U) (there (there here))
-      (λ c m i r j. there (there (there (there (in-left (map (λ o. o .identity) (t .operations)) (in-map (λ c. c .0) (in-drop (m .first) (t .children) r (in-take (m .count) (drop (m .first) (t .children)) r j))))))))
+      (λ c m i r j. there (there (there (there (in-left (map (λ o. o .identity) (t .operations)) (in-map (λ c. c .0) (child r (span-in (t .children) (m .first) (m .count) (0, 0) j))))))))
       (λ o e. identity (get-identity (t .operations) o)) root (here, there here) p r)
     where
+      child : (r : Two) → (i : ℕ) × (i < length (t .children)) × (r ≡ getD (t .children) i (0, 0)) → In r (t .children)
+      child r (i, h, e) = rw e (get-in (t .children) i h)
+
       identity : {c : ℕ} → (c ≡ NO-IDENTITY) ⊎ In c (map (λ o. o .identity) (t .operations)) → In c U
       identity (inl e) = rw e (there (there (there here)))
       identity (inr i) = there (there (there (there (in-right (map (λ c. c .0) (t .children)) i))))

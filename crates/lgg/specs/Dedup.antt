@@ -15,7 +15,7 @@ use Rattle.spec.specs.Transport.{planSize, planMass}
 use Rattle.spec.specs.Action.{Action, TransportAction, structural, acOps, transports, cellPairs, joins}
 use Rattle.spec.specs.Graph.{enter, enterAll}
 use Rattle.spec.specs.Round.{better, qualityOver, ones, Choice, stay, act, Turn, offer, offerActions, offerPlan, offerTransports, turnOf}
-use Rattle.spec.specs.Meaning.{In, here, there, _⊑_}
+use Rattle.spec.specs.Meaning.{In, here, _⊑_}
 use Rattle.lgg.specs.Lists.{in-nil, in-cons, in-any}
 use Rattle.lgg.specs.Quality.{⊑-refl, ⊑-of-eq, ⊑-trans, ⊏-not, better-is, two-eq, Total}
 use Rattle.lgg.specs.Turn.{actionQuality, cellQualities, solved, offer-old, offer-new, actions-new, plan-new, transports-new}

@@ -1,20 +1,19 @@
 -- What a pair of classes joins is made of the classes of members' children, of identities, and of the two classes themselves.
-use mathlib.Core.Path.{_≡_, refl, sym, ap, _∙_, subst}
-use mathlib.Core.Logic.{_≢_, _⊎_, inl, inr}
+use mathlib.Core.Path.{_≡_, refl}
+use mathlib.Core.Logic.{_≢_, inl, inr}
 use mathlib.Core.Bool.{Bool, true, false}
 use mathlib.Core.List.{List, [], _∷_, _++_, map}
-use Prim.Native.Nat.{ℕ, zero, suc, _+_, _-_, _≤_, _<_}
-use native.Mathlib.Omega.{arith}
-use native.Mathlib.Decide.{decLt}
+use Prim.Native.Nat.{ℕ, zero, suc, _+_, _-_}
 use lib.Dec.{ltb, eqb}
-use lib.ListN.{length, getD, take, drop}
+use lib.ListN.{length, getD}
 use borrow.Author.Tests.{eqb-false}
 use Rattle.spec.specs.Bytes.{pick, either, filter, each, Two}
-use Rattle.spec.specs.Image.{Tables, Operation, Member, NO-IDENTITY, SPair, Lit, isAC, kindOf, identityOf, membersOf, childrenOf}
+use Rattle.spec.specs.Image.{Tables, Member, NO-IDENTITY, SPair, Lit, isAC, kindOf, identityOf, membersOf, childrenOf}
 use Rattle.spec.specs.Monomial.{Monomial, MonomialPair, pairOf, insertAdd, addAll, monomial, classes, itself, total, monomialsOf, padPair, bothItself, representationPairs, narrowPairs}
 use Rattle.spec.specs.Action.{Action, TransportAction, zip, byPosition, straightAndCrossed, alignments, alignMembers, structural, acOps, transports, cellPairs, joins}
 use Rattle.spec.specs.Meaning.{In, here, there, Reachable, queried, joined}
-use Rattle.lgg.specs.Lists.{in-nil, in-cons, in-left, in-right, in-append, in-map, map-in, in-each, pigeon}
+use Rattle.lgg.specs.Lists.{in-nil, in-cons, in-append, map-in}
+use Rattle.lgg.specs.Bag.{each-in, filter-in}
 
 -- ---- every entry of a list
 abbrev pub All : {A : Type 0} → (A → Type 0) → List A → Type 0
@@ -31,21 +30,13 @@ module _ {A : Type 0} (P : A → Type 0) where
   all-append l m h k x i = elim (in-append l i) [ inl j ↦ h x j | inr j ↦ k x j ]
 
   all-each : {B : Type 0} (f : B → List A) (l : List B) → ((b : B) → In b l → All P (f b)) → All P (each f l)
-  unfolding each
-  all-each f [] h = all-nil
-  all-each f (b ∷ l) h = all-append (f b) (each f l) (h b here) (all-each f l (λ c i. h c (there i)))
+  all-each f l h x i = let (b, j, k) = each-in f l x i in h b j x k
 
   all-map : {B : Type 0} (f : B → A) (l : List B) → ((b : B) → In b l → P (f b)) → All P (map f l)
   all-map f l h x i = let (a, j, e) = map-in f l x i in rw (← e) (h a j)
 
   all-filter : (f : A → Bool) (l : List A) → All P l → All P (filter f l)
-  unfolding filter
-  all-filter f [] h = all-nil
-  all-filter f (x ∷ l) h = go (f x) (all-filter f l (λ y i. h y (there i)))
-    where
-      go : (b : Bool) → All P (filter f l) → All P (elim b [ true ↦ x ∷ filter f l | false ↦ filter f l ])
-      go true k = all-cons x (filter f l) (h x here) k
-      go false k = k
+  all-filter f l h x i = h x (filter-in f l i .0)
 
 -- ---- K holds of 0, of the classes of members' children, and of the identities
 module _ (t : Tables) (K : ℕ → Type 0) (zero-in : K 0) (children-in : (c : ℕ) (m : Member) → In m (membersOf t c) → (r : Two) → In r (childrenOf t m) → K (r .0))
@@ -138,7 +129,7 @@ module _ (t : Tables) (K : ℕ → Type 0) (zero-in : K 0) (children-in : (c : �
   unfolding monomialsOf
   monomials-in c o h =
       all-append Mono (map (λ m. monomial (childrenOf t m)) (filter (λ m. eqb (m .op) o) (membersOf t c))) (pick (eqb (identityOf t o) NO-IDENTITY) [] (itself c ∷ []))
-      (all-map Mono (λ m. monomial (childrenOf t m)) (filter (λ m. eqb (m .op) o) (membersOf t c)) (λ m i. add-in [] (childrenOf t m) (all-nil Key) (children-in c m (all-filter (λ n. In n (membersOf t c)) (λ n. eqb (n .op) o) (membersOf t c) (λ n j. j) m i))))
+      (all-map Mono (λ m. monomial (childrenOf t m)) (filter (λ m. eqb (m .op) o) (membersOf t c)) (λ m i. add-in [] (childrenOf t m) (all-nil Key) (children-in c m (filter-in (λ n. eqb (n .op) o) (membersOf t c) i .0))))
       (go (eqb (identityOf t o) NO-IDENTITY))
     where
       go : (b : Bool) → All Mono (pick b [] (itself c ∷ []))
