@@ -13,11 +13,11 @@ use Rattle.spec.specs.Round.{startingQuality, lookUp, changes, turnsOf, Terms}
 use Rattle.spec.specs.Run.{Outcome, startingTerms, State, outcome, roundTerms, afterRound, roundsFrom, started, afterStarting, afterBuilding, runOf}
 use Rattle.spec.specs.Meaning.{In, here, there, termQuality, readFirst, readSecond, treeAt, Belongs, Reachable, queried, joined}
 use Rattle.laws.specs.Valid.{Valid}
-use Rattle.lgg.specs.Turn.{TransportTheorems}
 use Rattle.lgg.specs.Enter.{Starts}
 use Rattle.lgg.specs.Graph.{Whole, build-whole, build-first}
 use Rattle.lgg.specs.Pool.{PoolValid, empty-valid}
 use Rattle.lgg.specs.ReadingsNode.{TermFor}
+use Rattle.flow.specs.Theorems.{margins}
 use Rattle.lgg.specs.BestMembers.{IsPair}
 use Rattle.lgg.specs.ReadingsWithin.{joins-within}
 use Rattle.lgg.specs.Best.{Makes, starting-made}
@@ -34,7 +34,7 @@ reach-within : (t : Tables) → Valid t → (p q : Two) → IsPair t p → Reach
 reach-within t v p q h (queried e) = rw e h
 reach-within t v p q h (joined {p = r} k i) = joins-within t v r (reach-within t v p r h k) q i
 
-module _ (T : TransportTheorems) (t : Tables) (v : Valid t) (p : Two) (h : IsPair t p) where
+module _ (t : Tables) (v : Valid t) (p : Two) (h : IsPair t p) where
   -- the pairs of the graph: the reachable ones, the queried one first
   record Pairs (pairs : List Two) : Type 0 where
     whole : Whole t p pairs
@@ -68,7 +68,7 @@ module _ (T : TransportTheorems) (t : Tables) (v : Valid t) (p : Two) (h : IsPai
   unfolding roundTerms turnsOf
   round-good pairs B s G zero r left e = let z : _≡_ {A = ℕ} 0 1 = cc in absurd (omega arith)
   round-good pairs B s G (suc b) r left e =
-      turns-done t v (T .margins) (lookUp (0, 0) pairs (s .qualities)) (lookUp 0 pairs (s .terms)) pairs b (s .pool) r left (G .valid)
+      turns-done t v margins (lookUp (0, 0) pairs (s .qualities)) (lookUp 0 pairs (s .terms)) pairs b (s .pool) r left (G .valid)
       (λ c i. (holds-look (G .holds) c i, λ d j. holds-look (G .holds) d (B .whole .exactly d .1 (joined (B .whole .exactly c .0 i) j)))) e
 
   rounds-good : (f : ℕ) (pairs : List Two) → Pairs pairs → (s : State) → StateGood pairs s → (o : Outcome) → roundsFrom f t pairs s ≡ ok o → RunGood t p o
