@@ -2,23 +2,140 @@
 //! The harness: see README.md for its commands.
 
 mod damage;
+mod drive;
+mod r#gen;
 mod img;
+mod judge;
 mod rng;
 mod small;
 mod text;
 
+use std::io::{Read, Write};
+
+use drive::{Counts, compare};
+use img::{Img, Query};
+use judge::{Judge, pack, unpack};
+use rng::Rng;
+
+fn stdin() -> Result<Vec<u8>, String> {
+    let mut bytes = Vec::new();
+    std::io::stdin()
+        .read_to_end(&mut bytes)
+        .map_err(|why| why.to_string())?;
+    Ok(bytes)
+}
+
+fn stdout(bytes: &[u8]) -> Result<(), String> {
+    std::io::stdout()
+        .write_all(bytes)
+        .map_err(|why| why.to_string())
+}
+
+fn read(path: &str) -> Result<Vec<u8>, String> {
+    std::fs::read(path).map_err(|why| format!("{path}: {why}"))
+}
+
+fn read_text(path: &str) -> Result<String, String> {
+    String::from_utf8(read(path)?).map_err(|why| format!("{path}: {why}"))
+}
+
+fn number(word: &str) -> Result<u64, String> {
+    word.parse().map_err(|_| format!("{word:?} is no number"))
+}
+
+/// Frames from a seed: `count` of them, of one family or of all by weight.
+fn draw(seed: u64, count: usize, family: Option<&str>) -> Vec<Vec<u8>> {
+    let mut rng = Rng::new(seed);
+    let mut frames = Vec::new();
+    while frames.len() < count {
+        let name = family.unwrap_or_else(|| r#gen::family(&mut rng));
+        frames.extend(r#gen::frames(&mut rng, name));
+    }
+    frames.truncate(count);
+    frames
+}
+
+fn compare_frames(a: &str, b: &str, frames: &[Vec<u8>]) -> Result<(), String> {
+    let mut counts = Counts::default();
+    let (first, second) = (Judge::parse(a)?, Judge::parse(b)?);
+    let mut done = 0;
+    for part in frames.chunks(1_000) {
+        if let Some(difference) = compare(&first, &second, part, &mut counts)? {
+            print!("{}", difference.print(a, b));
+            return Err(format!("a difference in frame {}", done + difference.at));
+        }
+        done += part.len();
+    }
+    print!("{}", counts.print());
+    println!("no difference between {a} and {b}");
+    Ok(())
+}
+
 fn main() {
     let words: Vec<String> = std::env::args().skip(1).collect();
     let words: Vec<&str> = words.iter().map(String::as_str).collect();
-    let done = match words[..] {
-        ["small", source] => std::fs::read_to_string(source)
-            .map_err(|why| why.to_string())
-            .and_then(|source| small::small(&source))
-            .map(|text| print!("{text}")),
-        _ => Err("see README.md for the commands".to_string()),
-    };
+    let done = run(&words);
     if let Err(why) = done {
         eprintln!("{why}");
         std::process::exit(1);
+    }
+}
+
+fn run(words: &[&str]) -> Result<(), String> {
+    match words {
+        ["small", source] => {
+            print!("{}", small::small(&read_text(source)?)?);
+            Ok(())
+        }
+        ["draw", seed, count] => {
+            stdout(&pack(&draw(number(seed)?, number(count)? as usize, None)))
+        }
+        ["draw", seed, count, family] => {
+            let frames = draw(number(seed)?, number(count)? as usize, Some(family));
+            stdout(&pack(&frames))
+        }
+        ["random", a, b, seed, count] => {
+            compare_frames(a, b, &draw(number(seed)?, number(count)? as usize, None))
+        }
+        ["random", a, b, seed, count, family] => {
+            let frames = draw(number(seed)?, number(count)? as usize, Some(family));
+            compare_frames(a, b, &frames)
+        }
+        ["compare", a, b, path] => compare_frames(a, b, &unpack(&read(path)?)?),
+        ["answer", judge] => stdout(&pack(&Judge::parse(judge)?.answers(&unpack(&stdin()?)?)?)),
+        ["interleave", frames, answers] => {
+            let (frames, answers) = (unpack(&read(frames)?)?, unpack(&read(answers)?)?);
+            let both: Vec<Vec<u8>> = frames
+                .into_iter()
+                .zip(answers)
+                .flat_map(|(frame, answer)| [frame, answer])
+                .collect();
+            stdout(&pack(&both))
+        }
+        ["bytes"] => {
+            let text = String::from_utf8(stdin()?).map_err(|why| why.to_string())?;
+            let (img, queries) = text::parse(&text)?;
+            match &queries[..] {
+                [] => stdout(&img.bytes()),
+                [query] => stdout(&img.frame(query)),
+                _ => Err("more than one query: give one, or none for the image alone".into()),
+            }
+        }
+        ["text"] => {
+            let bytes = stdin()?;
+            let none = model::slip::Slip::None;
+            if let Ok((image, left, right, budget)) = model::query(&bytes, none) {
+                let query = Query {
+                    left,
+                    right,
+                    budget,
+                };
+                return stdout(text::print(&Img::of(&image), &[query]).as_bytes());
+            }
+            let image = model::image::accept(&bytes, none)
+                .map_err(|refusal| format!("refused {}", refusal.0))?;
+            stdout(text::print(&Img::of(&image), &[]).as_bytes())
+        }
+        _ => Err("see README.md for the commands".to_string()),
     }
 }

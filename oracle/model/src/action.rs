@@ -16,6 +16,8 @@ pub enum Action {
     Structural {
         operation: usize,
         children: Vec<usize>,
+        /// An SPair with its children crossed.
+        crossed: bool,
     },
     Transport {
         operation: usize,
@@ -31,6 +33,17 @@ pub struct Graph {
     pub pairs: Vec<Pair>,
     pub actions: Vec<Vec<Action>>,
     number: HashMap<Pair, usize>,
+    pub met: Monomials,
+}
+
+/// Monomial pairs met in building, for the counts of a comparison.
+#[derive(Clone, Copy, Debug, Default)]
+pub struct Monomials {
+    pub paired: u64,
+    pub padded: u64,
+    pub skipped: u64,
+    pub with_itself: u64,
+    pub empty_side: u64,
 }
 
 /// How building ended, if no refusal was met.
@@ -52,6 +65,7 @@ impl Graph {
             pairs: Vec::new(),
             actions: Vec::new(),
             number: HashMap::new(),
+            met: Monomials::default(),
         };
         graph.enter(root, slip)?;
         while graph.actions.len() < graph.pairs.len() {
@@ -64,7 +78,7 @@ impl Graph {
             let mut actions = Vec::new();
             // "A class paired with itself has no actions."
             if pair.0 != pair.1 {
-                for (operation, joined) in structural(image, pair, slip) {
+                for (operation, crossed, joined) in structural(image, pair, slip) {
                     let children = joined
                         .into_iter()
                         .map(|joined| graph.enter(joined, slip))
@@ -72,11 +86,13 @@ impl Graph {
                     actions.push(Action::Structural {
                         operation,
                         children,
+                        crossed,
                     });
                 }
                 let straight = actions.len();
-                for (operation, left, right) in transports(image, pair, slip) {
+                for (operation, left, right) in transports(image, pair, &mut graph.met, slip) {
                     if skipped(&left, &right, slip) && slip != Slip::SkippedCellsEntered {
+                        graph.met.skipped += 1;
                         continue;
                     }
                     // "In transport each row with each column whatever the plan."
@@ -125,26 +141,27 @@ impl Graph {
 }
 
 /// Structural actions: operations rising, left members outermost, in stored order.
-fn structural(image: &Image, (left, right): Pair, slip: Slip) -> Vec<(usize, Vec<Pair>)> {
+pub fn structural(image: &Image, pair: Pair, slip: Slip) -> Vec<(usize, bool, Vec<Pair>)> {
     let mut found = Vec::new();
-    for left in image.members_of(left) {
-        for right in image.members_of(right) {
+    for left in image.members_of(pair.0) {
+        for right in image.members_of(pair.1) {
             if left.operation == right.operation {
-                for joined in alignments(image, left, right, slip) {
-                    found.push((left.operation, joined));
+                for (crossed, joined) in alignments(image, left, right, slip) {
+                    found.push((left.operation, crossed, joined));
                 }
             }
         }
     }
     // Members stand in operation order; keep it where a slip lets them not.
-    found.sort_by_key(|&(operation, _)| operation);
+    found.sort_by_key(|&(operation, _, _)| operation);
     found
 }
 
-/// How two members of one operation pair their children.
-fn alignments(image: &Image, left: &Member, right: &Member, slip: Slip) -> Vec<Vec<Pair>> {
+/// How two members of one operation pair their children; true where crossed.
+fn alignments(image: &Image, left: &Member, right: &Member, slip: Slip) -> Vec<(bool, Vec<Pair>)> {
     let (l, r) = (image.children_of(left), image.children_of(right));
-    let straight: Vec<Pair> = l.iter().zip(r).map(|(l, r)| (l.class, r.class)).collect();
+    let straight = l.iter().zip(r).map(|(l, r)| (l.class, r.class));
+    let straight = (false, straight.collect());
     match image.kind_of(left) {
         MSET | SET | LIT => vec![],
         PLAIN0 if slip == Slip::Plain0Missing => vec![],
@@ -152,6 +169,7 @@ fn alignments(image: &Image, left: &Member, right: &Member, slip: Slip) -> Vec<V
             let two = |side: &[Child]| side[0].class != side[1].class;
             if two(l) && two(r) && slip != Slip::NoCrossed {
                 let crossed = vec![(l[0].class, r[1].class), (l[1].class, r[0].class)];
+                let crossed = (true, crossed);
                 if slip == Slip::CrossedFirst {
                     vec![crossed, straight]
                 } else {
@@ -168,7 +186,12 @@ fn alignments(image: &Image, left: &Member, right: &Member, slip: Slip) -> Vec<V
 
 /// "An MSet or Set operation of either class acts by transport over each monomial
 /// pair, except both classes as themselves once." Operations rising, left outermost.
-fn transports(image: &Image, pair: Pair, slip: Slip) -> Vec<(usize, Monomial, Monomial)> {
+pub fn transports(
+    image: &Image,
+    pair: Pair,
+    met: &mut Monomials,
+    slip: Slip,
+) -> Vec<(usize, Monomial, Monomial)> {
     let (left, right) = pair;
     let operations_of = |class: usize| -> Vec<usize> {
         image
@@ -195,9 +218,14 @@ fn transports(image: &Image, pair: Pair, slip: Slip) -> Vec<(usize, Monomial, Mo
                 if l == itself(left) && r == itself(right) {
                     continue;
                 }
-                if let Some((l, r)) = pad(&l, &r, image.identity(operation), slip) {
-                    found.push((operation, l, r));
-                }
+                let Some(padded) = pad(&l, &r, image.identity(operation), slip) else {
+                    continue;
+                };
+                met.paired += 1;
+                met.padded += u64::from(padded != (l.clone(), r.clone()));
+                met.with_itself += u64::from(l == itself(left) || r == itself(right));
+                met.empty_side += u64::from(padded.0.is_empty() || padded.1.is_empty());
+                found.push((operation, padded.0, padded.1));
             }
         }
     }

@@ -1,7 +1,7 @@
 // SPDX-License-Identifier: Apache-2.0
 //! "Rounds": building, starting terms and rounds under a budget of checks.
 
-use crate::action::{Action, Built, Graph};
+use crate::action::{Action, Built, Graph, Monomials};
 use crate::image::{Image, Refusal};
 use crate::slip::Slip;
 use crate::term::{Pool, Quality, Runs};
@@ -37,6 +37,8 @@ pub enum Phase {
 pub struct Met {
     /// Winning actions by the kind of their operation.
     pub winners: [u64; 10],
+    pub crossed: u64,
+    pub monomials: Monomials,
     pub transports_solved: u64,
     pub largest_transport: usize,
     /// The best quality of the root after each finished round, from the start.
@@ -79,6 +81,7 @@ pub fn run(
         }
     };
     let pairs = graph.pairs.len();
+    met.monomials = graph.met;
     let mut terms = Vec::new();
     for &(left, right) in &graph.pairs {
         if slip != Slip::FreeStartingTerms && !budget.spend() {
@@ -184,6 +187,9 @@ impl Round<'_> {
             }
             if let Some((action, solution)) = winner {
                 met.winners[usize::from(self.image.operations[operation(action)].kind)] += 1;
+                if let Action::Structural { crossed: true, .. } = action {
+                    met.crossed += 1;
+                }
                 next[number] = self.term(action, solution.as_ref(), terms, pool)?;
                 better[number] = best;
             }
