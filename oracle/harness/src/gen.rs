@@ -9,12 +9,14 @@ use model::slip::Slip;
 use crate::img::{Class, Img, Member, Operation, Query};
 use crate::rng::Rng;
 
-pub const FAMILIES: [(&str, usize); 12] = [
+pub const FAMILIES: [(&str, usize); 14] = [
     ("mixed", 30),
     ("twins", 24),
     ("ties", 10),
     ("cycle", 8),
     ("crossed", 5),
+    ("lists", 5),
+    ("weighed", 1),
     ("identity", 8),
     ("counts", 4),
     ("chain", 3),
@@ -359,6 +361,107 @@ fn crossed(rng: &mut Rng) -> Img {
     img
 }
 
+/// Lists of one length that begin alike, under commutative operations: the order
+/// of terms decides.
+fn lists(rng: &mut Rng) -> Img {
+    let leaves = rng.range(2, 4);
+    let mut img = Img {
+        ops: vec![op(9, None), op(6, None), op(7, None), op(8, None), op(5, None), op(1, None)],
+        classes: (0..leaves)
+            .map(|n| class(vec![lit(0, [9, 4_000_000_000, 0, 7][n])]))
+            .collect(),
+    };
+    for _ in 0..rng.range(0, 2) {
+        let n = img.classes.len();
+        img.classes.push(class(vec![over(5, &[rng.below(n)])]));
+    }
+    let leaves = img.classes.len();
+    let lists = rng.range(3, 6);
+    let (kind, length) = (rng.range(1, 2), rng.range(2, 5));
+    for _ in 0..lists {
+        let mut children: Vec<usize> = (0..length).map(|_| rng.below(leaves)).collect();
+        if rng.once_in(2) {
+            children.sort_unstable();
+        }
+        img.classes.push(class(vec![over(kind, &children)]));
+    }
+    let top = rng.range(2, 4);
+    for _ in 0..2 {
+        let count = if top == 4 { 2 } else { rng.range(2, lists) };
+        let children: Vec<usize> = (0..count).map(|_| leaves + rng.below(lists)).collect();
+        img.classes.push(class(vec![over(top, &children)]));
+    }
+    img.order();
+    img.settle();
+    img
+}
+
+/// A transport whose plan depends on comparing path costs as size × W + mass.
+fn weighed(rng: &mut Rng) -> Img {
+    let mut n = 3;
+    let mut cells = Vec::new();
+    for _ in 0..4_000 {
+        n = rng.range(3, 5);
+        cells = (0..n * n)
+            .map(|_| {
+                let mass = if rng.once_in(2) { 0 } else { 2 };
+                (rng.range(3, 6) as u64, mass)
+            })
+            .collect();
+        let problem = model::transport::Problem {
+            supply: vec![1; n],
+            demand: vec![1; n],
+            cells: cells.iter().copied().map(Some).collect(),
+        };
+        let plan = |slip| model::transport::solve(&problem, slip).map(|s| s.plan).ok();
+        if plan(Slip::None) != plan(Slip::PathsBySizeThenMass) {
+            break;
+        }
+    }
+    // Cell (i, j) is what operation 2 + i n + j gives: a difference where the mass
+    // is 2, and a shared rest.
+    let mut img = Img {
+        ops: vec![op(9, None), op(1, None), op(7, None)],
+        classes: vec![
+            class(vec![lit(0, 1)]),
+            class(vec![lit(0, 2)]),
+            class(vec![lit(0, 3)]),
+        ],
+    };
+    let mut rest = vec![2];
+    for _ in 0..6 {
+        img.classes.push(class(vec![over(1, &[rest[rest.len() - 1]])]));
+        rest.push(img.classes.len() - 1);
+    }
+    img.ops.extend((0..n * n).map(|_| op(4, None)));
+    let member = |i: usize, j: usize, leaf: usize| {
+        let (size, mass) = cells[i * n + j];
+        let shared = (size - mass - 1) as usize;
+        let mut children = Vec::new();
+        if mass > 0 {
+            children.push(leaf);
+        }
+        if shared > 0 {
+            children.push(rest[shared - 1]);
+        }
+        over(3 + i * n + j, &children)
+    };
+    let first = img.classes.len();
+    for i in 0..n {
+        img.classes.push(class((0..n).map(|j| member(i, j, 0)).collect()));
+    }
+    for j in 0..n {
+        img.classes.push(class((0..n).map(|i| member(i, j, 1)).collect()));
+    }
+    let left: Vec<usize> = (first..first + n).collect();
+    let right: Vec<usize> = (first + n..first + 2 * n).collect();
+    img.classes.push(class(vec![over(2, &left)]));
+    img.classes.push(class(vec![over(2, &right)]));
+    img.order();
+    img.settle();
+    img
+}
+
 /// Counts at the edge of 32 bits, in members that are not best ones.
 fn counts(rng: &mut Rng) -> Img {
     let identity = (!rng.once_in(3)).then_some(0);
@@ -540,6 +643,8 @@ fn image(rng: &mut Rng, family: &str) -> Img {
         "cycle" => cycle(rng),
         "crossed" => crossed(rng),
         "identity" => identity(rng),
+        "lists" => lists(rng),
+        "weighed" => weighed(rng),
         "counts" => counts(rng),
         "chain" => chain(rng),
         "wide" => wide(rng),
@@ -583,17 +688,30 @@ fn measure(img: &Img, left: usize, right: usize) -> Option<(u64, u64)> {
 pub fn frames(rng: &mut Rng, family: &str) -> Vec<Vec<u8>> {
     let img = image(rng, if family == "damaged" { "mixed" } else { family });
     let n = img.classes.len();
-    let last = ["chain", "wide", "grid"].contains(&family);
-    let (left, right) = if last && !rng.once_in(6) {
-        (n - 2, n - 1)
-    } else if family == "twins" && !rng.once_in(4) {
-        let left = rng.below(n / 2);
-        (left, left + n / 2)
-    } else {
-        (rng.below(n), rng.below(n))
+    let last = ["chain", "wide", "grid", "lists", "weighed"].contains(&family);
+    let drawn = |rng: &mut Rng| {
+        let (left, right) = if last && !rng.once_in(6) {
+            (n - 2, n - 1)
+        } else if family == "twins" && !rng.once_in(4) {
+            let left = rng.below(n / 2);
+            (left, left + n / 2)
+        } else {
+            (rng.below(n), rng.below(n))
+        };
+        let (left, right) = if rng.once_in(4) { (right, left) } else { (left, right) };
+        let (pairs, rounds) = measure(&img, left, right).unwrap_or((4_096, 4));
+        (left, right, pairs, rounds)
     };
-    let (left, right) = if rng.once_in(4) { (right, left) } else { (left, right) };
-    let (pairs, rounds) = measure(&img, left, right).unwrap_or((4_096, 4));
+    // Mostly a pair that some round improves, where a few tries find one.
+    let tries = if last || rng.once_in(6) { 1 } else { 12 };
+    let mut found = drawn(rng);
+    for _ in 1..tries {
+        if found.3 > 0 {
+            break;
+        }
+        found = drawn(rng);
+    }
+    let (left, right, pairs, rounds) = found;
     let count = match family {
         "wide" | "grid" | "huge" => 1,
         _ => rng.range(1, 3),

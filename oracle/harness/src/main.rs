@@ -6,7 +6,10 @@ mod drive;
 mod r#gen;
 mod img;
 mod judge;
+mod limits;
+mod plans;
 mod rng;
+mod sample;
 mod small;
 mod text;
 
@@ -15,6 +18,7 @@ use std::io::{Read, Write};
 use drive::{Counts, compare};
 use img::{Img, Query};
 use judge::{Judge, pack, unpack};
+use model::slip::Slip;
 use rng::Rng;
 
 fn stdin() -> Result<Vec<u8>, String> {
@@ -37,6 +41,34 @@ fn read(path: &str) -> Result<Vec<u8>, String> {
 
 fn read_text(path: &str) -> Result<String, String> {
     String::from_utf8(read(path)?).map_err(|why| format!("{path}: {why}"))
+}
+
+fn write(path: &str, bytes: &[u8]) -> Result<(), String> {
+    std::fs::write(path, bytes).map_err(|why| format!("{path}: {why}"))
+}
+
+/// The slips that touch the transport solver.
+const SOLVER_SLIPS: [Slip; 6] = [
+    Slip::StackQueue,
+    Slip::LooseRelax,
+    Slip::PathsBySizeThenMass,
+    Slip::VFromOpenCells,
+    Slip::ColumnsFirst,
+    Slip::UnitSteps,
+];
+
+/// The stored sample of a folder.
+fn stored(folder: &str) -> Result<Vec<sample::Stored>, String> {
+    let frames = unpack(&read(&format!("{folder}/frames.bin"))?)?;
+    let answers = unpack(&read(&format!("{folder}/answers.bin"))?)?;
+    if frames.len() != answers.len() {
+        return Err("as many answers as frames".to_string());
+    }
+    Ok(frames
+        .into_iter()
+        .zip(answers)
+        .map(|(frame, answer)| sample::Stored { frame, answer })
+        .collect())
 }
 
 fn number(word: &str) -> Result<u64, String> {
@@ -100,6 +132,41 @@ fn run(words: &[&str]) -> Result<(), String> {
         ["random", a, b, seed, count, family] => {
             let frames = draw(number(seed)?, number(count)? as usize, Some(family));
             compare_frames(a, b, &frames)
+        }
+        ["plans", seed, count] => {
+            print!("{}", plans::compare(number(seed)?, number(count)? as usize)?);
+            Ok(())
+        }
+        ["plans-slips", seed, count] => {
+            print!("{}", plans::slips(number(seed)?, number(count)? as usize, &SOLVER_SLIPS));
+            Ok(())
+        }
+        ["plans-sample", seed] => {
+            print!("{}", plans::sample(number(seed)?, &SOLVER_SLIPS));
+            Ok(())
+        }
+        ["sample", seed, folder] => {
+            let source = read_text(&format!("{folder}/small.images"))?;
+            let stored = sample::choose(&source, number(seed)?, 8_000)?;
+            let (frames, answers): (Vec<_>, Vec<_>) =
+                stored.into_iter().map(|s| (s.frame, s.answer)).unzip();
+            write(&format!("{folder}/frames.bin"), &pack(&frames))?;
+            write(&format!("{folder}/answers.bin"), &pack(&answers))
+        }
+        ["slips", folder] => {
+            for (name, meaning, caught) in sample::table(&stored(folder)?) {
+                let some: Vec<String> = caught.iter().take(6).map(usize::to_string).collect();
+                println!("| {name} | {meaning} | {} | {} |", caught.len(), some.join(" "));
+            }
+            Ok(())
+        }
+        ["limits"] => {
+            for (what, frame) in limits::cases() {
+                let answer = model::answer(&frame, model::slip::Slip::None);
+                let line = answer.lines().next().unwrap_or("");
+                println!("{:>6} bytes  {what}: {line}", frame.len());
+            }
+            Ok(())
         }
         ["compare", a, b, path] => compare_frames(a, b, &unpack(&read(path)?)?),
         ["answer", judge] => stdout(&pack(&Judge::parse(judge)?.answers(&unpack(&stdin()?)?)?)),

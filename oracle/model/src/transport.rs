@@ -55,7 +55,9 @@ pub fn solve(problem: &Problem, slip: Slip) -> Result<Solution, Refusal> {
     let weight = weight(problem, flow, slip);
     let mut plan = vec![0u64; rows * columns];
     let mut sent = 0;
+    let mut patience = Patience::new(slip);
     while sent < flow {
+        patience.wait()?;
         let mut search = Search {
             problem,
             plan: &plan,
@@ -65,7 +67,7 @@ pub fn solve(problem: &Problem, slip: Slip) -> Result<Solution, Refusal> {
             before: vec![Node::Source; rows + columns + 2],
             queue: VecDeque::new(),
         };
-        search.run();
+        search.run(&mut patience)?;
         let path = search.path().ok_or(Refusal(16))?;
         let step = if slip == Slip::UnitSteps {
             1
@@ -92,6 +94,22 @@ pub fn solve(problem: &Problem, slip: Slip) -> Result<Solution, Refusal> {
         mass: total(|(_, mass)| mass),
         plan,
     })
+}
+
+/// The model always ends; with a slip the search may not, and is given up.
+struct Patience(Option<u32>);
+
+impl Patience {
+    fn new(slip: Slip) -> Self {
+        Patience((slip != Slip::None).then_some(200_000))
+    }
+
+    fn wait(&mut self) -> Result<(), Refusal> {
+        if let Some(left) = &mut self.0 {
+            *left = left.checked_sub(1).ok_or(Refusal(16))?;
+        }
+        Ok(())
+    }
 }
 
 /// "F is the total supply, V the largest mass in an allowed cell, W = F × V + 1."
@@ -200,10 +218,11 @@ impl Search<'_> {
 
     /// "Paths come from a first-in first-out queue, a node's edges in insertion
     /// order, a strict improvement only."
-    fn run(&mut self) {
+    fn run(&mut self, patience: &mut Patience) -> Result<(), Refusal> {
         self.label[0] = Some((0, 0, 0));
         self.queue.push_back(Node::Source);
         while let Some(node) = self.next() {
+            patience.wait()?;
             let from = self.label[self.place(node)].expect("a queued node has a label");
             for to in self.edges(node) {
                 if self.room((node, to)) == 0 {
@@ -226,6 +245,7 @@ impl Search<'_> {
                 }
             }
         }
+        Ok(())
     }
 
     fn next(&mut self) -> Option<Node> {
@@ -242,6 +262,10 @@ impl Search<'_> {
         let mut path = Vec::new();
         let mut node = Node::Sink;
         while node != Node::Source {
+            // Only a slip goes round in a circle.
+            if path.len() > self.before.len() {
+                return None;
+            }
             let before = self.before[self.place(node)];
             path.push((before, node));
             node = before;

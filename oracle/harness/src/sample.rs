@@ -1,0 +1,152 @@
+// SPDX-License-Identifier: Apache-2.0
+//! The stored sample: frames chosen so that every deliberate slip is caught, every
+//! phase, refusal and kind of action is met, and the bytes stay few.
+
+use std::collections::BTreeSet;
+
+use model::image::Refusal;
+use model::slip::{SLIPS, Slip};
+
+use crate::damage;
+use crate::drive::Counts;
+use crate::r#gen;
+use crate::limits;
+use crate::rng::Rng;
+use crate::small;
+
+pub struct Stored {
+    pub frame: Vec<u8>,
+    pub answer: Vec<u8>,
+}
+
+/// The oracle's answer where it judges, the model's where not; both where both.
+pub fn judged(frame: &[u8]) -> Result<Vec<u8>, String> {
+    let model = model::answer(frame, Slip::None);
+    if !model.starts_with("refused")
+        && let listed::Answer::Listing(text) = listed::answer(frame, false)
+        && text != model
+    {
+        return Err(format!("oracle and model differ:\n{text}{model}"));
+    }
+    Ok(model.into_bytes())
+}
+
+/// Cases of limits.rs that are not stored, for their size.
+const TOO_LARGE: [&str; 14] = [
+    "1025 members",
+    "4097 children",
+    "257 classes",
+    "an input of 65536 bytes",
+    "an input of 65537 bytes",
+    "4095 pairs, budget 4294967295",
+    "4096 pairs, budget 0",
+    "4096 pairs, budget 1",
+    "4097 pairs, budget 0",
+    "4097 pairs, budget 4294967295",
+    "far past 16,384 terms",
+    "far past 65,536 runs",
+    "a listing of 65535 bytes",
+    "sizes near 2^32, 5 4 0",
+];
+
+/// How often each slip must be caught, and how many frames there are at least.
+const CATCHES: usize = 4;
+const FRAMES: usize = 420;
+
+pub fn choose(source: &str, seed: u64, drawn: usize) -> Result<Vec<Stored>, String> {
+    let mut fixed: Vec<Vec<u8>> = Vec::new();
+    for (_, img, queries) in small::images(source)? {
+        fixed.extend(queries.iter().map(|query| img.frame(query)));
+    }
+    fixed.extend(damage::small().into_iter().map(|(_, frame)| frame));
+    for (what, frame) in limits::cases() {
+        if !TOO_LARGE.contains(&what.as_str()) {
+            fixed.push(frame);
+        }
+    }
+    let mut rng = Rng::new(seed);
+    let mut pool: Vec<Vec<u8>> = Vec::new();
+    while pool.len() < drawn {
+        let family = r#gen::family(&mut rng);
+        for frame in r#gen::frames(&mut rng, family) {
+            if frame.len() <= 420 {
+                pool.push(frame);
+            }
+        }
+    }
+    pool.sort_by_key(|frame| (frame.len(), frame.clone()));
+    pool.dedup();
+    let mut chosen: Vec<Vec<u8>> = Vec::new();
+    let mut taken = BTreeSet::new();
+    for frame in fixed {
+        if taken.insert(frame.clone()) {
+            chosen.push(frame);
+        }
+    }
+    // Every slip caught, by small frames.
+    let answers: Vec<String> = pool.iter().map(|f| model::answer(f, Slip::None)).collect();
+    for &(slip, _, _) in SLIPS {
+        let mut caught = chosen
+            .iter()
+            .filter(|f| f.len() < 600 && model::answer(f, slip) != model::answer(f, Slip::None))
+            .count();
+        for (frame, answer) in pool.iter().zip(&answers) {
+            if caught >= CATCHES {
+                break;
+            }
+            if !taken.contains(frame) && model::answer(frame, slip) != *answer {
+                caught += 1;
+                taken.insert(frame.clone());
+                chosen.push(frame.clone());
+            }
+        }
+    }
+    // The rest: improved in some round and of all sizes.
+    let mut at = 0;
+    while chosen.len() < FRAMES && at < 100_000 {
+        at += 1;
+        let frame = rng.pick(&pool).clone();
+        let wanted = match model::outcome(&frame, Slip::None) {
+            Err(Refusal(_)) => rng.once_in(40),
+            Ok((_, outcome)) => outcome.rounds > 0 || rng.once_in(12),
+        };
+        if wanted && taken.insert(frame.clone()) {
+            chosen.push(frame);
+        }
+    }
+    chosen
+        .into_iter()
+        .map(|frame| {
+            let answer = judged(&frame)?;
+            Ok(Stored { frame, answer })
+        })
+        .collect()
+}
+
+/// Which frames catch each slip.
+pub fn table(stored: &[Stored]) -> Vec<(&'static str, &'static str, Vec<usize>)> {
+    SLIPS
+        .iter()
+        .map(|&(slip, name, meaning)| {
+            let caught = stored
+                .iter()
+                .enumerate()
+                .filter(|(_, s)| model::answer(&s.frame, slip).as_bytes() != s.answer)
+                .map(|(n, _)| n)
+                .collect();
+            (name, meaning, caught)
+        })
+        .collect()
+}
+
+/// The stored answers against oracle and model again.
+pub fn check(stored: &[Stored]) -> Result<Counts, String> {
+    let mut counts = Counts::default();
+    for (n, one) in stored.iter().enumerate() {
+        if judged(&one.frame)? != one.answer {
+            return Err(format!("stored answer {n} is not the judges'"));
+        }
+        counts.meet(&one.frame);
+    }
+    Ok(counts)
+}
