@@ -16,7 +16,7 @@ pub const FAMILIES: [(&str, usize); 14] = [
     ("cycle", 8),
     ("crossed", 5),
     ("lists", 5),
-    ("weighed", 1),
+    ("cells", 2),
     ("identity", 8),
     ("counts", 4),
     ("chain", 3),
@@ -396,29 +396,17 @@ fn lists(rng: &mut Rng) -> Img {
     img
 }
 
-/// A transport whose plan depends on comparing path costs as size × W + mass.
-fn weighed(rng: &mut Rng) -> Img {
-    let mut n = 3;
-    let mut cells = Vec::new();
-    for _ in 0..4_000 {
-        n = rng.range(3, 5);
-        cells = (0..n * n)
-            .map(|_| {
-                let mass = if rng.once_in(2) { 0 } else { 2 };
-                (rng.range(3, 6) as u64, mass)
-            })
-            .collect();
-        let problem = model::transport::Problem {
-            supply: vec![1; n],
-            demand: vec![1; n],
-            cells: cells.iter().copied().map(Some).collect(),
-        };
-        let plan = |slip| model::transport::solve(&problem, slip).map(|s| s.plan).ok();
-        if plan(Slip::None) != plan(Slip::PathsBySizeThenMass) {
-            break;
-        }
-    }
-    // Cell (i, j) is what operation 2 + i n + j gives: a difference where the mass
+/// A transport of n x n cells, each with an operation of its own, so that sizes and
+/// masses of the cells are drawn freely.
+fn cells(rng: &mut Rng) -> Img {
+    let n = rng.range(2, 5);
+    let cells: Vec<(u64, u64)> = (0..n * n)
+        .map(|_| {
+            let mass = if rng.once_in(2) { 0 } else { 2 };
+            (rng.range(3, 6) as u64, mass)
+        })
+        .collect();
+    // Cell (i, j) is what operation 3 + i n + j gives: a difference where the mass
     // is 2, and a shared rest.
     let mut img = Img {
         ops: vec![op(9, None), op(1, None), op(7, None)],
@@ -644,7 +632,7 @@ fn image(rng: &mut Rng, family: &str) -> Img {
         "crossed" => crossed(rng),
         "identity" => identity(rng),
         "lists" => lists(rng),
-        "weighed" => weighed(rng),
+        "cells" => cells(rng),
         "counts" => counts(rng),
         "chain" => chain(rng),
         "wide" => wide(rng),
@@ -688,7 +676,7 @@ fn measure(img: &Img, left: usize, right: usize) -> Option<(u64, u64)> {
 pub fn frames(rng: &mut Rng, family: &str) -> Vec<Vec<u8>> {
     let img = image(rng, if family == "damaged" { "mixed" } else { family });
     let n = img.classes.len();
-    let last = ["chain", "wide", "grid", "lists", "weighed"].contains(&family);
+    let last = ["chain", "wide", "grid", "lists", "cells"].contains(&family);
     let drawn = |rng: &mut Rng| {
         let (left, right) = if last && !rng.once_in(6) {
             (n - 2, n - 1)

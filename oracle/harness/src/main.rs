@@ -48,13 +48,12 @@ fn write(path: &str, bytes: &[u8]) -> Result<(), String> {
 }
 
 /// The slips that touch the transport solver.
-const SOLVER_SLIPS: [Slip; 6] = [
+const SOLVER_SLIPS: [Slip; 5] = [
     Slip::StackQueue,
     Slip::LooseRelax,
     Slip::PathsBySizeThenMass,
     Slip::VFromOpenCells,
     Slip::ColumnsFirst,
-    Slip::UnitSteps,
 ];
 
 /// The stored sample of a folder.
@@ -147,7 +146,7 @@ fn run(words: &[&str]) -> Result<(), String> {
         }
         ["sample", seed, folder] => {
             let source = read_text(&format!("{folder}/small.images"))?;
-            let stored = sample::choose(&source, number(seed)?, 8_000)?;
+            let stored = sample::choose(&source, number(seed)?, 20_000)?;
             let (frames, answers): (Vec<_>, Vec<_>) =
                 stored.into_iter().map(|s| (s.frame, s.answer)).unzip();
             write(&format!("{folder}/frames.bin"), &pack(&frames))?;

@@ -50,7 +50,6 @@ slips! {
     PathsBySizeThenMass: "path costs are compared by size and then mass",
     VFromOpenCells: "V is taken from cells with capacity above 0 only",
     ColumnsFirst: "a row's columns are tried from the last",
-    UnitSteps: "one unit a path",
     // Actions
     CrossedFirst: "crossed comes before straight",
     NoCrossed: "SPair is never crossed",

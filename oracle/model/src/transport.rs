@@ -69,11 +69,8 @@ pub fn solve(problem: &Problem, slip: Slip) -> Result<Solution, Refusal> {
         };
         search.run(&mut patience)?;
         let path = search.path().ok_or(Refusal(16))?;
-        let step = if slip == Slip::UnitSteps {
-            1
-        } else {
-            path.iter().map(|edge| search.room(*edge)).min().expect("a path has an edge")
-        };
+        let room = path.iter().map(|edge| search.room(*edge)).min();
+        let step = room.expect("a path has an edge");
         for (from, to) in path {
             match (from, to) {
                 (Node::Row(i), Node::Column(j)) => plan[i * columns + j] += step,
@@ -101,7 +98,7 @@ struct Patience(Option<u32>);
 
 impl Patience {
     fn new(slip: Slip) -> Self {
-        Patience((slip != Slip::None).then_some(200_000))
+        Patience((slip != Slip::None).then_some(2_000_000))
     }
 
     fn wait(&mut self) -> Result<(), Refusal> {
