@@ -1,25 +1,13 @@
 // SPDX-License-Identifier: Apache-2.0
 //! The harness: see README.md for its commands.
 
-mod damage;
-mod drive;
-mod r#gen;
-mod img;
-mod judge;
-mod limits;
-mod plans;
-mod rng;
-mod sample;
-mod small;
-mod text;
-
 use std::io::{Read, Write};
 
-use drive::{Counts, compare};
-use img::{Img, Query};
-use judge::{Judge, pack, unpack};
+use harness::drive::{Counts, compare};
+use harness::img::{Img, Query};
+use harness::judge::{Judge, pack, unpack};
+use harness::{draw, limits, plans, sample, small, text};
 use model::slip::Slip;
-use rng::Rng;
 
 fn stdin() -> Result<Vec<u8>, String> {
     let mut bytes = Vec::new();
@@ -72,18 +60,6 @@ fn stored(folder: &str) -> Result<Vec<sample::Stored>, String> {
 
 fn number(word: &str) -> Result<u64, String> {
     word.parse().map_err(|_| format!("{word:?} is no number"))
-}
-
-/// Frames from a seed: `count` of them, of one family or of all by weight.
-fn draw(seed: u64, count: usize, family: Option<&str>) -> Vec<Vec<u8>> {
-    let mut rng = Rng::new(seed);
-    let mut frames = Vec::new();
-    while frames.len() < count {
-        let name = family.unwrap_or_else(|| r#gen::family(&mut rng));
-        frames.extend(r#gen::frames(&mut rng, name));
-    }
-    frames.truncate(count);
-    frames
 }
 
 fn compare_frames(a: &str, b: &str, frames: &[Vec<u8>]) -> Result<(), String> {
