@@ -51,7 +51,11 @@ impl Counts {
             Phase::InsideRound => "phase 4 cut inside a round",
             Phase::Complete => "phase 5 complete",
         });
-        self.one(format!("rounds {:2}{}", outcome.rounds.min(10), ["", " or more"][usize::from(outcome.rounds > 9)]));
+        self.one(format!(
+            "rounds {:2}{}",
+            outcome.rounds.min(10),
+            ["", " or more"][usize::from(outcome.rounds > 9)]
+        ));
         for (kind, &count) in outcome.met.winners.iter().enumerate() {
             self.some(format!("action {}", KINDS[kind]), count);
         }
@@ -61,8 +65,14 @@ impl Counts {
         self.some("monomial pairs", met.monomials.paired);
         self.some("monomial pairs padded", met.monomials.padded);
         self.some("monomial pairs skipped", met.monomials.skipped);
-        self.some("monomial pairs with a class as itself", met.monomials.with_itself);
-        self.some("monomial pairs with an empty side", met.monomials.empty_side);
+        self.some(
+            "monomial pairs with a class as itself",
+            met.monomials.with_itself,
+        );
+        self.some(
+            "monomial pairs with an empty side",
+            met.monomials.empty_side,
+        );
         self.top("pairs", outcome.pairs as u64);
         self.top("rounds", outcome.rounds as u64);
         self.top("cells of a transport", met.largest_transport as u64);
@@ -98,9 +108,8 @@ fn pair(a: &Judge, b: &Judge, frame: &[u8]) -> Result<Option<(String, String)>, 
     let one = [frame.to_vec()];
     let (x, y) = (a.answers(&one)?.remove(0), b.answers(&one)?.remove(0));
     let model = model::answer(frame, Slip::None).into_bytes();
-    let silent = |judge: &Judge, answer: &[u8]| {
-        !judge.judges(frame, &model) || answer == b"unholdable\n"
-    };
+    let silent =
+        |judge: &Judge, answer: &[u8]| !judge.judges(frame, &model) || answer == b"unholdable\n";
     if x == y || silent(a, &x) || silent(b, &y) {
         return Ok(None);
     }

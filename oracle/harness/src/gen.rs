@@ -123,7 +123,11 @@ impl Drawing<'_> {
             .map(|_| {
                 let child = self.child(class, classes);
                 let many = kind == 7 && !self.rng.once_in(3);
-                let count = if many { self.rng.range(1, self.style.count) } else { 1 };
+                let count = if many {
+                    self.rng.range(1, self.style.count)
+                } else {
+                    1
+                };
                 (child, count as u32)
             })
             .collect();
@@ -328,7 +332,9 @@ fn twins(rng: &mut Rng) -> Img {
             break;
         }
         if img.classes[number].size == 0 {
-            img.classes[number].members.push(lit(lit_op, 2_000_000 + number as u32));
+            img.classes[number]
+                .members
+                .push(lit(lit_op, 2_000_000 + number as u32));
             img.order();
         }
     }
@@ -344,7 +350,9 @@ fn crossed(rng: &mut Rng) -> Img {
     let leaves = rng.range(2, 5);
     let mut img = Img {
         ops: vec![op(9, None), op(5, None), op(1, None), op(5, None)],
-        classes: (0..leaves).map(|n| class(vec![lit(0, n as u32 * 7)])).collect(),
+        classes: (0..leaves)
+            .map(|n| class(vec![lit(0, n as u32 * 7)]))
+            .collect(),
     };
     for _ in 0..rng.range(3, 9) {
         let n = img.classes.len();
@@ -366,7 +374,14 @@ fn crossed(rng: &mut Rng) -> Img {
 fn lists(rng: &mut Rng) -> Img {
     let leaves = rng.range(2, 4);
     let mut img = Img {
-        ops: vec![op(9, None), op(6, None), op(7, None), op(8, None), op(5, None), op(1, None)],
+        ops: vec![
+            op(9, None),
+            op(6, None),
+            op(7, None),
+            op(8, None),
+            op(5, None),
+            op(1, None),
+        ],
         classes: (0..leaves)
             .map(|n| class(vec![lit(0, [9, 4_000_000_000, 0, 7][n])]))
             .collect(),
@@ -418,7 +433,8 @@ fn cells(rng: &mut Rng) -> Img {
     };
     let mut rest = vec![2];
     for _ in 0..6 {
-        img.classes.push(class(vec![over(1, &[rest[rest.len() - 1]])]));
+        img.classes
+            .push(class(vec![over(1, &[rest[rest.len() - 1]])]));
         rest.push(img.classes.len() - 1);
     }
     img.ops.extend((0..n * n).map(|_| op(4, None)));
@@ -436,10 +452,12 @@ fn cells(rng: &mut Rng) -> Img {
     };
     let first = img.classes.len();
     for i in 0..n {
-        img.classes.push(class((0..n).map(|j| member(i, j, 0)).collect()));
+        img.classes
+            .push(class((0..n).map(|j| member(i, j, 0)).collect()));
     }
     for j in 0..n {
-        img.classes.push(class((0..n).map(|i| member(i, j, 1)).collect()));
+        img.classes
+            .push(class((0..n).map(|i| member(i, j, 1)).collect()));
     }
     let left: Vec<usize> = (first..first + n).collect();
     let right: Vec<usize> = (first + n..first + 2 * n).collect();
@@ -499,8 +517,19 @@ fn counts(rng: &mut Rng) -> Img {
 fn chain(rng: &mut Rng) -> Img {
     let depth = *rng.pick(&[8, 12, 20, 40, 90]);
     let mut img = Img {
-        ops: vec![op(9, None), op(1, None), op(2, None), op(5, None), op(6, None), op(7, None)],
-        classes: vec![class(vec![lit(0, 1)]), class(vec![lit(0, 2)]), class(vec![lit(0, 3)])],
+        ops: vec![
+            op(9, None),
+            op(1, None),
+            op(2, None),
+            op(5, None),
+            op(6, None),
+            op(7, None),
+        ],
+        classes: vec![
+            class(vec![lit(0, 1)]),
+            class(vec![lit(0, 2)]),
+            class(vec![lit(0, 3)]),
+        ],
     };
     let (mut left, mut right) = (0, 1);
     for _ in 0..depth {
@@ -544,14 +573,22 @@ fn wide(rng: &mut Rng) -> Img {
     }
     let kind = rng.range(2, 3);
     for side in 0..2 {
-        let width = if rng.once_in(2) { leaves } else { rng.range(10, leaves) };
+        let width = if rng.once_in(2) {
+            leaves
+        } else {
+            rng.range(10, leaves)
+        };
         let children = (0..width)
             .map(|k| {
                 let number = match rng.below(6) {
                     0 => 1 + rng.below(2 * leaves),
                     _ => 1 + k + side * leaves,
                 };
-                let count = if kind == 2 && rng.once_in(4) { rng.range(1, 4) } else { 1 };
+                let count = if kind == 2 && rng.once_in(4) {
+                    rng.range(1, 4)
+                } else {
+                    1
+                };
                 (number, count as u32)
             })
             .collect();
@@ -686,7 +723,11 @@ pub fn frames(rng: &mut Rng, family: &str) -> Vec<Vec<u8>> {
         } else {
             (rng.below(n), rng.below(n))
         };
-        let (left, right) = if rng.once_in(4) { (right, left) } else { (left, right) };
+        let (left, right) = if rng.once_in(4) {
+            (right, left)
+        } else {
+            (left, right)
+        };
         let (pairs, rounds) = measure(&img, left, right).unwrap_or((4_096, 4));
         (left, right, pairs, rounds)
     };

@@ -7,7 +7,9 @@ use std::process::{Command, Stdio};
 use model::slip::{SLIPS, Slip};
 
 pub enum Judge {
-    Oracle { pruning: bool },
+    Oracle {
+        pruning: bool,
+    },
     Model(Slip),
     /// A command that takes a stream of frames and gives a stream of answers.
     Stream(String),

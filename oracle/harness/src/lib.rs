@@ -13,7 +13,6 @@ pub mod sample;
 pub mod small;
 pub mod text;
 
-
 use rng::Rng;
 
 /// Frames from a seed: `count` of them, of one family or of all by weight.

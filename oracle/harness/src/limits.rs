@@ -42,7 +42,10 @@ fn tables(found: &mut Vec<Case>) {
             classes: vec![class(vec![lit(0, 1)]), class(vec![lit(63, 1)])],
         };
         img.classes[1].members[0].op = ops - 1;
-        found.push((format!("{ops} operations"), settled(img).frame(&ask(0, 1, 9))));
+        found.push((
+            format!("{ops} operations"),
+            settled(img).frame(&ask(0, 1, 9)),
+        ));
     }
     for classes in [256, 257] {
         let img = Img {
@@ -58,7 +61,10 @@ fn tables(found: &mut Vec<Case>) {
             classes: vec![class(vec![lit(0, 7)]), class(vec![])],
         };
         img.classes[1].members = vec![over(1, &[]); members - 1];
-        found.push((format!("{members} members"), settled(img).frame(&ask(0, 1, 9))));
+        found.push((
+            format!("{members} members"),
+            settled(img).frame(&ask(0, 1, 9)),
+        ));
     }
     for children in [4_096, 4_097] {
         let mut classes = literals(2);
@@ -72,7 +78,10 @@ fn tables(found: &mut Vec<Case>) {
             ops: vec![op(9), op(6)],
             classes,
         };
-        found.push((format!("{children} children"), settled(img).frame(&ask(2, 3, 90))));
+        found.push((
+            format!("{children} children"),
+            settled(img).frame(&ask(2, 3, 90)),
+        ));
     }
     for width in [64, 65] {
         let mut classes = literals(1);
@@ -188,6 +197,36 @@ fn graphs(found: &mut Vec<Case>) {
             }
         }
     }
+}
+
+/// 65 rows: 64 classes on the left and the identity that pads them.
+fn rows() -> Img {
+    let mut classes = literals(125);
+    let left: Vec<usize> = (1..65).collect();
+    let right = (65..125)
+        .map(|n| (n, if n == 70 { 6 } else { 1 }))
+        .collect();
+    classes.push(class(vec![over(1, &left)]));
+    classes.push(class(vec![Member {
+        op: 1,
+        literal: 0,
+        children: right,
+    }]));
+    settled(Img {
+        ops: vec![
+            op(9),
+            Operation {
+                kind: 7,
+                identity: Some(0),
+            },
+        ],
+        classes,
+    })
+}
+
+fn transports(found: &mut Vec<Case>) {
+    let frame = rows().frame(&ask(125, 126, u32::MAX));
+    found.push(("a transport of 65 rows and 60 columns".to_string(), frame));
 }
 
 /// Chains of each side, each pair of them improved round after round: many terms.
@@ -353,6 +392,7 @@ pub fn cases() -> Vec<Case> {
     sizes(&mut found);
     inputs(&mut found);
     graphs(&mut found);
+    transports(&mut found);
     terms(&mut found);
     listings(&mut found);
     found

@@ -94,9 +94,7 @@ fn run(words: &[&str]) -> Result<(), String> {
             print!("{}", small::small(&read_text(source)?)?);
             Ok(())
         }
-        ["draw", seed, count] => {
-            stdout(&pack(&draw(number(seed)?, number(count)? as usize, None)))
-        }
+        ["draw", seed, count] => stdout(&pack(&draw(number(seed)?, number(count)? as usize, None))),
         ["draw", seed, count, family] => {
             let frames = draw(number(seed)?, number(count)? as usize, Some(family));
             stdout(&pack(&frames))
@@ -109,11 +107,17 @@ fn run(words: &[&str]) -> Result<(), String> {
             compare_frames(a, b, &frames)
         }
         ["plans", seed, count] => {
-            print!("{}", plans::compare(number(seed)?, number(count)? as usize)?);
+            print!(
+                "{}",
+                plans::compare(number(seed)?, number(count)? as usize)?
+            );
             Ok(())
         }
         ["plans-slips", seed, count] => {
-            print!("{}", plans::slips(number(seed)?, number(count)? as usize, &SOLVER_SLIPS));
+            print!(
+                "{}",
+                plans::slips(number(seed)?, number(count)? as usize, &SOLVER_SLIPS)
+            );
             Ok(())
         }
         ["plans-sample", seed] => {
@@ -131,7 +135,11 @@ fn run(words: &[&str]) -> Result<(), String> {
         ["slips", folder] => {
             for (name, meaning, caught) in sample::table(&stored(folder)?) {
                 let some: Vec<String> = caught.iter().take(6).map(usize::to_string).collect();
-                println!("| {name} | {meaning} | {} | {} |", caught.len(), some.join(" "));
+                println!(
+                    "| {name} | {meaning} | {} | {} |",
+                    caught.len(),
+                    some.join(" ")
+                );
             }
             Ok(())
         }

@@ -28,9 +28,7 @@ fn problem(drawn: &Drawn) -> Problem {
 
 /// The problem as a line of text.
 pub fn line(drawn: &Drawn) -> String {
-    let words = |numbers: &[u32]| -> String {
-        numbers.iter().map(|n| format!(" {n}")).collect()
-    };
+    let words = |numbers: &[u32]| -> String { numbers.iter().map(|n| format!(" {n}")).collect() };
     let cells: String = drawn
         .cells
         .iter()
@@ -54,7 +52,9 @@ pub fn parse(line: &str) -> Result<Drawn, String> {
         .ok_or_else(wrong)?;
     let (demand, cells) = rest.split_once("cells").ok_or_else(wrong)?;
     let numbers = |text: &str| -> Option<Vec<u32>> {
-        text.split_whitespace().map(|word| word.parse().ok()).collect()
+        text.split_whitespace()
+            .map(|word| word.parse().ok())
+            .collect()
     };
     let cell = |word: &str| match word.split_once(',') {
         None => (word == "-").then_some(None),
@@ -106,7 +106,11 @@ pub fn draw(rng: &mut Rng) -> Drawn {
         _ => 3,
     };
     let narrow = rows.min(columns) as u64;
-    let total = if rng.once_in(30) { 0 } else { rng.next() % (high * narrow.max(1) + 1) };
+    let total = if rng.once_in(30) {
+        0
+    } else {
+        rng.next() % (high * narrow.max(1) + 1)
+    };
     let mut supply = spread(rng, rows, total, high);
     let demand = spread(rng, columns, total, high);
     if rng.once_in(20) && !supply.is_empty() {
@@ -140,7 +144,12 @@ pub fn by_model(drawn: &Drawn, slip: Slip) -> String {
         Err(Refusal(number)) => format!("refused {number}"),
         Ok(solution) => {
             let plan: Vec<String> = solution.plan.iter().map(u64::to_string).collect();
-            format!("size {} mass {} plan {}", solution.size, solution.mass, plan.join(" "))
+            format!(
+                "size {} mass {} plan {}",
+                solution.size,
+                solution.mass,
+                plan.join(" ")
+            )
         }
     }
 }
@@ -222,10 +231,15 @@ pub fn compare(seed: u64, count: usize) -> Result<String, String> {
         let model = by_model(&drawn, Slip::None);
         let oracle = by_oracle(&drawn).ok_or("a drawn problem has the right cells")?;
         if oracle != model {
-            return Err(format!("{}\noracle: {oracle}\nmodel: {model}", line(&drawn)));
+            return Err(format!(
+                "{}\noracle: {oracle}\nmodel: {model}",
+                line(&drawn)
+            ));
         }
         if let Some(least) = by_force(&drawn) {
-            let least = least.map_or("refused 16".to_string(), |(s, m)| format!("size {s} mass {m}"));
+            let least = least.map_or("refused 16".to_string(), |(s, m)| {
+                format!("size {s} mass {m}")
+            });
             if !model.starts_with(&least) {
                 return Err(format!("{}\nforce: {least}\nmodel: {model}", line(&drawn)));
             }
@@ -264,13 +278,17 @@ pub fn slips(seed: u64, count: usize, slips: &[Slip]) -> String {
 /// The stored problems with their answers: a line each, the answer indented.
 pub fn check(stored: &str) -> Result<usize, String> {
     let mut count = 0;
-    let mut lines = stored.lines().filter(|line| !line.starts_with('#') && !line.is_empty());
+    let mut lines = stored
+        .lines()
+        .filter(|line| !line.starts_with('#') && !line.is_empty());
     while let (Some(asked), Some(answer)) = (lines.next(), lines.next()) {
         let drawn = parse(asked)?;
         let model = by_model(&drawn, Slip::None);
         let oracle = by_oracle(&drawn).unwrap_or_else(|| model.clone());
         if answer.trim() != model || model != oracle {
-            return Err(format!("{asked}\nstored: {answer}\nmodel: {model}\noracle: {oracle}"));
+            return Err(format!(
+                "{asked}\nstored: {answer}\nmodel: {model}\noracle: {oracle}"
+            ));
         }
         count += 1;
     }
@@ -301,7 +319,9 @@ pub fn sample(seed: u64, slips: &[Slip]) -> String {
         chosen.push(Drawn {
             supply: vec![1; rows],
             demand: vec![1; columns],
-            cells: (0..rows * columns).map(|at| Some((at as u32 % 7, at as u32 % 5))).collect(),
+            cells: (0..rows * columns)
+                .map(|at| Some((at as u32 % 7, at as u32 % 5)))
+                .collect(),
         });
     }
     let mut caught = vec![0; slips.len()];

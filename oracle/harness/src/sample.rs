@@ -51,7 +51,7 @@ const TOO_LARGE: [&str; 14] = [
 
 /// How often each slip must be caught, and how many frames there are at least.
 const CATCHES: usize = 4;
-const FRAMES: usize = 410;
+const FRAMES: usize = 400;
 
 pub fn choose(source: &str, seed: u64, drawn: usize) -> Result<Vec<Stored>, String> {
     let mut fixed: Vec<Vec<u8>> = Vec::new();
@@ -69,7 +69,7 @@ pub fn choose(source: &str, seed: u64, drawn: usize) -> Result<Vec<Stored>, Stri
     while pool.len() < drawn {
         let family = r#gen::family(&mut rng);
         for frame in r#gen::frames(&mut rng, family) {
-            if frame.len() <= 360 {
+            if frame.len() <= 340 {
                 pool.push(frame);
             }
         }

@@ -49,7 +49,11 @@ pub fn small(source: &str) -> Result<String, String> {
     }
     for (what, frame) in damage::small() {
         out.push_str(&format!("# {what}\n"));
-        entry(&mut out, &frame, &model::answer(&frame, model::slip::Slip::None));
+        entry(
+            &mut out,
+            &frame,
+            &model::answer(&frame, model::slip::Slip::None),
+        );
     }
     Ok(out)
 }

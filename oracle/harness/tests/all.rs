@@ -5,6 +5,7 @@ use harness::drive::{Counts, compare};
 use harness::img::Img;
 use harness::judge::{Judge, unpack};
 use harness::{damage, draw, limits, plans, sample, small, text};
+use model::belongs::{Belongs, Reading};
 use model::brute::Derivations;
 use model::slip::Slip;
 
@@ -45,7 +46,10 @@ fn example_e_of_document_01() {
     };
     assert_eq!(answer(14), format!("complete pairs 3 rounds 1 {improved}"));
     for budget in [13, 10] {
-        assert_eq!(answer(budget), format!("partial pairs 3 rounds 1 {improved}"));
+        assert_eq!(
+            answer(budget),
+            format!("partial pairs 3 rounds 1 {improved}")
+        );
     }
     for (budget, pairs) in [(9, 3), (3, 3), (2, 1), (0, 1)] {
         let start = format!("partial pairs {pairs} rounds 0 size 6 mass 6\n");
@@ -190,5 +194,44 @@ fn image_text_and_back() {
             let img = Img::of(&image);
             assert_eq!(text::parse(&text::print(&img, &[])), Ok((img, vec![])));
         }
+    }
+}
+
+/// Read by the first branch the result belongs to the left class, by the second to
+/// the right class.
+#[test]
+fn readings_belong_to_the_queried_classes() {
+    let mut read = 0;
+    for frame in draw(15, if cfg!(debug_assertions) { 300 } else { 3_000 }, None) {
+        let Ok((image, left, right, _)) = model::query(&frame, Slip::None) else {
+            continue;
+        };
+        let Ok((text, outcome)) = model::outcome(&frame, Slip::None) else {
+            continue;
+        };
+        // Written out, a list of this model's readings must stay small.
+        let most = outcome.pool.nodes.iter().map(|node| node.runs.len()).max();
+        if outcome.pool.nodes[outcome.root].quality.0 > 100_000 || most > Some(65) {
+            continue;
+        }
+        for (branch, class) in [left, right].into_iter().enumerate() {
+            let mut reading = Reading::new(&outcome.pool, branch);
+            let term = reading.read(outcome.root);
+            let belongs = Belongs::new(&image, &reading.pool).belongs(term, class);
+            assert!(belongs, "branch {branch} of\n{text}");
+        }
+        read += 1;
+    }
+    assert!(read > 200, "only {read} results read");
+}
+
+#[test]
+fn examples_have_their_listings() {
+    for name in ["E", "airport", "night", "luggage", "cap", "zones"] {
+        let (img, queries) = text::parse(&file(&format!("../examples/{name}.txt"))).unwrap();
+        let listing = file(&format!("../examples/{name}.listing"));
+        let frame = img.frame(&queries[0]);
+        assert_eq!(listed::answer(&frame, false).text(), listing, "{name}");
+        assert_eq!(model::answer(&frame, Slip::None), listing, "{name}");
     }
 }

@@ -52,8 +52,7 @@ pub fn read(frame: &[u8]) -> Option<Query> {
     if frame.len() != length.checked_add(12)? || r.number(1)? != 1 {
         return None;
     }
-    let [operations, classes, members, children] =
-        [r.short()?, r.short()?, r.short()?, r.short()?];
+    let [operations, classes, members, children] = [r.short()?, r.short()?, r.short()?, r.short()?];
     let operations: Vec<Operation> = (0..operations)
         .map(|_| {
             let kind = r.number(1)? as u8;

@@ -15,7 +15,11 @@ pub type Pool = TermPool<OpId, LitValId>;
 
 pub fn listing(result: &FixedExact<TermId>, pool: &Pool) -> String {
     let (size, mass) = pool.quality(result.term);
-    let status = if result.complete { "complete" } else { "partial" };
+    let status = if result.complete {
+        "complete"
+    } else {
+        "partial"
+    };
     let mut text = format!(
         "{status} pairs {} rounds {} size {size} mass {mass}\n",
         result.states, result.rounds

@@ -115,7 +115,11 @@ pub fn accept(bytes: &[u8], slip: Slip) -> Result<Image, Refusal> {
     let counts = [5, 7, 9, 11].map(|at| short(bytes, at));
     let [operations, classes, members, children] = counts;
     let ranges = [1..=64, 1..=256, 1..=1_024, 0..=4_096];
-    if ranges.iter().zip(counts).any(|(range, n)| !range.contains(&n)) {
+    if ranges
+        .iter()
+        .zip(counts)
+        .any(|(range, n)| !range.contains(&n))
+    {
         return Err(Refusal(4));
     }
     let classes_at = 13 + 4 * operations;
@@ -182,7 +186,8 @@ fn operations_hold(image: &Image, slip: Slip) -> bool {
             identity,
         } = operation;
         let commutative = [SPAIR, MSET, SET].contains(&kind);
-        let may_have = kind == MSET || kind == SET || (slip == Slip::IdentityOfSPair && kind == SPAIR);
+        let may_have =
+            kind == MSET || kind == SET || (slip == Slip::IdentityOfSPair && kind == SPAIR);
         kind <= 9
             && flag == u8::from(commutative)
             && (identity == NONE || (may_have && identity < image.classes.len()))

@@ -3,6 +3,7 @@
 //! the listed Rust. Each module quotes the sentences it says.
 
 pub mod action;
+pub mod belongs;
 pub mod brute;
 pub mod image;
 pub mod listing;

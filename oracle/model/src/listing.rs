@@ -19,7 +19,13 @@ pub fn listing(outcome: &Outcome, slip: Slip) -> String {
         outcome.pairs, outcome.rounds
     );
     let mut order = Vec::new();
-    finish(outcome.root, &outcome.pool, &mut order, &mut HashMap::new(), slip);
+    finish(
+        outcome.root,
+        &outcome.pool,
+        &mut order,
+        &mut HashMap::new(),
+        slip,
+    );
     let number: HashMap<usize, usize> = order.iter().enumerate().map(|(n, &t)| (t, n)).collect();
     for (n, &term) in order.iter().enumerate() {
         let node = &outcome.pool.nodes[term];

@@ -68,5 +68,7 @@ pub fn pad(
 /// "A pair with a count above 4,294,967,295 on either side is skipped."
 pub fn skipped(left: &Monomial, right: &Monomial, slip: Slip) -> bool {
     let most = u64::from(u32::MAX) - u64::from(slip == Slip::SkipAtLimit);
-    left.values().chain(right.values()).any(|&count| count > most)
+    left.values()
+        .chain(right.values())
+        .any(|&count| count > most)
 }

@@ -72,7 +72,11 @@ pub fn run(
         Built::Cut { entered } => {
             return Ok(Outcome {
                 phase: Phase::Building,
-                pairs: if slip == Slip::BuildingPairs { entered } else { 1 },
+                pairs: if slip == Slip::BuildingPairs {
+                    entered
+                } else {
+                    1
+                },
                 rounds: 0,
                 root,
                 pool,
@@ -101,7 +105,13 @@ pub fn run(
     let mut before = terms[0];
     let (phase, root) = loop {
         met.root.push(qualities[0]);
-        let cut = |root| if slip == Slip::CutRootImproved { before } else { root };
+        let cut = |root| {
+            if slip == Slip::CutRootImproved {
+                before
+            } else {
+                root
+            }
+        };
         if slip != Slip::FreeRoundStart && !budget.spend() {
             break (Phase::RoundStart, cut(terms[0]));
         }

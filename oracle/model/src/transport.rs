@@ -150,12 +150,18 @@ impl Search<'_> {
     }
 
     fn column_flow(&self, j: usize) -> u64 {
-        (0..self.rows()).map(|i| self.plan[i * self.columns() + j]).sum()
+        (0..self.rows())
+            .map(|i| self.plan[i * self.columns() + j])
+            .sum()
     }
 
     /// What an edge can still take; a cell takes at most the smaller margin.
     fn room(&self, edge: (Node, Node)) -> u64 {
-        let Problem { supply, demand, cells } = self.problem;
+        let Problem {
+            supply,
+            demand,
+            cells,
+        } = self.problem;
         match edge {
             (Node::Source, Node::Row(i)) => supply[i] - self.row_flow(i),
             (Node::Row(i), Node::Source) => self.row_flow(i),

@@ -12,7 +12,11 @@ fn main() -> std::io::Result<()> {
     std::io::stdin().read_to_end(&mut input)?;
     let mut output = std::io::BufWriter::new(std::io::stdout());
     if !flag("--stream") {
-        return write!(output, "{}", listed::answer(&input, flag("--pruning")).text());
+        return write!(
+            output,
+            "{}",
+            listed::answer(&input, flag("--pruning")).text()
+        );
     }
     let mut rest = &input[..];
     while let Some((head, tail)) = rest.split_first_chunk::<4>() {

@@ -16,14 +16,19 @@ fn parse(line: &str) -> Option<(Vec<u32>, Vec<u32>, Cells)> {
     let (supply, rest) = line.strip_prefix("supply")?.split_once("demand")?;
     let (demand, cells) = rest.split_once("cells")?;
     let numbers = |text: &str| -> Option<Vec<u32>> {
-        text.split_whitespace().map(|word| word.parse().ok()).collect()
+        text.split_whitespace()
+            .map(|word| word.parse().ok())
+            .collect()
     };
     let cell = |word: &str| match word.split_once(',') {
         None if word == "-" => Some(None),
         None => None,
         Some((size, mass)) => Some(Some((size.parse().ok()?, mass.parse().ok()?))),
     };
-    let cells = cells.split_whitespace().map(cell).collect::<Option<Cells>>()?;
+    let cells = cells
+        .split_whitespace()
+        .map(cell)
+        .collect::<Option<Cells>>()?;
     Some((numbers(supply)?, numbers(demand)?, cells))
 }
 
@@ -45,8 +50,7 @@ fn main() {
         match listed::transport(supply, demand, rows) {
             None => println!("refused 16"),
             Some(solution) => {
-                let plan: Vec<String> =
-                    solution.flow.concat().iter().map(u32::to_string).collect();
+                let plan: Vec<String> = solution.flow.concat().iter().map(u32::to_string).collect();
                 println!(
                     "size {} mass {} plan {}",
                     solution.total.0,
