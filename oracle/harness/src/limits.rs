@@ -95,6 +95,28 @@ fn tables(found: &mut Vec<Case>) {
     }
 }
 
+/// 64 operations, 256 classes, 1,024 members and 4,096 children at once.
+fn full(found: &mut Vec<Case>) {
+    let mut classes = literals(2);
+    for n in 0..64 {
+        classes.push(class(vec![over(1, &vec![n % 2; 64])]));
+    }
+    let mut value = 100;
+    while classes.len() < 256 {
+        let count = if classes.len() == 255 { 13 } else { 5 };
+        let members = (0..count).map(|n| lit(63, value + n)).collect();
+        value += count;
+        classes.push(class(members));
+    }
+    let mut ops = vec![op(9), op(6)];
+    ops.resize(64, op(9));
+    let img = settled(Img { ops, classes });
+    for (left, right) in [(2, 3), (65, 255)] {
+        let frame = img.frame(&ask(left, right, 900));
+        found.push((format!("all tables full, {left} {right}"), frame));
+    }
+}
+
 /// Best sizes at the end of their range; a sum that wraps at 32 bits.
 fn sizes(found: &mut Vec<Case>) {
     let mset = |children: &[(usize, u32)]| Member {
@@ -389,6 +411,7 @@ fn listings(found: &mut Vec<Case>) {
 pub fn cases() -> Vec<Case> {
     let mut found = Vec::new();
     tables(&mut found);
+    full(&mut found);
     sizes(&mut found);
     inputs(&mut found);
     graphs(&mut found);

@@ -132,6 +132,10 @@ fn run(words: &[&str]) -> Result<(), String> {
             write(&format!("{folder}/frames.bin"), &pack(&frames))?;
             write(&format!("{folder}/answers.bin"), &pack(&answers))
         }
+        ["meets", folder] => {
+            print!("{}", sample::check(&stored(folder)?)?.print());
+            Ok(())
+        }
         ["slips", folder] => {
             for (name, meaning, caught) in sample::table(&stored(folder)?) {
                 let some: Vec<String> = caught.iter().take(6).map(usize::to_string).collect();

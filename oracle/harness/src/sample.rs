@@ -4,7 +4,7 @@
 
 use std::collections::BTreeSet;
 
-use model::image::Refusal;
+use model::run::{Outcome, Phase};
 use model::slip::{SLIPS, Slip};
 
 use crate::damage;
@@ -32,10 +32,14 @@ pub fn judged(frame: &[u8]) -> Result<Vec<u8>, String> {
 }
 
 /// Cases of limits.rs that are not stored, for their size.
-const TOO_LARGE: [&str; 14] = [
+const TOO_LARGE: [&str; 18] = [
+    "1024 members",
     "1025 members",
+    "4096 children",
     "4097 children",
+    "256 classes",
     "257 classes",
+    "all tables full, 2 3",
     "an input of 65536 bytes",
     "an input of 65537 bytes",
     "4095 pairs, budget 4294967295",
@@ -51,7 +55,7 @@ const TOO_LARGE: [&str; 14] = [
 
 /// How often each slip must be caught, and how many frames there are at least.
 const CATCHES: usize = 4;
-const FRAMES: usize = 400;
+const FRAMES: usize = 392;
 
 pub fn choose(source: &str, seed: u64, drawn: usize) -> Result<Vec<Stored>, String> {
     let mut fixed: Vec<Vec<u8>> = Vec::new();
@@ -69,7 +73,7 @@ pub fn choose(source: &str, seed: u64, drawn: usize) -> Result<Vec<Stored>, Stri
     while pool.len() < drawn {
         let family = r#gen::family(&mut rng);
         for frame in r#gen::frames(&mut rng, family) {
-            if frame.len() <= 340 {
+            if frame.len() <= 320 {
                 pool.push(frame);
             }
         }
@@ -101,17 +105,27 @@ pub fn choose(source: &str, seed: u64, drawn: usize) -> Result<Vec<Stored>, Stri
             }
         }
     }
-    // The rest: improved in some round and of all sizes.
-    let mut at = 0;
-    while chosen.len() < FRAMES && at < 100_000 {
-        at += 1;
-        let frame = rng.pick(&pool).clone();
-        let wanted = match model::outcome(&frame, Slip::None) {
-            Err(Refusal(_)) => rng.once_in(40),
-            Ok((_, outcome)) => outcome.rounds > 0 || rng.once_in(12),
-        };
-        if wanted && taken.insert(frame.clone()) {
-            chosen.push(frame);
+    // The rest: some of each phase, some crossed, some with several rounds.
+    let quotas: [(usize, fn(&Outcome) -> bool); 6] = [
+        (14, |o| o.met.crossed > 0),
+        (14, |o| o.rounds > 2),
+        (8, |o| o.phase == Phase::Building),
+        (8, |o| o.phase == Phase::StartingTerms),
+        (8, |o| o.phase == Phase::RoundStart && o.rounds > 0),
+        (FRAMES, |o| o.rounds > 1),
+    ];
+    for (quota, wanted) in quotas {
+        let mut more = quota.min(FRAMES.saturating_sub(chosen.len()));
+        for _ in 0..20_000 {
+            let frame = rng.pick(&pool);
+            if more > 0
+                && !taken.contains(frame)
+                && model::outcome(frame, Slip::None).is_ok_and(|(_, outcome)| wanted(&outcome))
+            {
+                more -= 1;
+                taken.insert(frame.clone());
+                chosen.push(frame.clone());
+            }
         }
     }
     chosen
