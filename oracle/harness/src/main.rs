@@ -6,7 +6,7 @@ use std::io::{Read, Write};
 use harness::drive::{Counts, compare};
 use harness::img::{Img, Query};
 use harness::judge::{Judge, pack, unpack};
-use harness::{draw, limits, plans, sample, small, text};
+use harness::{damage, draw, limits, plans, sample, small, text};
 use model::slip::Slip;
 
 fn stdin() -> Result<Vec<u8>, String> {
@@ -154,6 +154,14 @@ fn run(words: &[&str]) -> Result<(), String> {
                 println!("{:>6} bytes  {what}: {line}", frame.len());
             }
             Ok(())
+        }
+        ["frames", "limits"] => {
+            let frames: Vec<Vec<u8>> = limits::cases().into_iter().map(|case| case.1).collect();
+            stdout(&pack(&frames))
+        }
+        ["frames", "damaged"] => {
+            let frames: Vec<Vec<u8>> = damage::small().into_iter().map(|case| case.1).collect();
+            stdout(&pack(&frames))
         }
         ["compare", a, b, path] => compare_frames(a, b, &unpack(&read(path)?)?),
         ["answer", judge] => stdout(&pack(&Judge::parse(judge)?.answers(&unpack(&stdin()?)?)?)),
