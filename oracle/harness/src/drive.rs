@@ -278,6 +278,17 @@ fn smaller(img: &Img, query: &Query) -> Vec<(Img, Query)> {
             }
         }
     }
+    for gone in 0..img.ops.len() {
+        let members = || img.classes.iter().flat_map(|c| &c.members);
+        if img.ops.len() > 1 && members().all(|m| m.op != gone) {
+            let mut next = img.clone();
+            next.ops.remove(gone);
+            for member in next.classes.iter_mut().flat_map(|c| &mut c.members) {
+                member.op -= usize::from(member.op > gone);
+            }
+            add(next, query.clone());
+        }
+    }
     for (n, op) in img.ops.iter().enumerate() {
         if op.identity.is_some() {
             let mut next = img.clone();

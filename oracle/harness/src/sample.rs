@@ -156,6 +156,15 @@ pub fn table(stored: &[Stored]) -> Vec<(&'static str, &'static str, Vec<usize>)>
         .collect()
 }
 
+/// Whether some frame catches a slip; small frames are asked first.
+pub fn catches(stored: &[Stored], slip: Slip) -> bool {
+    let mut order: Vec<&Stored> = stored.iter().collect();
+    order.sort_by_key(|one| one.frame.len() + one.answer.len());
+    order
+        .iter()
+        .any(|one| model::answer(&one.frame, slip).as_bytes() != one.answer)
+}
+
 /// The stored answers against oracle and model again.
 pub fn check(stored: &[Stored]) -> Result<Counts, String> {
     let mut counts = Counts::default();

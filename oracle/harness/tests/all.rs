@@ -7,7 +7,7 @@ use harness::judge::{Judge, unpack};
 use harness::{damage, draw, limits, plans, sample, small, text};
 use model::belongs::{Belongs, Reading};
 use model::brute::Derivations;
-use model::slip::Slip;
+use model::slip::{SLIPS, Slip};
 
 fn file(name: &str) -> String {
     let path = format!("{}/../{name}", env!("CARGO_MANIFEST_DIR"));
@@ -59,7 +59,7 @@ fn example_e_of_document_01() {
 
 #[test]
 fn oracle_and_model_agree_on_drawn_queries() {
-    let count = if cfg!(debug_assertions) { 1_500 } else { 6_000 };
+    let count = if cfg!(debug_assertions) { 1_500 } else { 4_000 };
     let mut counts = Counts::default();
     let difference = compare(&ORACLE, &MODEL, &draw(20_261_115, count, None), &mut counts).unwrap();
     if let Some(difference) = difference {
@@ -145,15 +145,17 @@ fn stored_answers_are_the_judges() {
 
 #[test]
 fn every_slip_is_caught_by_the_sample() {
-    for (name, _, caught) in sample::table(&stored()) {
-        assert_eq!(caught.is_empty(), sample::EQUAL.contains(&name), "{name}");
+    let stored = stored();
+    for &(slip, name, _) in SLIPS {
+        let equal = sample::EQUAL.contains(&name);
+        assert!(equal || sample::catches(&stored, slip), "{name}");
     }
 }
 
 #[test]
 fn transport_problems() {
     assert!(plans::check(&file("sample/transport.txt")).unwrap() > 80);
-    plans::compare(9, if cfg!(debug_assertions) { 400 } else { 4_000 }).unwrap();
+    plans::compare(9, if cfg!(debug_assertions) { 400 } else { 3_000 }).unwrap();
 }
 
 /// After r rounds the root's quality is the least of all derivations of height r.
@@ -202,7 +204,7 @@ fn image_text_and_back() {
 #[test]
 fn readings_belong_to_the_queried_classes() {
     let mut read = 0;
-    for frame in draw(15, if cfg!(debug_assertions) { 300 } else { 3_000 }, None) {
+    for frame in draw(15, if cfg!(debug_assertions) { 300 } else { 1_500 }, None) {
         let Ok((image, left, right, _)) = model::query(&frame, Slip::None) else {
             continue;
         };
