@@ -7,9 +7,10 @@ use std::collections::HashSet;
 use model::slip::Slip;
 
 use crate::img::{Class, Img, Member, Operation, Query};
+use crate::limits;
 use crate::rng::Rng;
 
-pub const FAMILIES: [(&str, usize); 14] = [
+pub const FAMILIES: [(&str, usize); 17] = [
     ("mixed", 30),
     ("twins", 24),
     ("ties", 10),
@@ -24,6 +25,10 @@ pub const FAMILIES: [(&str, usize); 14] = [
     ("grid", 1),
     ("huge", 1),
     ("damaged", 5),
+    // Slow, and mostly refused: drawn by name only.
+    ("crowded", 0),
+    ("terms", 0),
+    ("long", 0),
 ];
 
 const PLAIN: [u8; 5] = [0, 1, 2, 3, 4];
@@ -663,6 +668,14 @@ fn huge(rng: &mut Rng) -> Img {
 
 fn image(rng: &mut Rng, family: &str) -> Img {
     match family {
+        "crowded" if rng.once_in(2) => limits::crowded(64, rng.range(62, 64)),
+        "crowded" => limits::pairs(rng.range(4_090, 4_097)),
+        "terms" => limits::many_terms(rng.range(40, 62)),
+        "long" => {
+            let values: Vec<u32> = (0..128).map(|n| 1_000 + n * 7).collect();
+            let width = rng.range(50, 64);
+            limits::long_lines(width, rng.below(40), &values[..2 * width])
+        }
         "twins" => twins(rng),
         "ties" => ties(rng),
         "cycle" => cycle(rng),
@@ -713,7 +726,10 @@ fn measure(img: &Img, left: usize, right: usize) -> Option<(u64, u64)> {
 pub fn frames(rng: &mut Rng, family: &str) -> Vec<Vec<u8>> {
     let img = image(rng, if family == "damaged" { "mixed" } else { family });
     let n = img.classes.len();
-    let last = ["chain", "wide", "grid", "lists", "cells"].contains(&family);
+    let last = [
+        "chain", "wide", "grid", "lists", "cells", "crowded", "terms", "long",
+    ]
+    .contains(&family);
     let drawn = |rng: &mut Rng| {
         let (left, right) = if last && !rng.once_in(6) {
             (n - 2, n - 1)
@@ -742,7 +758,7 @@ pub fn frames(rng: &mut Rng, family: &str) -> Vec<Vec<u8>> {
     }
     let (left, right, pairs, rounds) = found;
     let count = match family {
-        "wide" | "grid" | "huge" => 1,
+        "wide" | "grid" | "huge" | "crowded" | "terms" | "long" => 1,
         _ => rng.range(1, 3),
     };
     (0..count)

@@ -185,7 +185,7 @@ fn inputs(found: &mut Vec<Case>) {
 }
 
 /// A graph of exactly `pairs` pairs: 64 × 63 cells, the root, and pairs by position.
-fn pairs(count: usize) -> Img {
+pub fn pairs(count: usize) -> Img {
     let mut classes = literals(127);
     let left: Vec<usize> = (0..64).collect();
     let mut right: Vec<(usize, u32)> = (64..127).map(|n| (n, 1)).collect();
@@ -221,6 +221,24 @@ fn graphs(found: &mut Vec<Case>) {
     }
 }
 
+/// Graphs of about 4,096 pairs, `rows` x `columns` cells.
+pub fn crowded(rows: usize, columns: usize) -> Img {
+    let mut classes = literals(rows + columns);
+    let left: Vec<usize> = (0..rows).collect();
+    let mut right: Vec<(usize, u32)> = (rows..rows + columns).map(|n| (n, 1)).collect();
+    right[columns - 1].1 += (rows - columns) as u32;
+    classes.push(class(vec![over(1, &left)]));
+    classes.push(class(vec![Member {
+        op: 1,
+        literal: 0,
+        children: right,
+    }]));
+    settled(Img {
+        ops: vec![op(9), op(7)],
+        classes,
+    })
+}
+
 /// 65 rows: 64 classes on the left and the identity that pads them.
 fn rows() -> Img {
     let mut classes = literals(125);
@@ -253,8 +271,7 @@ fn transports(found: &mut Vec<Case>) {
 
 /// Chains of each side, each pair of them improved round after round: many terms.
 /// Every turn has an action that is overtaken.
-fn many_terms() -> Img {
-    let depth = 60;
+pub fn many_terms(depth: usize) -> Img {
     let mut classes = literals(3);
     let mut rows = [vec![0], vec![1]];
     for row in &mut rows {
@@ -301,6 +318,30 @@ fn many_runs() -> Img {
     })
 }
 
+/// Six copies of one chain on each side: far more improvements than 16,384, and
+/// few distinct terms.
+fn equal_terms() -> Img {
+    let mut classes = vec![class(vec![over(0, &[])]), class(vec![over(1, &[])])];
+    let mut rows = [vec![], vec![]];
+    for (side, row) in rows.iter_mut().enumerate() {
+        for _ in 0..6 {
+            let mut under = side;
+            for _ in 0..10 {
+                row.push(classes.len());
+                classes.push(class(vec![over(2, &[under])]));
+                under = classes.len() - 1;
+            }
+        }
+    }
+    for row in rows {
+        classes.push(class(vec![over(3, &row)]));
+    }
+    settled(Img {
+        ops: vec![op(0), op(0), op(1), op(8)],
+        classes,
+    })
+}
+
 /// The least budget at which the model refuses with 13.
 fn first_refusal(img: &Img, left: usize, right: usize) -> Option<u32> {
     let image = model::image::accept(&img.bytes(), Slip::None).ok()?;
@@ -321,7 +362,14 @@ fn first_refusal(img: &Img, left: usize, right: usize) -> Option<u32> {
 }
 
 fn terms(found: &mut Vec<Case>) {
-    for (what, img) in [("16,384 terms", many_terms()), ("65,536 runs", many_runs())] {
+    let img = equal_terms();
+    let n = img.classes.len();
+    let frame = img.frame(&ask(n - 2, n - 1, u32::MAX));
+    found.push(("many equal terms".to_string(), frame));
+    for (what, img) in [
+        ("16,384 terms", many_terms(60)),
+        ("65,536 runs", many_runs()),
+    ] {
         let n = img.classes.len();
         let first = first_refusal(&img, n - 2, n - 1).expect("a limit of terms is met");
         for (when, budget) in [("at", first - 1), ("past", first), ("far past", u32::MAX)] {
@@ -333,7 +381,7 @@ fn terms(found: &mut Vec<Case>) {
 
 /// Formulas of many long lines; `tail` single steps and literal values lengthen
 /// them by a little.
-fn long_lines(width: usize, tail: usize, values: &[u32]) -> Img {
+pub fn long_lines(width: usize, tail: usize, values: &[u32]) -> Img {
     let mut classes: Vec<Class> = values.iter().map(|&v| class(vec![lit(0, v)])).collect();
     let half = values.len() / 2;
     let mut sides = [vec![], vec![]];

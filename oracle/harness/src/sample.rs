@@ -55,7 +55,7 @@ const TOO_LARGE: [&str; 18] = [
 
 /// How often each slip must be caught, and how many frames there are at least.
 const CATCHES: usize = 4;
-const FRAMES: usize = 392;
+const FRAMES: usize = 380;
 
 pub fn choose(source: &str, seed: u64, drawn: usize) -> Result<Vec<Stored>, String> {
     let mut fixed: Vec<Vec<u8>> = Vec::new();

@@ -173,6 +173,7 @@ impl Round<'_> {
         met: &mut Met,
     ) -> Result<Pass, Refusal> {
         let (mut next, mut better) = (terms.to_vec(), qualities.to_vec());
+        let mut late = Vec::new();
         for (number, &(left, right)) in self.graph.pairs.iter().enumerate() {
             let free = self.slip == Slip::FreeSelfPairs && left == right;
             if !free && !budget.spend() {
@@ -200,9 +201,16 @@ impl Round<'_> {
                 if let Action::Structural { crossed: true, .. } = action {
                     met.crossed += 1;
                 }
-                next[number] = self.term(action, solution.as_ref(), terms, pool)?;
                 better[number] = best;
+                if self.slip == Slip::EnterAtRoundEnd {
+                    late.push((number, action, solution));
+                } else {
+                    next[number] = self.term(action, solution.as_ref(), terms, pool)?;
+                }
             }
+        }
+        for (number, action, solution) in late {
+            next[number] = self.term(action, solution.as_ref(), terms, pool)?;
         }
         Ok(Pass::Finished(next, better))
     }

@@ -73,6 +73,8 @@ slips! {
     Pairs4095: "refusal 12 comes one pair early",
     Pairs4097: "refusal 12 comes one pair late",
     CandidatesCounted: "overtaken candidates are counted for refusal 13",
+    RepeatedTermsCounted: "equal terms are counted each time for refusal 13",
+    EnterAtRoundEnd: "final terms are entered at the end of a finished round",
     OutputOneLess: "refusal 14 comes one byte early",
     QueryBeforeImage: "refusal 11 comes before refusals 6 to 10",
     // Listing

@@ -32,6 +32,8 @@ pub struct Pool {
     pub nodes: Vec<Node>,
     number: HashMap<(Head, Runs), usize>,
     runs: usize,
+    /// Terms met again, for a slip.
+    again: usize,
     best: HashMap<usize, usize>,
     slip: Slip,
 }
@@ -54,6 +56,7 @@ impl Pool {
             nodes: Vec::new(),
             number: HashMap::new(),
             runs: 0,
+            again: 0,
             best: HashMap::new(),
             slip,
         }
@@ -69,10 +72,11 @@ impl Pool {
         };
         let key = (head, runs);
         if let Some(&number) = self.number.get(&key) {
+            self.again += usize::from(self.slip == Slip::RepeatedTermsCounted);
             return Ok(number);
         }
         let (head, runs) = key.clone();
-        if self.nodes.len() == 16_384 || self.runs + runs.len() > 65_536 {
+        if self.nodes.len() + self.again >= 16_384 || self.runs + runs.len() > 65_536 {
             return Err(Refusal(13));
         }
         self.runs += runs.len();
