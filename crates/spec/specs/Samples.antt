@@ -490,3 +490,50 @@ size-x-w-mass-picks-another-plan =
 size-x-w-mass-picks-another-plan-holds : answers size-x-w-mass-picks-another-plan ≡ expected size-x-w-mass-picks-another-plan
 unfolding programOf text answers expected size-x-w-mass-picks-another-plan
 size-x-w-mass-picks-another-plan-holds = refl
+
+-- transport operations tie, each in one class only: the lower number first
+abbrev transport-operations-tie-each-in-one-image : String
+transport-operations-tie-each-in-one-image = "000000dd01000300060008000a0900ffff07010000070100000000000100000000000100010001000100000001000200020002000000030004000200040000000300060001000600000004000700010007000000040000000000000000000000000000000100000000000100000000000000020001000000000002000200020000000000040002000200000000000600020002000000000008000100010000000000090001000100000001000000000001000100000001000100000001000100000001000000000001000100000001000100000001000200000001000300000001"
+
+unfoldable transport-operations-tie-each-in-one : List Asked
+unfolding hex
+transport-operations-tie-each-in-one =
+    asked (frame transport-operations-tie-each-in-one-image 3 2 200) "complete pairs 9 rounds 2 size 5 mass 0\n0 lit 0 0\n1 lit 0 1\n2 op 2 0:1 1:1\n3 op 1 2:1 0:1\n"
+    ∷ asked (frame transport-operations-tie-each-in-one-image 2 3 200) "complete pairs 9 rounds 2 size 5 mass 0\n0 lit 0 0\n1 lit 0 1\n2 op 2 0:1 1:1\n3 op 1 2:1 0:1\n"
+    ∷ asked (frame transport-operations-tie-each-in-one-image 4 5 200) "complete pairs 16 rounds 3 size 6 mass 0\n0 lit 0 0\n1 lit 0 1\n2 op 1 0:1 1:1\n3 op 2 2:1 0:1\n4 op 1 3:1\n"
+    ∷ []
+
+transport-operations-tie-each-in-one-holds : answers transport-operations-tie-each-in-one ≡ expected transport-operations-tie-each-in-one
+unfolding programOf text answers expected transport-operations-tie-each-in-one
+transport-operations-tie-each-in-one-holds = refl
+
+-- skipped by the padding alone: 4,294,967,296 identities
+abbrev skipped-by-the-padding-alone-4-294-image : String
+skipped-by-the-padding-alone-4-294-image = "000000b10100020005000800050900ffff07010001000000010000000000010001000100010000000100020002000200000001000400020004000000010006000200060000000100000000000000000000000000000001000000000000000000020000000000010000000000000002000000000003000200000001000000000002000100000000000400030000000100000000000300020000ffffffff0001000000020001000000010000ffffffff000100000001"
+
+unfoldable skipped-by-the-padding-alone-4-294 : List Asked
+unfolding hex
+skipped-by-the-padding-alone-4-294 =
+    asked (frame skipped-by-the-padding-alone-4-294-image 2 3 60) "complete pairs 2 rounds 0 size 2 mass 2\n0 lit 0 2\n1 lit 0 3\n2 variants 0:1 1:1\n"
+    ∷ asked (frame skipped-by-the-padding-alone-4-294-image 4 3 60) "complete pairs 6 rounds 1 size 2 mass 2\n0 lit 0 4\n1 lit 0 3\n2 variants 0:1 1:1\n"
+    ∷ []
+
+skipped-by-the-padding-alone-4-294-holds : answers skipped-by-the-padding-alone-4-294 ≡ expected skipped-by-the-padding-alone-4-294
+unfolding programOf text answers expected skipped-by-the-padding-alone-4-294
+skipped-by-the-padding-alone-4-294-holds = refl
+
+-- one side as itself, the other a sum with the identity
+abbrev one-side-as-itself-the-other-a-sum-image : String
+one-side-as-itself-the-other-a-sum-image = "000000790100020004000400040900ffff080100000000000100000000000100010001000100000001000200010002000000030003000100030000000500000000000000000000000000000001000000000001000000000000000200010000000000020002000100000001000000000001000200000001000000000001"
+
+unfoldable one-side-as-itself-the-other-a-sum : List Asked
+unfolding hex
+one-side-as-itself-the-other-a-sum =
+    asked (frame one-side-as-itself-the-other-a-sum-image 1 2 100) "complete pairs 5 rounds 1 size 3 mass 0\n0 lit 0 0\n1 lit 0 1\n2 op 1 0:1 1:1\n"
+    ∷ asked (frame one-side-as-itself-the-other-a-sum-image 3 1 100) "complete pairs 7 rounds 2 size 5 mass 0\n0 lit 0 0\n1 lit 0 1\n2 op 1 0:1 1:1\n3 op 1 2:1 0:1\n"
+    ∷ asked (frame one-side-as-itself-the-other-a-sum-image 3 2 100) "complete pairs 11 rounds 2 size 5 mass 0\n0 lit 0 1\n1 lit 0 0\n2 op 1 0:1 1:1\n3 op 1 2:1 1:1\n"
+    ∷ []
+
+one-side-as-itself-the-other-a-sum-holds : answers one-side-as-itself-the-other-a-sum ≡ expected one-side-as-itself-the-other-a-sum
+unfolding programOf text answers expected one-side-as-itself-the-other-a-sum
+one-side-as-itself-the-other-a-sum-holds = refl

@@ -1,0 +1,314 @@
+// SPDX-License-Identifier: Apache-2.0
+//! Damaged images: one for each way to break a rule, and some that break two.
+
+use crate::img::{Class, Img, Member, Operation, Query};
+
+fn put(bytes: &mut [u8], at: usize, number: u64, width: usize) {
+    bytes[at..at + width].copy_from_slice(&number.to_be_bytes()[8 - width..]);
+}
+
+/// Where the tables of an image stand.
+pub struct At {
+    pub ops: usize,
+    pub classes: usize,
+    pub members: usize,
+    pub children: usize,
+    pub query: usize,
+}
+
+impl At {
+    pub fn of(img: &Img) -> At {
+        let members: usize = img.classes.iter().map(|c| c.members.len()).sum();
+        let children: usize = img
+            .classes
+            .iter()
+            .flat_map(|c| &c.members)
+            .map(|m| m.children.len())
+            .sum();
+        let classes_at = 13 + 4 * img.ops.len();
+        let members_at = classes_at + 10 * img.classes.len();
+        let children_at = members_at + 10 * members;
+        At {
+            ops: 13,
+            classes: classes_at,
+            members: members_at,
+            children: children_at,
+            query: children_at + 6 * children,
+        }
+    }
+    pub fn op(&self, n: usize) -> usize {
+        self.ops + 4 * n
+    }
+    pub fn class(&self, n: usize) -> usize {
+        self.classes + 10 * n
+    }
+    pub fn member(&self, n: usize) -> usize {
+        self.members + 10 * n
+    }
+    pub fn child(&self, n: usize) -> usize {
+        self.children + 6 * n
+    }
+}
+
+/// Operations 0 Lit, 1 Plain2, 2 MSet with identity 0, 3 SPair; five classes, the
+/// members 0 to 6, the children 0 to 8.
+fn base() -> Img {
+    let op = |kind, identity| Operation { kind, identity };
+    let lit = |literal| Member {
+        op: 0,
+        literal,
+        children: vec![],
+    };
+    let over = |op, children: &[(usize, u32)]| Member {
+        op,
+        literal: 0,
+        children: children.to_vec(),
+    };
+    let class = |members| Class {
+        members,
+        ..Class::default()
+    };
+    let mut img = Img {
+        ops: vec![op(9, None), op(2, None), op(7, Some(0)), op(5, None)],
+        classes: vec![
+            class(vec![lit(0)]),
+            class(vec![lit(7), lit(8)]),
+            class(vec![over(1, &[(0, 1), (1, 1)])]),
+            class(vec![
+                over(1, &[(0, 1), (0, 1)]),
+                over(2, &[(1, 3), (0, 1), (2, 1)]),
+            ]),
+            class(vec![over(3, &[(0, 1), (1, 1)])]),
+        ],
+    };
+    assert!(img.settle());
+    img
+}
+
+type Patch = (usize, u64, usize);
+
+/// Every small damaged frame with what is wrong with it.
+pub fn small() -> Vec<(String, Vec<u8>)> {
+    let img = base();
+    let at = At::of(&img);
+    let query = Query {
+        left: 2,
+        right: 3,
+        budget: 50,
+    };
+    let good = img.frame(&query);
+    let length = (at.query - 4) as u64;
+    let mut found: Vec<(String, Vec<u8>)> = Vec::new();
+    let mut add = |what: &str, patches: &[Patch]| {
+        let mut frame = good.clone();
+        for &(at, number, width) in patches {
+            put(&mut frame, at, number, width);
+        }
+        found.push((what.to_string(), frame));
+    };
+    let (version, counts) = (4, [5, 7, 9, 11]);
+    add("sound: the image that the next ones damage", &[]);
+    // 2
+    add("2: length field one too large", &[(0, length + 1, 4)]);
+    add("2: length field one too small", &[(0, length - 1, 4)]);
+    add("2: length field 4,294,967,295", &[(0, 0xffff_ffff, 4)]);
+    // 3
+    add("3: version 0", &[(version, 0, 1)]);
+    add("3: version 2", &[(version, 2, 1)]);
+    add("3: version 255", &[(version, 255, 1)]);
+    // 4
+    for (n, (count, past)) in counts.iter().zip([65, 257, 1_025, 4_097]).enumerate() {
+        let table = ["operations", "classes", "members", "children"][n];
+        if n < 3 {
+            add(&format!("4: no {table}"), &[(*count, 0, 2)]);
+        }
+        add(&format!("4: {past} {table}"), &[(*count, past, 2)]);
+        add(&format!("4: 65,535 {table}"), &[(*count, 65_535, 2)]);
+    }
+    // 5
+    add("5: one operation more", &[(5, 5, 2)]);
+    add("5: one class less", &[(7, 4, 2)]);
+    add("5: one member more", &[(9, 8, 2)]);
+    add("5: no children", &[(11, 0, 2)]);
+    // 6
+    add("6: kind 10", &[(at.op(0), 10, 1)]);
+    add("6: kind 255", &[(at.op(3), 255, 1)]);
+    add("6: Lit with flag 1", &[(at.op(0) + 1, 1, 1)]);
+    add("6: MSet with flag 0", &[(at.op(2) + 1, 0, 1)]);
+    add("6: SPair with flag 2", &[(at.op(3) + 1, 2, 1)]);
+    add("6: identity for Plain2", &[(at.op(1) + 2, 0, 2)]);
+    add("6: identity for SPair", &[(at.op(3) + 2, 1, 2)]);
+    add("6: identity is class 5 of 5", &[(at.op(2) + 2, 5, 2)]);
+    add("6: identity 65,534", &[(at.op(2) + 2, 65_534, 2)]);
+    // 7
+    add("7: first member of class 0 is 1", &[(at.class(0), 1, 2)]);
+    add("7: gap before class 2", &[(at.class(2), 4, 2)]);
+    add("7: overlap of classes", &[(at.class(2), 2, 2)]);
+    add("7: class 0 with no member", &[(at.class(0) + 2, 0, 2)]);
+    add(
+        "7: class 0 with no member, spans in step",
+        &[
+            (at.class(0) + 2, 0, 2),
+            (at.class(1), 0, 2),
+            (at.class(1) + 2, 3, 2),
+        ],
+    );
+    add(
+        "7: last class does not use up the members",
+        &[(at.class(4) + 2, 2, 2)],
+    );
+    add("7: member count 65,535", &[(at.class(1) + 2, 65_535, 2)]);
+    add("7: operation number 4 of 4", &[(at.member(0), 4, 2)]);
+    add("7: operation number 65,535", &[(at.member(6), 65_535, 2)]);
+    add(
+        "7: members 4 and 5 of class 3 in falling operation order",
+        &[(at.member(4), 2, 2), (at.member(5), 1, 2)],
+    );
+    add(
+        "7: literal value of a Plain2 member",
+        &[(at.member(3) + 2, 1, 4)],
+    );
+    add(
+        "7: gap before the children of member 4",
+        &[(at.member(4) + 6, 3, 2)],
+    );
+    add(
+        "7: first child of a literal is not in step",
+        &[(at.member(0) + 6, 1, 2)],
+    );
+    add(
+        "7: last member does not use up the children",
+        &[(at.member(6) + 8, 1, 2)],
+    );
+    add("7: child count 65", &[(at.member(5) + 8, 65, 2)]);
+    // 8
+    add("8: child class 5 of 5", &[(at.child(0), 5, 2)]);
+    add("8: child class 65,535", &[(at.child(8), 65_535, 2)]);
+    add("8: child count 0", &[(at.child(4) + 2, 0, 4)]);
+    add("8: count 2 for Plain2", &[(at.child(0) + 2, 2, 4)]);
+    add("8: count 2 for SPair", &[(at.child(8) + 2, 2, 4)]);
+    add(
+        "8: count 4,294,967,295 for SPair",
+        &[(at.child(8) + 2, 0xffff_ffff, 4)],
+    );
+    add(
+        "8: Plain2 with 1 child",
+        &[
+            (at.member(3) + 8, 1, 2),
+            (at.member(4) + 6, 1, 2),
+            (at.member(4) + 8, 3, 2),
+        ],
+    );
+    add(
+        "8: Lit with 1 child",
+        &[
+            (at.member(0) + 8, 1, 2),
+            (at.member(1) + 6, 1, 2),
+            (at.member(2) + 6, 1, 2),
+            (at.member(3) + 6, 1, 2),
+            (at.member(3) + 8, 1, 2),
+        ],
+    );
+    add(
+        "8: SPair made Plain3: 2 children",
+        &[(at.op(3), 3, 1), (at.op(3) + 1, 0, 1)],
+    );
+    // 9
+    add(
+        "9: best member of class 0 is member 1",
+        &[(at.class(0) + 4, 1, 2)],
+    );
+    add("9: best member 65,535", &[(at.class(4) + 4, 65_535, 2)]);
+    add("9: best size one too large", &[(at.class(2) + 6, 4, 4)]);
+    add("9: best size 0", &[(at.class(0) + 6, 0, 4)]);
+    add(
+        "9: best size 2,147,483,647",
+        &[(at.class(0) + 6, 0x7fff_ffff, 4)],
+    );
+    add(
+        "9: the size of the other member",
+        &[(at.class(3) + 6, 8, 4)],
+    );
+    add(
+        "sound: the other member of class 3, size 8",
+        &[(at.class(3) + 4, 5, 2), (at.class(3) + 6, 8, 4)],
+    );
+    // 10
+    add("10: literal 7 also in class 0", &[(at.member(0) + 2, 7, 4)]);
+    add(
+        "sound: literal 7 twice in class 1",
+        &[(at.member(2) + 2, 7, 4)],
+    );
+    // 11
+    add("11: left class 5 of 5", &[(at.query, 5, 2)]);
+    add("11: right class 65,535", &[(at.query + 2, 65_535, 2)]);
+    // Two rules each
+    add("2 before 3", &[(0, length + 1, 4), (version, 2, 1)]);
+    add("3 before 4", &[(version, 0, 1), (5, 0, 2)]);
+    add(
+        "4 before 5: 257 classes and nothing else changed",
+        &[(7, 257, 2), (9, 9, 2)],
+    );
+    add("5 before 6", &[(11, 8, 2), (at.op(0), 10, 1)]);
+    add(
+        "6 before 7: a late operation, an early span",
+        &[(at.op(3) + 1, 0, 1), (at.class(0), 1, 2)],
+    );
+    add(
+        "7 before 8: a late literal field, an early child",
+        &[(at.member(6) + 2, 1, 4), (at.child(0), 9, 2)],
+    );
+    add(
+        "7 before 9: a span and a best size",
+        &[(at.class(4) + 2, 2, 2), (at.class(0) + 6, 9, 4)],
+    );
+    add(
+        "8 before 9: a late child, an early best size",
+        &[(at.child(8), 9, 2), (at.class(0) + 6, 2, 4)],
+    );
+    add(
+        "8 before 10",
+        &[(at.child(0) + 2, 0, 4), (at.member(0) + 2, 7, 4)],
+    );
+    add(
+        "9 before 10: a late best member, an early literal",
+        &[(at.class(4) + 4, 0, 2), (at.member(0) + 2, 7, 4)],
+    );
+    add(
+        "10 before 11",
+        &[(at.member(0) + 2, 7, 4), (at.query, 5, 2)],
+    );
+    add(
+        "9 before 11",
+        &[(at.class(0) + 6, 2, 4), (at.query + 2, 9, 2)],
+    );
+    // Lengths of the whole input
+    for keep in [
+        1,
+        3,
+        4,
+        7,
+        8,
+        12,
+        13,
+        20,
+        21,
+        good.len() - 8,
+        good.len() - 1,
+    ] {
+        found.push((format!("2: the first {keep} bytes"), good[..keep].to_vec()));
+    }
+    let mut longer = good.clone();
+    longer.push(0);
+    found.push(("2: one byte too many".to_string(), longer));
+    let mut tiny = vec![0, 0, 0, 8, 1, 0, 1, 0, 1, 0, 1, 0];
+    tiny.extend([0; 8]);
+    found.push((
+        "2: an image of 12 bytes, its length right".to_string(),
+        tiny,
+    ));
+    let mut tiny = vec![0, 0, 0, 9, 1, 0, 1, 0, 1, 0, 1, 0, 0];
+    tiny.extend([0; 8]);
+    found.push(("5: an image of 13 bytes".to_string(), tiny));
+    found
+}

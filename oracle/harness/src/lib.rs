@@ -1,0 +1,28 @@
+// SPDX-License-Identifier: Apache-2.0
+//! Generator, driver, image text and sample: what the harness is made of.
+
+pub mod damage;
+pub mod drive;
+pub mod r#gen;
+pub mod img;
+pub mod judge;
+pub mod limits;
+pub mod plans;
+pub mod rng;
+pub mod sample;
+pub mod small;
+pub mod text;
+
+use rng::Rng;
+
+/// Frames from a seed: `count` of them, of one family or of all by weight.
+pub fn draw(seed: u64, count: usize, family: Option<&str>) -> Vec<Vec<u8>> {
+    let mut rng = Rng::new(seed);
+    let mut frames = Vec::new();
+    while frames.len() < count {
+        let name = family.unwrap_or_else(|| r#gen::family(&mut rng));
+        frames.extend(r#gen::frames(&mut rng, name));
+    }
+    frames.truncate(count);
+    frames
+}

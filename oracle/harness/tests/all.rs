@@ -1,0 +1,239 @@
+// SPDX-License-Identifier: Apache-2.0
+//! What the gate asks of oracle, model and sample.
+
+use harness::drive::{Counts, compare};
+use harness::img::Img;
+use harness::judge::{Judge, unpack};
+use harness::{damage, draw, limits, plans, sample, small, text};
+use model::belongs::{Belongs, Reading};
+use model::brute::Derivations;
+use model::slip::{SLIPS, Slip};
+
+fn file(name: &str) -> String {
+    let path = format!("{}/../{name}", env!("CARGO_MANIFEST_DIR"));
+    std::fs::read_to_string(&path).unwrap_or_else(|why| panic!("{path}: {why}"))
+}
+
+fn bytes(name: &str) -> Vec<u8> {
+    let path = format!("{}/../{name}", env!("CARGO_MANIFEST_DIR"));
+    std::fs::read(&path).unwrap_or_else(|why| panic!("{path}: {why}"))
+}
+
+fn stored() -> Vec<sample::Stored> {
+    let frames = unpack(&bytes("sample/frames.bin")).unwrap();
+    let answers = unpack(&bytes("sample/answers.bin")).unwrap();
+    assert_eq!(frames.len(), answers.len());
+    frames
+        .into_iter()
+        .zip(answers)
+        .map(|(frame, answer)| sample::Stored { frame, answer })
+        .collect()
+}
+
+const ORACLE: Judge = Judge::Oracle { pruning: false };
+const MODEL: Judge = Judge::Model(Slip::None);
+
+#[test]
+fn example_e_of_document_01() {
+    let improved = "size 4 mass 2\n0 lit 0 5\n1 lit 0 7\n2 variants 1:1 0:1\n3 op 1 0:1 2:1\n";
+    let (img, mut queries) = text::parse(&file("../examples/E.txt")).unwrap();
+    let mut answer = |budget| {
+        queries[0].budget = budget;
+        let frame = img.frame(&queries[0]);
+        let text = model::answer(&frame, Slip::None);
+        assert_eq!(listed::answer(&frame, false).text(), text);
+        text
+    };
+    assert_eq!(answer(14), format!("complete pairs 3 rounds 1 {improved}"));
+    for budget in [13, 10] {
+        assert_eq!(
+            answer(budget),
+            format!("partial pairs 3 rounds 1 {improved}")
+        );
+    }
+    for (budget, pairs) in [(9, 3), (3, 3), (2, 1), (0, 1)] {
+        let start = format!("partial pairs {pairs} rounds 0 size 6 mass 6\n");
+        assert!(answer(budget).starts_with(&start));
+    }
+}
+
+#[test]
+fn oracle_and_model_agree_on_drawn_queries() {
+    let count = if cfg!(debug_assertions) { 1_500 } else { 4_000 };
+    let mut counts = Counts::default();
+    let difference = compare(&ORACLE, &MODEL, &draw(20_261_115, count, None), &mut counts).unwrap();
+    if let Some(difference) = difference {
+        panic!("{}", difference.print("oracle", "model"));
+    }
+    for phase in [
+        "phase 1 cut in building",
+        "phase 2 cut in starting terms",
+        "phase 3 cut at a round's start",
+        "phase 4 cut inside a round",
+        "phase 5 complete",
+        "action MSet",
+        "action Set",
+        "action SPair, crossed",
+        "action PlainN",
+        "action Plain0",
+        "monomial pairs skipped",
+    ] {
+        assert!(counts.get(phase) > 0, "{phase} was not met");
+    }
+}
+
+#[test]
+fn oracle_and_model_agree_at_the_limits() {
+    let frames: Vec<Vec<u8>> = limits::cases().into_iter().map(|case| case.1).collect();
+    let difference = compare(&ORACLE, &MODEL, &frames, &mut Counts::default()).unwrap();
+    assert!(difference.is_none());
+}
+
+/// What is said of a limit case is what the model says.
+#[test]
+fn limits_are_where_document_01_puts_them() {
+    for (what, frame) in limits::cases() {
+        let answer = model::answer(&frame, Slip::None);
+        let refusal = match what.as_str() {
+            "65 operations" | "257 classes" | "1025 members" | "4097 children" => Some(4),
+            "a member with 65 children" => Some(7),
+            "best size 2,147,483,647" | "best size wraps to 0" | "best size wraps to 7" => Some(9),
+            _ if what.ends_with("its sum one more") => Some(9),
+            _ if what.ends_with("its sum one more, with itself") => Some(9),
+            "an input of 65536 bytes" => Some(5),
+            "an input of 65537 bytes" => Some(2),
+            "4097 pairs, budget 1" | "4097 pairs, budget 4294967295" => Some(12),
+            _ if what.starts_with("past") || what.starts_with("far past") => Some(13),
+            "a listing of 65537 bytes" => Some(14),
+            _ => None,
+        };
+        match refusal {
+            Some(number) => assert_eq!(answer, format!("refused {number}\n"), "{what}"),
+            None => assert!(!answer.starts_with("refused"), "{what}: {answer}"),
+        }
+    }
+}
+
+/// The number at the head of a damaged frame's name is its refusal.
+#[test]
+fn damaged_images_are_refused_as_they_say() {
+    for (what, frame) in damage::small() {
+        let answer = model::answer(&frame, Slip::None);
+        let number = what.split([':', ' ']).next().unwrap();
+        if number == "sound" {
+            assert!(!answer.starts_with("refused"), "{what}");
+        } else {
+            assert_eq!(answer, format!("refused {number}\n"), "{what}");
+        }
+    }
+}
+
+#[test]
+fn small_answers_are_up_to_date() {
+    let made = small::small(&file("sample/small.images")).unwrap();
+    assert!(made == file("sample/small.txt"), "make small.txt again");
+}
+
+#[test]
+fn stored_answers_are_the_judges() {
+    let counts = sample::check(&stored()).unwrap();
+    for number in 2..=14 {
+        let refused = format!("refused {number:2}");
+        assert!(counts.get(&refused) > 0, "{refused} is not in the sample");
+    }
+}
+
+#[test]
+fn every_slip_is_caught_by_the_sample() {
+    let stored = stored();
+    for &(slip, name, _) in SLIPS {
+        let equal = sample::EQUAL.contains(&name);
+        assert!(equal || sample::catches(&stored, slip), "{name}");
+    }
+}
+
+#[test]
+fn transport_problems() {
+    assert!(plans::check(&file("sample/transport.txt")).unwrap() > 80);
+    plans::compare(9, if cfg!(debug_assertions) { 400 } else { 3_000 }).unwrap();
+}
+
+/// After r rounds the root's quality is the least of all derivations of height r.
+#[test]
+fn rounds_give_the_least_derivations() {
+    let mut tiny = 0;
+    for family in ["mixed", "twins", "cycle", "identity", "crossed"] {
+        let wanted = if cfg!(debug_assertions) { 40 } else { 250 };
+        for mut frame in draw(4, wanted, Some(family)) {
+            let at = frame.len() - 4;
+            frame[at..].copy_from_slice(&[255; 4]);
+            let Ok((image, left, right, _)) = model::query(&frame, Slip::None) else {
+                continue;
+            };
+            let Ok((_, outcome)) = model::outcome(&frame, Slip::None) else {
+                continue;
+            };
+            let mut derivations = Derivations::new(&image);
+            let last = *outcome.met.root.last().unwrap();
+            for height in 0..outcome.met.root.len() + 2 {
+                let Some(least) = derivations.least((left, right), height) else {
+                    break;
+                };
+                let least = (u128::from(least.0), u128::from(least.1));
+                assert_eq!(least, *outcome.met.root.get(height).unwrap_or(&last));
+                tiny += usize::from(height > 0);
+            }
+        }
+    }
+    assert!(tiny > 100, "only {tiny} tiny queries");
+    println!("{tiny} heights compared");
+}
+
+#[test]
+fn image_text_and_back() {
+    for frame in draw(8, 400, None) {
+        if let Ok((image, ..)) = model::query(&frame, Slip::None) {
+            let img = Img::of(&image);
+            assert_eq!(text::parse(&text::print(&img, &[])), Ok((img, vec![])));
+        }
+    }
+}
+
+/// Read by the first branch the result belongs to the left class, by the second to
+/// the right class.
+#[test]
+fn readings_belong_to_the_queried_classes() {
+    let mut read = 0;
+    for frame in draw(15, if cfg!(debug_assertions) { 300 } else { 1_500 }, None) {
+        let Ok((image, left, right, _)) = model::query(&frame, Slip::None) else {
+            continue;
+        };
+        let Ok((text, outcome)) = model::outcome(&frame, Slip::None) else {
+            continue;
+        };
+        // Written out, a list of this model's readings must stay small.
+        let most = outcome.pool.nodes.iter().map(|node| node.runs.len()).max();
+        if outcome.pool.nodes[outcome.root].quality.0 > 100_000 || most > Some(65) {
+            continue;
+        }
+        for (branch, class) in [left, right].into_iter().enumerate() {
+            let mut reading = Reading::new(&outcome.pool, branch);
+            let term = reading.read(outcome.root);
+            let belongs = Belongs::new(&image, &reading.pool).belongs(term, class);
+            assert!(belongs, "branch {branch} of\n{text}");
+        }
+        read += 1;
+    }
+    assert!(read > 200, "only {read} results read");
+}
+
+#[test]
+fn examples_have_their_listings() {
+    for name in ["E", "airport", "night", "luggage", "cap", "zones"] {
+        let (img, queries) = text::parse(&file(&format!("../examples/{name}.txt"))).unwrap();
+        let listing = file(&format!("../examples/{name}.listing"));
+        let frame = img.frame(&queries[0]);
+        assert_eq!(listed::answer(&frame, false).text(), listing, "{name}");
+        assert_eq!(model::answer(&frame, Slip::None), listing, "{name}");
+    }
+}

@@ -1,0 +1,290 @@
+// SPDX-License-Identifier: Apache-2.0
+//! "Rounds": building, starting terms and rounds under a budget of checks.
+
+use crate::action::{Action, Built, Graph, Monomials};
+use crate::image::{Image, Refusal};
+use crate::slip::Slip;
+use crate::term::{Pool, Quality, Runs};
+use crate::transport::{Problem, Solution, solve};
+
+/// "With budget B, the first B checks pass and the next one is expired."
+pub struct Budget(u64);
+
+impl Budget {
+    pub fn new(checks: u32, slip: Slip) -> Self {
+        Budget(u64::from(checks) + u64::from(slip == Slip::BudgetOneMore))
+    }
+
+    pub fn spend(&mut self) -> bool {
+        let passes = self.0 > 0;
+        self.0 = self.0.saturating_sub(1);
+        passes
+    }
+}
+
+/// Where a run ended.
+#[derive(Clone, Copy, Debug, PartialEq, Eq, PartialOrd, Ord)]
+pub enum Phase {
+    Building,
+    StartingTerms,
+    RoundStart,
+    InsideRound,
+    Complete,
+}
+
+/// What was met on the way, for the counts of a comparison.
+#[derive(Clone, Debug, Default)]
+pub struct Met {
+    /// Winning actions by the kind of their operation.
+    pub winners: [u64; 10],
+    pub crossed: u64,
+    pub monomials: Monomials,
+    pub transports_solved: u64,
+    pub largest_transport: usize,
+    /// The best quality of the root after each finished round, from the start.
+    pub root: Vec<Quality>,
+}
+
+pub struct Outcome {
+    pub phase: Phase,
+    pub pairs: usize,
+    pub rounds: usize,
+    pub root: usize,
+    pub pool: Pool,
+    pub met: Met,
+}
+
+pub fn run(
+    image: &Image,
+    left: usize,
+    right: usize,
+    checks: u32,
+    slip: Slip,
+) -> Result<Outcome, Refusal> {
+    let mut budget = Budget::new(checks, slip);
+    let mut pool = Pool::new(slip);
+    let mut met = Met::default();
+    // "The root's starting term is entered before building."
+    let root = pool.starting(image, left, right)?;
+    let graph = match Graph::build(image, (left, right), &mut budget, slip)? {
+        Built::Whole(graph) => graph,
+        // "A run cut short in building reports 1 pair, any other run n."
+        Built::Cut { entered } => {
+            return Ok(Outcome {
+                phase: Phase::Building,
+                pairs: if slip == Slip::BuildingPairs {
+                    entered
+                } else {
+                    1
+                },
+                rounds: 0,
+                root,
+                pool,
+                met,
+            });
+        }
+    };
+    let pairs = graph.pairs.len();
+    met.monomials = graph.met;
+    let mut terms = Vec::new();
+    for &(left, right) in &graph.pairs {
+        if slip != Slip::FreeStartingTerms && !budget.spend() {
+            return Ok(Outcome {
+                phase: Phase::StartingTerms,
+                pairs,
+                rounds: 0,
+                root,
+                pool,
+                met,
+            });
+        }
+        terms.push(pool.starting(image, left, right)?);
+    }
+    let mut qualities: Vec<Quality> = terms.iter().map(|&t| pool.nodes[t].quality).collect();
+    let mut rounds = 0;
+    let mut before = terms[0];
+    let (phase, root) = loop {
+        met.root.push(qualities[0]);
+        let cut = |root| {
+            if slip == Slip::CutRootImproved {
+                before
+            } else {
+                root
+            }
+        };
+        if slip != Slip::FreeRoundStart && !budget.spend() {
+            break (Phase::RoundStart, cut(terms[0]));
+        }
+        let round = Round {
+            image,
+            graph: &graph,
+            slip,
+        };
+        match round.pass(&terms, &qualities, &mut pool, &mut budget, &mut met)? {
+            Pass::Cut(root) if slip == Slip::CutRoundKept => break (Phase::InsideRound, root),
+            Pass::Cut(_) => break (Phase::InsideRound, cut(terms[0])),
+            // "The run is complete at the first finished round without change."
+            Pass::Finished(next, _) if next == terms => {
+                rounds += usize::from(slip == Slip::UnchangedCounted);
+                break (Phase::Complete, terms[0]);
+            }
+            Pass::Finished(next, better) => {
+                before = terms[0];
+                (terms, qualities) = (next, better);
+                rounds += 1;
+                if slip == Slip::OneRound {
+                    break (Phase::Complete, terms[0]);
+                }
+            }
+        }
+    };
+    Ok(Outcome {
+        phase,
+        pairs,
+        rounds,
+        root,
+        pool,
+        met,
+    })
+}
+
+struct Round<'a> {
+    image: &'a Image,
+    graph: &'a Graph,
+    slip: Slip,
+}
+
+enum Pass {
+    /// The terms and qualities after a finished round.
+    Finished(Vec<usize>, Vec<Quality>),
+    /// Cut short; the root's term that the round would have given.
+    Cut(usize),
+}
+
+impl Round<'_> {
+    /// One round: "all pairs read the previous round; a strictly better action
+    /// replaces". A final term is entered at the end of its pair's turn.
+    fn pass(
+        &self,
+        terms: &[usize],
+        qualities: &[Quality],
+        pool: &mut Pool,
+        budget: &mut Budget,
+        met: &mut Met,
+    ) -> Result<Pass, Refusal> {
+        let (mut next, mut better) = (terms.to_vec(), qualities.to_vec());
+        let mut late = Vec::new();
+        for (number, &(left, right)) in self.graph.pairs.iter().enumerate() {
+            let free = self.slip == Slip::FreeSelfPairs && left == right;
+            if !free && !budget.spend() {
+                return Ok(Pass::Cut(next[0]));
+            }
+            let same = self.slip == Slip::SameRound;
+            let qualities = if same { &better[..] } else { qualities };
+            let terms = if same { &next[..] } else { terms };
+            let mut best = qualities[number];
+            let mut winner = None;
+            for action in &self.graph.actions[number] {
+                let Some((quality, solution)) = self.value(action, qualities, met) else {
+                    continue;
+                };
+                if self.replaces(quality, best, winner.is_some()) {
+                    best = quality;
+                    if self.slip == Slip::CandidatesCounted {
+                        self.term(action, solution.as_ref(), terms, pool)?;
+                    }
+                    winner = Some((action, solution));
+                }
+            }
+            if let Some((action, solution)) = winner {
+                met.winners[usize::from(self.image.operations[operation(action)].kind)] += 1;
+                if let Action::Structural { crossed: true, .. } = action {
+                    met.crossed += 1;
+                }
+                better[number] = best;
+                if self.slip == Slip::EnterAtRoundEnd {
+                    late.push((number, action, solution));
+                } else {
+                    next[number] = self.term(action, solution.as_ref(), terms, pool)?;
+                }
+            }
+        }
+        for (number, action, solution) in late {
+            next[number] = self.term(action, solution.as_ref(), terms, pool)?;
+        }
+        Ok(Pass::Finished(next, better))
+    }
+
+    fn replaces(&self, new: Quality, old: Quality, improved: bool) -> bool {
+        match self.slip {
+            Slip::MassIgnored => new.0 < old.0,
+            // Equal to the round before must not replace, or no run would end.
+            Slip::LooseReplace if improved => new <= old,
+            _ => new < old,
+        }
+    }
+
+    /// "An action gives 1 plus the sum of count × size, and the sum of count × mass."
+    fn value(
+        &self,
+        action: &Action,
+        qualities: &[Quality],
+        met: &mut Met,
+    ) -> Option<(Quality, Option<Solution>)> {
+        match action {
+            Action::Structural { children, .. } => {
+                let size: u128 = children.iter().map(|&child| qualities[child].0).sum();
+                let mass = children.iter().map(|&child| qualities[child].1).sum();
+                Some(((1 + size, mass), None))
+            }
+            Action::Transport {
+                supply,
+                demand,
+                cells,
+                ..
+            } => {
+                let problem = Problem {
+                    supply: supply.clone(),
+                    demand: demand.clone(),
+                    cells: cells
+                        .iter()
+                        .map(|&child| Some(qualities[child]))
+                        .map(|q| q.map(|(size, mass)| (size as u64, mass as u64)))
+                        .collect(),
+                };
+                met.transports_solved += 1;
+                met.largest_transport = met.largest_transport.max(cells.len());
+                let solution = solve(&problem, self.slip).ok()?;
+                Some(((1 + solution.size, solution.mass), Some(solution)))
+            }
+        }
+    }
+
+    fn term(
+        &self,
+        action: &Action,
+        solution: Option<&Solution>,
+        terms: &[usize],
+        pool: &mut Pool,
+    ) -> Result<usize, Refusal> {
+        let runs: Runs = match (action, solution) {
+            (Action::Transport { cells, .. }, Some(solution)) => cells
+                .iter()
+                .zip(&solution.plan)
+                .filter(|&(_, &units)| units > 0)
+                .map(|(&child, &units)| (terms[child], units))
+                .collect(),
+            (Action::Structural { children, .. }, _) => {
+                children.iter().map(|&child| (terms[child], 1)).collect()
+            }
+            (Action::Transport { .. }, None) => unreachable!("a transport wins by its plan"),
+        };
+        pool.action(self.image, operation(action), runs)
+    }
+}
+
+fn operation(action: &Action) -> usize {
+    match action {
+        Action::Structural { operation, .. } | Action::Transport { operation, .. } => *operation,
+    }
+}

@@ -1,0 +1,83 @@
+// SPDX-License-Identifier: Apache-2.0
+//! Deliberate slips: each makes the model wrong in one place. The stored sample
+//! must catch every one of them. `Slip::None` is the model.
+
+macro_rules! slips {
+    ($($name:ident: $meaning:literal,)*) => {
+        #[derive(Clone, Copy, Debug, PartialEq, Eq)]
+        pub enum Slip {
+            None,
+            $(#[doc = $meaning] $name,)*
+        }
+
+        /// Every slip with what it gets wrong.
+        pub const SLIPS: &[(Slip, &str, &str)] = &[
+            $((Slip::$name, stringify!($name), $meaning),)*
+        ];
+    };
+}
+
+slips! {
+    // Image
+    IdentityOfSPair: "an identity is allowed for SPair",
+    Children65: "65 children are allowed",
+    AnyMemberOrder: "members may stand in any operation order",
+    SetCounts: "counts above 1 are allowed for Set",
+    WrappedBestSize: "the best-size sum wraps at 32 bits",
+    LiteralTwiceInClass: "a literal twice in one class is refused",
+    // Terms
+    SortedBest: "the children of best terms are sorted",
+    RunCountLength: "terms are compared by run count, not by expanded length",
+    RunsOneByOne: "run lists are compared run by run, not as expanded lists",
+    SignedLiterals: "literal values are compared as signed numbers",
+    LiteralsFirst: "literals are ordered before operations",
+    UnjoinedRuns: "equal neighbours are not joined",
+    SortedSPairMissing: "the children of an SPair result are not sorted",
+    SortedSeq: "the children of a Seq result are sorted",
+    // Monomials
+    NoSelfMonomial: "no class stands for itself",
+    SelfOnlyWithoutMember: "a class stands for itself only where it has no member of the operation",
+    SelfFirst: "a class as itself comes before its members",
+    SetAsOnce: "a class twice in a Set counts once",
+    PadLeftOnly: "only the left side is padded",
+    SkipAtLimit: "a count of 4,294,967,295 is skipped",
+    SkippedCellsEntered: "the cells of a skipped monomial pair are entered",
+    OneSidedMissing: "an operation acts only where both classes have a member of it",
+    OperationsAsMet: "transport operations come in the order met, left class first",
+    // Transport
+    StackQueue: "paths come from a stack",
+    LooseRelax: "an equal path cost replaces at the sink",
+    PathsBySizeThenMass: "path costs are compared by size and then mass",
+    VFromOpenCells: "V is taken from cells with capacity above 0 only",
+    ColumnsFirst: "a row's columns are tried from the last",
+    // Actions
+    CrossedFirst: "crossed comes before straight",
+    NoCrossed: "SPair is never crossed",
+    PrefixArity: "unequal arities are paired up to the shorter",
+    Plain0Missing: "Plain0 gives no action",
+    TransportFirst: "transport comes before structural actions",
+    // Rounds
+    MassIgnored: "qualities are compared by size alone",
+    LooseReplace: "an equal action replaces",
+    SameRound: "qualities improved in the same round are read",
+    CutRoundKept: "a round cut short keeps what it improved",
+    UnchangedCounted: "the last round, without change, is counted",
+    OneRound: "only the first round improves",
+    // Checks and limits
+    BudgetOneMore: "one check more passes",
+    FreeSelfPairs: "pairs of a class with itself spend no check in a round",
+    FreeRoundStart: "a round's start spends no check",
+    FreeStartingTerms: "starting terms spend no check",
+    BuildingPairs: "a run cut in building reports the pairs entered so far",
+    CutRootImproved: "a cut run keeps the root's term of the round before",
+    Pairs4095: "refusal 12 comes one pair early",
+    Pairs4097: "refusal 12 comes one pair late",
+    CandidatesCounted: "overtaken candidates are counted for refusal 13",
+    RepeatedTermsCounted: "equal terms are counted each time for refusal 13",
+    EnterAtRoundEnd: "final terms are entered at the end of a finished round",
+    OutputOneLess: "refusal 14 comes one byte early",
+    QueryBeforeImage: "refusal 11 comes before refusals 6 to 10",
+    // Listing
+    BranchesSwapped: "the branches of a marked place are swapped",
+    RightToLeft: "the walk goes from right to left",
+}
