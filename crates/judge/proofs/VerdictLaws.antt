@@ -64,6 +64,12 @@ end-small s e =
     let c : memberCount s ≤ 1024 = omega (arith, v .fewMembers, members-length s) in
     let d : childCount s ≤ 4096 = omega (arith, v .fewChildren, children-length s) in omega arith
 
+pub members-few : (s : List ℕ) {im : Image} → im ≡ headerOf s → countsRight s ≡ true → im .members < 65536
+members-few s e h =
+    let v = counts-rule s .0 h in
+    let c : memberCount s ≤ 1024 = omega (arith, v .fewMembers, members-length s) in
+    omega (arith, ap (λ (x : Image). x .members) e)
+
 -- ---- 6 to 10, rule after rule
 pub operations-refused : (t : Tables) → all (operationRight (length (t .classes))) (t .operations) ≡ false → refused 6 ≡ tablesRules t
 unfolding tablesRules

@@ -1,2 +1,3 @@
 pub mod Doubled
+pub mod Slots
 pub mod Verdict

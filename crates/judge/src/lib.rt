@@ -74,7 +74,7 @@ fn end(im: Image) -> usize
 
 // 6 to 10
 fn tables(s: &[u8], im: Image) -> Verdict
-    requires { ⌜ Loaded (now s) im ⌝ }
+    requires { ⌜ Loaded (now s) im × (im .members < 65536) ⌝ }
     ensures { λ r. ⌜ (resultOf (now (s .entry)) r ≡ tablesRules (tablesOf (now (s .entry)))) × Carries (now (s .entry)) r ⌝ }
 {
     if !operations_right(s, im) {

@@ -1,4 +1,4 @@
-use Rattle.judge.proofs.VerdictLaws.{short-refused, length-refused, version-refused, counts-refused, counts-are, end-refused, end-is, end-small, header-loaded, tables-left}
+use Rattle.judge.proofs.VerdictLaws.{short-refused, length-refused, version-refused, counts-refused, counts-are, end-refused, end-is, end-small, header-loaded, members-few, tables-left}
 use Rattle.laws.specs.AcceptedTurns.{failed, passed}
 use native.Mathlib.Omega.{arith}
 use mathlib.Core.Path.{sym, _∙_}
@@ -84,8 +84,11 @@ returns-5 c =
 tables-requires : tie.Need-tables-requires
 tables-requires c κs =
     let k = c .before .before in
-    let s = k .before .before .before .before .before .before .before .before .before .before .args .s .now in
-    header-loaded s (k .before .before .header .ensures) (sym (end-is s (k .before .before .header .ensures)) ∙ sym (c .before .end .ensures) ∙ c .if5 .left)
+    let s = k .before .before .before .before .before .before .before .before .before .before .args .s .now in (
+      header-loaded s (k .before .before .header .ensures)
+          (sym (end-is s (k .before .before .header .ensures)) ∙ sym (c .before .end .ensures) ∙ c .if5 .left),
+      members-few s (k .before .before .header .ensures) (passed (counts-are s (k .before .before .header .ensures) (k .before .counts-within .ensures)) (k .if4 .left)),
+    )
 
 -- src/lib.rt:97:1
 returns-6 : tie.Need-returns-6

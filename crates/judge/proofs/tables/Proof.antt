@@ -32,7 +32,7 @@ returns-2 c =
 children-right-requires : tie.Need-children-right-requires
 children-right-requires c κs =
     let e = c in
-    let a = e .before .before .before .before .before in (a .pre, spans-rule (tablesOf (a .args .s .now)) .0 (passed (e .before .spans-right .ensures) (e .if2 .left)))
+    let a = e .before .before .before .before .before in (a .pre .0, spans-rule (tablesOf (a .args .s .now)) .0 (passed (e .before .spans-right .ensures) (e .if2 .left)))
 
 -- src/lib.rt:85:9
 returns-3 : tie.Need-returns-3
@@ -47,7 +47,7 @@ bests-right-requires : tie.Need-bests-right-requires
 bests-right-requires c κs =
     let f = c in
     let e = f .before .before in
-    let a = e .before .before .before .before .before in (a .pre, spans-rule (tablesOf (a .args .s .now)) .0 (passed (e .before .spans-right .ensures) (e .if2 .left)), children-rule (tablesOf (a .args .s .now)) .0 (passed (f .before .children-right .ensures) (f .if3 .left)))
+    let a = e .before .before .before .before .before in (a .pre .0, spans-rule (tablesOf (a .args .s .now)) .0 (passed (e .before .spans-right .ensures) (e .if2 .left)), children-rule (tablesOf (a .args .s .now)) .0 (passed (f .before .children-right .ensures) (f .if3 .left)))
 
 -- src/lib.rt:88:9
 returns-4 : tie.Need-returns-4
@@ -62,7 +62,7 @@ returns-4 c =
 doubled-requires : tie.Need-doubled-requires
 doubled-requires c κs =
     let e = c .before .before .before .before in
-    let a = e .before .before .before .before .before in (a .pre, spans-rule (tablesOf (a .args .s .now)) .0 (passed (e .before .spans-right .ensures) (e .if2 .left)))
+    let a = e .before .before .before .before .before in (a .pre .0, spans-rule (tablesOf (a .args .s .now)) .0 (passed (e .before .spans-right .ensures) (e .if2 .left)), a .pre .1)
 
 -- src/lib.rt:92:9
 returns-5 : tie.Need-returns-5
@@ -72,7 +72,7 @@ returns-5 c =
     let e = f .before .before in
     let d = e .before .before in
     let a = d .before .before .before in
-    let (p, q) = doubled-told (tablesOf (a .args .s .now)) (c .before .before .doubled .ensures) (omega (arith, c .if5 .taken, classes-many (a .args .s .now) (a .args .im) (a .pre))) in
+    let (p, q) = doubled-told (tablesOf (a .args .s .now)) (c .before .before .doubled .ensures) (omega (arith, c .if5 .taken, classes-many (a .args .s .now) (a .args .im) (a .pre .0))) in
     (literals-refused (tablesOf (a .args .s .now)) (passed (d .before .operations-right .ensures) (d .if1 .left)) (passed (e .before .spans-right .ensures) (e .if2 .left)) (passed (f .before .children-right .ensures) (f .if3 .left)) (passed (g .before .bests-right .ensures) (g .if4 .left)) p, q)
 
 -- src/lib.rt:74:1
@@ -84,8 +84,8 @@ returns-6 c =
     let d = e .before .before in
     let a = d .before .before .before in (
       tables-accepted (tablesOf (a .args .s .now)) (passed (d .before .operations-right .ensures) (d .if1 .left)) (passed (e .before .spans-right .ensures) (e .if2 .left)) (passed (f .before .children-right .ensures) (f .if3 .left)) (passed (g .before .bests-right .ensures) (g .if4 .left))
-          (doubled-nowhere (tablesOf (a .args .s .now)) (c .before .before .doubled .ensures) (omega (arith, c .if5 .left, classes-many (a .args .s .now) (a .args .im) (a .pre)))),
-      a .pre,
+          (doubled-nowhere (tablesOf (a .args .s .now)) (c .before .before .doubled .ensures) (omega (arith, c .if5 .left, classes-many (a .args .s .now) (a .args .im) (a .pre .0)))),
+      a .pre .0,
     )
 
 pub tables-spec : {M : Type 1} → statement M
