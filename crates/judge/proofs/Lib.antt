@@ -1,0 +1,2 @@
+pub mod LiteralLaws
+pub mod VerdictLaws

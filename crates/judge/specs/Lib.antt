@@ -1,0 +1,3 @@
+pub mod Doubled
+pub mod Slots
+pub mod Verdict
