@@ -1,25 +1,16 @@
-use borrow.Author.Needs.{needs}
-use borrow.Author.Tests.{lt-ltb, le-ltb, le-leb, lt-leb, eq-eqb, ne-eqb}
-use Prim.Native.Nat.{ℕ, zero, suc, _≤_, _<_, _-_, _+_, _*_, _^_}
-use native.Mathlib.Omega.{arith}
-use native.Mathlib.Numerals.{add-one}
-use mathlib.Core.Path.{_≡_, refl, ap, sym, _∙_}
-use mathlib.Core.Logic.{⊎-elim}
-use mathlib.Core.List.{List, [], _∷_, _++_, append-nil}
-use lib.ListN.{length, take, drop, getD, set, length-set, length-take, length-drop, length-append, drop-of-length-le}
+use Rattle.actions.proofs.Readers.{left-member, action-op}
 use Rattle.actions.proofs.op.Statement.{statement}
 use Rattle.actions.proofs.op.Tie as tie
-use Rattle.actions.proofs.op.Reads as reads
-use Rattle.actions.proofs.op.Lts as lts
-use Rattle.image.proofs.member_op.Reads as member-op-reads
 
 -- src/lib.rt:179:5
 member-op-requires : tie.Need-member-op-requires
-member-op-requires c κs = ?
+member-op-requires c κs =
+    let a = c .before in (a .pre .0, left-member (a .args .s .now) (a .args .im) (a .pre .0) (a .pre .1) (a .args .v) (a .pre .2))
 
 -- src/lib.rt:175:1
 returns : tie.Need-returns
-returns c = ?
+returns c =
+    let a = c .before .before in action-op (a .args .s .now) (a .args .im) (a .pre .0) (a .pre .1) (a .args .v) (a .pre .2) (c .member-op .ensures .0)
 
 pub op-spec : {M : Type 1} → statement M
 op-spec = tie.close (tie.spec member-op-requires returns)

@@ -1,39 +1,35 @@
-use borrow.Author.Tests.{lt-ltb, le-ltb, le-leb, lt-leb, eq-eqb, ne-eqb}
-use Prim.Native.Nat.{ℕ, zero, suc, _≤_, _<_, _-_, _+_, _*_, _^_}
-use native.Mathlib.Omega.{arith}
-use native.Mathlib.Numerals.{add-one}
-use mathlib.Core.Path.{_≡_, refl, ap, sym, _∙_}
-use mathlib.Core.Logic.{⊎-elim}
-use mathlib.Core.List.{List, [], _∷_, _++_, append-nil}
-use lib.ListN.{length, take, drop, getD, set, length-set, length-take, length-drop, length-append, drop-of-length-le}
+use Rattle.actions.proofs.Scan.{start-itself, start-other}
+use Rattle.actions.proofs.Readers.{class-end}
+use Rattle.spec.specs.Image.{tablesOf}
+use borrow.Author.Tests.{eqb-true, eqb-false}
+use mathlib.Core.Path.{sym, _∙_}
 use borrow.Author.Needs.{needs}
 use Rattle.actions.proofs.start.Statement.{statement}
 use Rattle.actions.proofs.start.Tie as tie
-use Rattle.actions.proofs.start.Reads as reads
-use Rattle.actions.proofs.start.Lts as lts
-use Rattle.actions.proofs.itself.Reads as itself-reads
-use Rattle.image.proofs.first_member.Reads as first-member-reads
-use Rattle.image.proofs.members_of.Reads as members-of-reads
 
 -- src/lib.rt:98:9
 members-of-requires : tie.Need-members-of-requires
-members-of-requires c κs = ?
+members-of-requires c κs = search needs
 
 -- src/lib.rt:99:9
 first-member-requires : tie.Need-first-member-requires
-first-member-requires c κs = ?
+first-member-requires c κs = search needs
 
 -- src/lib.rt:100:8
 itself-requires : tie.Need-itself-requires
-itself-requires c κs = ?
+itself-requires c κs = search needs
 
 -- src/lib.rt:101:9
 returns : tie.Need-returns
-returns c = ?
+returns c =
+    let a = c .before .before .before .before .before in let t = tablesOf (a .args .s .now) in
+    rw (c .before .before .before .members-of .ensures .0, c .before .before .first-member .ensures .0) (start-itself t (a .args .l) (a .args .r) (class-end (a .args .s .now) (a .args .im) (a .pre .0) (a .pre .1) (a .args .l) (a .pre .2)) (class-end (a .args .s .now) (a .args .im) (a .pre .0) (a .pre .1) (a .args .r) (a .pre .3)) (eqb-true _ _ (sym (c .before .itself .ensures) ∙ c .if1 .taken)))
 
 -- src/lib.rt:94:1
 returns-2 : tie.Need-returns-2
-returns-2 c = ?
+returns-2 c =
+    let a = c .before .before .before .before .before in let t = tablesOf (a .args .s .now) in
+    rw (c .before .before .before .members-of .ensures .0, c .before .before .first-member .ensures .0) (start-other t (a .args .l) (a .args .r) (class-end (a .args .s .now) (a .args .im) (a .pre .0) (a .pre .1) (a .args .l) (a .pre .2)) (class-end (a .args .s .now) (a .args .im) (a .pre .0) (a .pre .1) (a .args .r) (a .pre .3)) (eqb-false _ _ (sym (c .before .itself .ensures) ∙ c .if1 .left)))
 
 pub start-spec : {M : Type 1} → statement M
 start-spec =
