@@ -12,6 +12,8 @@ use lib.Seq.{slice, slice-cons, slice-empty, drop-cons, drop-at, take-add, lengt
 use Rattle.spec.specs.Bytes.{each}
 use Rattle.spec.specs.Image.{Tables, Member, theClass, theMember, membersOf}
 use Rattle.spec.specs.Action.{Action, alignMembers, structural}
+use Rattle.image.specs.Loaded.{memberSpan}
+use Rattle.image.specs.declared.Span.{Span}
 use Rattle.actions.specs.Remaining.{Stands, StandsFound, SameLeft, actionsAt, actionAt, afterOf, endOf, rowFrom, rowsFrom, listFrom, foundIn, rowAt, foundRow}
 use Rattle.actions.specs.declared.State.{State}
 use Rattle.actions.specs.declared.Sought.{Sought}
@@ -50,7 +52,7 @@ module _ (t : Tables) (to : ℕ) (k : to ≤ length (t .members)) (w : State) wh
 
   -- one is
   pub row-found : w .right < to → w .past < length (actionsAt t w) → rowAt t to w ≡ foundRow t to (At w)
-  unfolding rowAt foundRow
+  unfolding rowAt
   row-found h e =
       row-cons (w .past) h
       ∙ ap (λ (x : List Action). x ++ rowFrom t (theMember t (w .left)) 0 (rest (w .right + 1))) (drop-cons (actionsAt t w) (w .past) (record { op = 0; pairs = [] }) e)
@@ -58,7 +60,7 @@ module _ (t : Tables) (to : ℕ) (k : to ≤ length (t .members)) (w : State) wh
       ∙ ap (λ (x : List Action). actionAt t w ∷ x) (sym (row-cons (w .past + 1) h))
 
   pub row-end : to ≤ w .right → rowAt t to w ≡ foundRow t to End
-  unfolding rowAt rowFrom foundRow
+  unfolding rowAt rowFrom
   row-end h = rw (slice-over (w .right) to (t .members) k h) refl
 
 -- ---- the left members of class l, all with those of class r
@@ -87,20 +89,18 @@ module _ (t : Tables) (l r : ℕ) (kl : endOf t l ≤ length (t .members)) (kr :
       rw (slice-cons (w .left) (endOf t l) (t .members) (record { op = 0; value = 0; first = 0; count = 0 }) h kl, add-one) (ap (λ (x : List Action). rowAt t (endOf t r) w ++ x) (rows-next (suc (w .left))))
 
   -- none is left of the left member
-  pub list-more : (w : State) → w .left < endOf t l → rowAt t (endOf t r) w ≡ foundRow t (endOf t r) End → listFrom t l r (next (w .left + 1)) ≡ listFrom t l r w
-  unfolding foundRow
+  list-more : (w : State) → w .left < endOf t l → rowAt t (endOf t r) w ≡ foundRow t (endOf t r) End → listFrom t l r (next (w .left + 1)) ≡ listFrom t l r w
   list-more w h e = sym (rows-cons w h ∙ ap (λ (x : List Action). x ++ listFrom t l r (next (w .left + 1))) e)
 
   -- one is
-  pub list-found : (w v : State) → w .left < endOf t l → rowAt t (endOf t r) w ≡ foundRow t (endOf t r) (At v) → v .left ≡ w .left → listFrom t l r w ≡ foundIn t l r (At v)
-  unfolding foundRow foundIn
+  list-found : (w v : State) → w .left < endOf t l → rowAt t (endOf t r) w ≡ foundRow t (endOf t r) (At v) → v .left ≡ w .left → listFrom t l r w ≡ foundIn t l r (At v)
   list-found w v h e g =
       rows-cons w h
       ∙ ap (λ (x : List Action). x ++ listFrom t l r (next (w .left + 1))) e
       ∙ ap (λ (x : List Action). actionAt t v ∷ x) (rw (← g) (sym (rows-cons (afterOf v) (rw g h))))
 
-  pub list-end : (w : State) → endOf t l ≤ w .left → listFrom t l r w ≡ foundIn t l r End
-  unfolding listFrom rowsFrom foundIn
+  list-end : (w : State) → endOf t l ≤ w .left → listFrom t l r w ≡ foundIn t l r End
+  unfolding listFrom rowsFrom
   list-end w h = rw (slice-over (w .left) (endOf t l) (t .members) kl h) refl
 
   -- ---- the start
@@ -109,5 +109,16 @@ module _ (t : Tables) (l r : ℕ) (kl : endOf t l ≤ length (t .members)) (kr :
   start-other n = rw (ne-eqb l r n, structural) (sym (rows-next (theClass t l .first)) ∙ ap (λ (x : List Member). each (λ x. each (alignMembers t x) (membersOf t r)) x) (part-slice (t .members) (theClass t l .first) (theClass t l .count) kl))
 
   pub start-itself : l ≡ r → listFrom t l r (next (endOf t l)) ≡ structural t l r
-  unfolding structural foundIn
+  unfolding structural
   start-itself e = list-end (next (endOf t l)) (omega arith) ∙ rw (eq-eqb l r e, structural) refl
+
+  -- ---- a turn of the scan, by the spans that the image gives
+  module _ {p q : Span} (ep : p ≡ memberSpan (theClass t l)) (eq : q ≡ memberSpan (theClass t r)) (w : State) where
+    pub seek-more : w .left < p .to → rowAt t (q .to) w ≡ foundRow t (q .to) End → listFrom t l r (record { left = w .left + 1; right = q .from; past = 0 }) ≡ listFrom t l r w
+    seek-more = rw (ep, eq) (list-more w)
+
+    pub seek-found : (v : State) → w .left < p .to → rowAt t (q .to) w ≡ foundRow t (q .to) (At v) → v .left ≡ w .left → listFrom t l r w ≡ foundIn t l r (At v)
+    seek-found = rw (ep, eq) (λ v. list-found w v)
+
+    pub seek-end : p .to ≤ w .left → listFrom t l r w ≡ foundIn t l r End
+    seek-end = rw ep (list-end w)

@@ -56,8 +56,7 @@ unfolding rowsFrom
 listFrom t l r w = rowsFrom t r (w .past) (slice (w .right) (endOf t r) (t .members)) (slice (w .left) (endOf t l) (t .members))
 
 -- ---- what seeking finds: the first action that is left and a state behind which the others are, or that none is left
-unfoldable pub foundIn : Tables → ℕ → ℕ → Sought → List Action
-unfolding alignMembers listFrom
+abbrev pub foundIn : Tables → ℕ → ℕ → Sought → List Action
 foundIn t l r (At v) = actionAt t v ∷ listFrom t l r (afterOf v)
 foundIn t l r End = []
 
@@ -70,8 +69,7 @@ unfoldable pub rowAt : Tables → ℕ → State → List Action
 unfolding rowFrom
 rowAt t to w = rowFrom t (theMember t (w .left)) (w .past) (slice (w .right) to (t .members))
 
-unfoldable pub foundRow : Tables → ℕ → Sought → List Action
-unfolding alignMembers rowAt
+abbrev pub foundRow : Tables → ℕ → Sought → List Action
 foundRow t to (At v) = actionAt t v ∷ rowAt t to (afterOf v)
 foundRow t to End = []
 

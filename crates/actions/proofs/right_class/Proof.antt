@@ -13,7 +13,7 @@ first-child-requires c κs =
 -- src/lib.rt:205:35
 add-child-class : tie.Need-add-child-class
 add-child-class c =
-    let a = c .before .before .before .before in 
+    let a = c .before .before .before .before in
     record { fits = omega (arith, a .pre .1 .counts .fewChildren, children-many (a .args .s .now) (a .args .im) (a .pre .0), straight-child (a .args .s .now) (a .args .im) (a .pre .0) (a .pre .1) (a .args .v) (a .pre .2) (a .args .k) (a .pre .3) (c .before .before .first-child .ensures .0)) }
 
 -- src/lib.rt:205:9

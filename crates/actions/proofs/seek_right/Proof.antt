@@ -33,8 +33,7 @@ returns c =
     let l = c .before .before .before in let a = l .before .before in let t = tablesOf (a .args .s .now) in
     let w : State = record { left = a .args .w .left; right = l .loop .j; past = l .loop .n } in
     let k : a .args .to ≤ length (t .members) = omega (arith, a .pre .3, members-many (a .args .s .now) (a .args .im) (a .pre .0)) in
-    let m : w .past < length (actionsAt t w) = omega (arith, c .if1 .taken, c .before .aligned .ensures) in
-    (
+    let m : w .past < length (actionsAt t w) = omega (arith, c .if1 .taken, c .before .aligned .ensures) in (
       sym (l .loop .inv) ∙ row-found t (a .args .to) k w (omega (arith, c .before .before .loop-test)) m,
       standing (a .args .s .now) (a .args .im) (a .pre .0) (a .pre .1) (w .left) (w .right) (w .past) (a .pre .2) (omega (arith, c .before .before .loop-test, a .pre .3)) m,
       refl,
