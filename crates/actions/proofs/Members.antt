@@ -2,7 +2,7 @@
 use mathlib.Core.Path.{_≡_, refl, sym, ap, _∙_}
 use mathlib.Core.Bool.{Bool, true, false}
 use mathlib.Core.List.{List, [], _∷_}
-use Prim.Native.Nat.{ℕ, zero, suc, _+_, _-_, _≤_, _<_}
+use Prim.Native.Nat.{ℕ, zero, suc, _+_, _-_, _<_}
 use native.Mathlib.Nat.{not-suc-le-zero, le-of-suc-le-suc, suc-inj}
 use native.Mathlib.Omega.{arith}
 use borrow.Author.Tests.{eq-eqb, ne-eqb, eqb-true}
@@ -15,8 +15,7 @@ use Rattle.spec.specs.Action.{Action, zip, byPosition, straightAndCrossed, alig
 use Rattle.laws.specs.Valid.{Valid}
 use Rattle.laws.specs.AcceptedLists.{in-at}
 use Rattle.laws.specs.AcceptedUses.{child-of-at, children-length-at}
-use Rattle.actions.specs.Remaining.{Stands, actionsAt, actionAt, childClasses}
-use Rattle.actions.specs.declared.State.{State}
+use Rattle.actions.specs.Remaining.{childClasses}
 
 -- ---- the child classes of a member, by their numbers in the image
 module _ (t : Tables) (v : Valid t) (m : ℕ) (h : m < length (t .members)) where

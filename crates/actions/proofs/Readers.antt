@@ -1,19 +1,18 @@
 -- What the image's readers give of members and of the action at a state.
-use mathlib.Core.Path.{_≡_, refl, sym, ap, _∙_}
+use mathlib.Core.Path.{_≡_, sym, ap, _∙_}
 use mathlib.Core.List.{List}
 use Prim.Native.Nat.{ℕ, _+_, _-_, _≤_, _<_}
 use native.Mathlib.Omega.{arith}
 use lib.Dec.{eqb}
 use lib.ListN.{length, getD}
-use Rattle.spec.specs.Bytes.{Two}
-use Rattle.spec.specs.Image.{Tables, SPair, tablesOf, kindOf, theClass, theMember, childrenOf}
-use Rattle.spec.specs.Action.{Action, alignMembers}
+use Rattle.spec.specs.Image.{Tables, SPair, tablesOf, kindOf, theClass, theMember}
+use Rattle.spec.specs.Action.{alignMembers}
 use Rattle.laws.specs.Valid.{Valid}
 use Rattle.laws.specs.AcceptedUses.{childrenWithin, membersWithin}
 use Rattle.image.specs.Loaded.{Loaded, theChild, memberSpan, operations-many, classes-many, members-many, children-many}
 use Rattle.image.specs.declared.Image.{Image}
 use Rattle.image.specs.declared.Span.{Span}
-use Rattle.actions.specs.Remaining.{Stands, actionsAt, actionAt, childClasses, endOf}
+use Rattle.actions.specs.Remaining.{Stands, actionAt, childClasses, endOf}
 use Rattle.actions.specs.declared.State.{State}
 use Rattle.actions.proofs.Members.{Joined, many-classes, class-at, class-within, two-children, members-join}
 

@@ -1,22 +1,19 @@
 -- The actions that are left, for each way out of a turn of the scans.
 use mathlib.Core.Path.{_≡_, refl, sym, ap, _∙_}
-use mathlib.Core.Bool.{Bool, true, false}
-use mathlib.Core.List.{List, [], _∷_, _++_, append-nil}
+use mathlib.Core.List.{List, [], _∷_, _++_}
 use Prim.Native.Nat.{ℕ, suc, _+_, _≤_, _<_}
 use native.Mathlib.Numerals.{add-one}
 use native.Mathlib.Omega.{arith}
 use borrow.Author.Tests.{eq-eqb, ne-eqb}
-use lib.Dec.{eqb}
-use lib.ListN.{length, getD, take, drop, drop-of-length-le, length-take}
-use lib.Seq.{slice, slice-cons, slice-empty, drop-cons, drop-at, take-add, length-take-le}
+use lib.ListN.{length, take, drop, drop-of-length-le}
+use lib.Seq.{slice, slice-cons, drop-cons, drop-at, take-add, length-take-le}
 use Rattle.spec.specs.Bytes.{each}
 use Rattle.spec.specs.Image.{Tables, Member, theClass, theMember, membersOf}
 use Rattle.spec.specs.Action.{Action, alignMembers, structural}
 use Rattle.image.specs.Loaded.{memberSpan}
 use Rattle.image.specs.declared.Span.{Span}
-use Rattle.actions.specs.Remaining.{Stands, StandsFound, SameLeft, actionsAt, actionAt, afterOf, endOf, rowFrom, rowsFrom, listFrom, foundIn, rowAt, foundRow}
+use Rattle.actions.specs.Remaining.{actionsAt, actionAt, afterOf, endOf, rowFrom, rowsFrom, listFrom, foundIn, rowAt, foundRow}
 use Rattle.actions.specs.declared.State.{State}
-use Rattle.actions.specs.declared.Sought.{Sought}
 use Rattle.actions.specs.declared.Sought.the-variants.{At, End}
 
 -- ---- parts of a table
@@ -25,6 +22,10 @@ part-slice l first count h = rw take-add (drop-at (take first l) (take count (dr
 
 slice-over : {A : Type 0} (f to : ℕ) (l : List A) → to ≤ length l → to ≤ f → slice f to l ≡ []
 slice-over f to l k h = drop-of-length-le (take to l) {i = f} (omega (arith, length-take-le to l k, h))
+
+-- what `theMember` gives past the table
+abbrev none : Member
+none = record { op = 0; value = 0; first = 0; count = 0 }
 
 -- ---- a left member and the right members before `to`
 row-whole : (t : Tables) (a : Member) (l : List Member) → each (alignMembers t a) l ≡ rowFrom t a 0 l
@@ -35,9 +36,6 @@ row-whole t a (b ∷ l) = refl
 module _ (t : Tables) (to : ℕ) (k : to ≤ length (t .members)) (w : State) where
   abbrev rest : ℕ → List Member
   rest j = slice j to (t .members)
-
-  abbrev none : Member
-  none = record { op = 0; value = 0; first = 0; count = 0 }
 
   row-cons : (n : ℕ) → w .right < to → rowFrom t (theMember t (w .left)) n (rest (w .right)) ≡ drop n (actionsAt t w) ++ rowFrom t (theMember t (w .left)) 0 (rest (w .right + 1))
   unfolding rowFrom
@@ -56,7 +54,7 @@ module _ (t : Tables) (to : ℕ) (k : to ≤ length (t .members)) (w : State) wh
   row-found h e =
       row-cons (w .past) h
       ∙ ap (λ (x : List Action). x ++ rowFrom t (theMember t (w .left)) 0 (rest (w .right + 1))) (drop-cons (actionsAt t w) (w .past) (record { op = 0; pairs = [] }) e)
-      ∙ ap (λ (n : ℕ). actionAt t w ∷ (drop n (actionsAt t w) ++ rowFrom t (theMember t (w .left)) 0 (rest (w .right + 1)))) (let e : suc (w .past) ≡ w .past + 1 = omega arith in e)
+      ∙ ap (λ (n : ℕ). actionAt t w ∷ (drop n (actionsAt t w) ++ rowFrom t (theMember t (w .left)) 0 (rest (w .right + 1)))) (sym (add-one (w .past)))
       ∙ ap (λ (x : List Action). actionAt t w ∷ x) (sym (row-cons (w .past + 1) h))
 
   pub row-end : to ≤ w .right → rowAt t to w ≡ foundRow t to End
@@ -86,7 +84,7 @@ module _ (t : Tables) (l r : ℕ) (kl : endOf t l ≤ length (t .members)) (kr :
   rows-cons : (w : State) → w .left < endOf t l → listFrom t l r w ≡ rowAt t (endOf t r) w ++ listFrom t l r (next (w .left + 1))
   unfolding listFrom rowAt rowsFrom
   rows-cons w h =
-      rw (slice-cons (w .left) (endOf t l) (t .members) (record { op = 0; value = 0; first = 0; count = 0 }) h kl, add-one) (ap (λ (x : List Action). rowAt t (endOf t r) w ++ x) (rows-next (suc (w .left))))
+      rw (slice-cons (w .left) (endOf t l) (t .members) none h kl, add-one) (ap (λ (x : List Action). rowAt t (endOf t r) w ++ x) (rows-next (suc (w .left))))
 
   -- none is left of the left member
   list-more : (w : State) → w .left < endOf t l → rowAt t (endOf t r) w ≡ foundRow t (endOf t r) End → listFrom t l r (next (w .left + 1)) ≡ listFrom t l r w

@@ -19,15 +19,14 @@ childClasses t m = classes (childrenOf t (theMember t m))
 abbrev pub endOf : Tables → ℕ → ℕ
 endOf t c = theClass t c .first + theClass t c .count
 
--- ---- an action at a state
--- those of its two members, and the one after those that are past
+-- ---- the actions of the two members at a state, and the one that follows those that are past
 abbrev pub actionsAt : Tables → State → List Action
 actionsAt t v = alignMembers t (theMember t (v .left)) (theMember t (v .right))
 
 abbrev pub actionAt : Tables → State → Action
 actionAt t v = getD (actionsAt t v) (v .past) (record { op = 0; pairs = [] })
 
--- An action stands at v.
+-- An action stands at v: its members are the image's, and not all of their actions, two at most, are past.
 pub record Stands (t : Tables) (v : State) : Type 0 where
   pub left : v .left < length (t .members)
   pub right : v .right < length (t .members)
@@ -38,13 +37,13 @@ abbrev pub afterOf : State → State
 afterOf v = record { left = v .left; right = v .right; past = v .past + 1 }
 
 -- ---- what is left
--- of member a with members, n actions with the first of them past
+-- of member a with right members, n actions with the first of them past
 unfoldable pub rowFrom : Tables → Member → ℕ → List Member → List Action
 unfolding alignMembers each
 rowFrom t a n [] = []
 rowFrom t a n (b ∷ l) = drop n (alignMembers t a b) ++ each (alignMembers t a) l
 
--- of left members with the members of class r; of the first of them with `row` only
+-- of left members, the first of them with the right members `row`, the others with all of class r
 unfoldable pub rowsFrom : Tables → ℕ → ℕ → List Member → List Member → List Action
 unfolding alignMembers each rowFrom
 rowsFrom t r n row [] = []
@@ -64,7 +63,7 @@ abbrev pub StandsFound : Tables → Sought → Type 0
 StandsFound t (At v) = Stands t v
 StandsFound t End = Unit
 
--- the same of the left member at w with right members before `to`
+-- ---- the same of one left member, the one at w, and right members before `to`
 unfoldable pub rowAt : Tables → ℕ → State → List Action
 unfolding rowFrom
 rowAt t to w = rowFrom t (theMember t (w .left)) (w .past) (slice (w .right) to (t .members))
