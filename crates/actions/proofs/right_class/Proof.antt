@@ -1,4 +1,4 @@
-use Rattle.actions.proofs.Readers.{right-member, straight-child, straight-joined, crossed-two, crossed-child, crossed-joined}
+use Rattle.actions.proofs.Readers.{left-member, right-member, straight-child, straight-joined, crossed-two, crossed-child, crossed-joined}
 use Rattle.image.specs.Loaded.{children-many}
 use native.Mathlib.Omega.{arith}
 use borrow.Author.Needs.{needs}
@@ -8,7 +8,7 @@ use Rattle.actions.proofs.right_class.Tie as tie
 -- src/lib.rt:203:9
 first-child-requires : tie.Need-first-child-requires
 first-child-requires c κs =
-    let a = c .before in (a .pre .0, right-member (a .args .s .now) (a .args .im) (a .pre .0) (a .pre .1) (a .args .v) (a .pre .2))
+    let a = c .before in (a .pre .0, omega (arith, left-member (a .args .s .now) (a .args .im) (a .pre .0) (a .pre .1) (a .args .v) (a .pre .2), right-member (a .args .s .now) (a .args .im) (a .pre .0) (a .pre .1) (a .args .v) (a .pre .2)))
 
 -- src/lib.rt:205:35
 add-child-class : tie.Need-add-child-class
@@ -19,7 +19,7 @@ add-child-class c =
 -- src/lib.rt:205:9
 child-class-requires : tie.Need-child-class-requires
 child-class-requires c κs =
-    let a = c .before .before .before .before in (a .pre .0, straight-child (a .args .s .now) (a .args .im) (a .pre .0) (a .pre .1) (a .args .v) (a .pre .2) (a .args .k) (a .pre .3) (c .before .before .first-child .ensures .0))
+    let a = c .before .before .before .before in (a .pre .0, omega (arith, straight-child (a .args .s .now) (a .args .im) (a .pre .0) (a .pre .1) (a .args .v) (a .pre .2) (a .args .k) (a .pre .3) (c .before .before .first-child .ensures .0)))
 
 -- src/lib.rt:205:9
 returns : tie.Need-returns
@@ -38,7 +38,7 @@ sub-child-class c =
 -- src/lib.rt:207:5
 child-class-requires-2 : tie.Need-child-class-requires-2
 child-class-requires-2 c κs =
-    let a = c .before .before .before .before in (a .pre .0, crossed-child (a .args .s .now) (a .args .im) (a .pre .0) (a .pre .1) (a .args .v) (a .pre .2) (a .args .k) (a .pre .3) (c .before .before .first-child .ensures .0) (c .if1 .left))
+    let a = c .before .before .before .before in (a .pre .0, omega (arith, crossed-child (a .args .s .now) (a .args .im) (a .pre .0) (a .pre .1) (a .args .v) (a .pre .2) (a .args .k) (a .pre .3) (c .before .before .first-child .ensures .0) (c .if1 .left)))
 
 -- src/lib.rt:199:1
 returns-2 : tie.Need-returns-2
