@@ -111,7 +111,7 @@ pub fn start(s: &[u8], im: Image, l: usize, r: usize) -> State
     }
 }
 
-// The next action with w's left member and a right member before `to`.
+// The next action of the left member at w with a right member before `to`.
 fn seek_right(s: &[u8], im: Image, to: usize, w: State) -> Sought
     requires { ⌜ Loaded (now s) im × Valid (tablesOf (now s)) × (w .left < im .members) × (to ≤ im .members) ⌝ }
     ensures { λ x. ⌜ (rowAt (tablesOf (now (s .entry))) to w ≡ foundRow (tablesOf (now (s .entry))) to x) × StandsFound (tablesOf (now (s .entry))) x × SameLeft w x ⌝ }
