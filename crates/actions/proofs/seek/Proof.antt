@@ -1,0 +1,96 @@
+use Rattle.actions.proofs.Scan.{seek-more, seek-found, seek-end}
+use Rattle.actions.proofs.Readers.{class-end, span-end}
+use Rattle.actions.specs.Remaining.{listFrom}
+use Rattle.spec.specs.Image.{tablesOf}
+use Prim.Native.Nat.{_-_}
+use native.Mathlib.Omega.{arith}
+use mathlib.Core.Path.{_≡_, refl, sym, _∙_}
+use borrow.Author.Needs.{needs}
+use Rattle.actions.proofs.seek.Statement.{statement}
+use Rattle.actions.proofs.seek.Tie as tie
+
+abbrev Inv-loop : tie.InvT-loop
+Inv-loop s im l r to right v₀ v = listFrom (tablesOf s) l r v ≡ listFrom (tablesOf s) l r v₀
+
+abbrev μ-loop : tie.MeasureT-loop
+μ-loop s im l r to right v₀ v = to - v .left
+
+-- src/lib.rt:140:14
+members-of-requires : tie.Need-members-of-requires Inv-loop μ-loop
+members-of-requires c κs = search needs
+
+-- src/lib.rt:141:9
+members-of-requires-2 : tie.Need-members-of-requires-2 Inv-loop μ-loop
+members-of-requires-2 c κs = search needs
+
+-- src/lib.rt:143:5
+loop-holds : tie.Need-loop-holds Inv-loop μ-loop
+loop-holds c = refl
+
+-- src/lib.rt:144:15
+seek-right-requires : tie.Need-seek-right-requires Inv-loop μ-loop
+seek-right-requires c κs =
+    let l = c .before .before in let m = l .before .before in let a = m .before .before in (
+      a .pre .0,
+      a .pre .1,
+      omega (arith, c .if1 .taken, span-end (a .args .s .now) (a .args .im) (a .pre .0) (a .pre .1) (a .args .l) (m .members-of .result) (a .pre .2) (m .members-of .ensures .0)),
+      span-end (a .args .s .now) (a .args .im) (a .pre .0) (a .pre .1) (a .args .r) (l .before .members-of2 .result) (a .pre .3) (l .before .members-of2 .ensures .0),
+    )
+
+-- src/lib.rt:145:24
+enum-known-x : tie.Need-enum-known-x Inv-loop μ-loop
+enum-known-x c = search needs
+
+-- src/lib.rt:146:17
+returns : tie.Need-returns Inv-loop μ-loop
+returns c =
+    let l = c .before .before .before .before .before .before in let m = l .before .before in let a = m .before .before in
+    let g = seek-found (tablesOf (a .args .s .now)) (a .args .l) (a .args .r) (class-end (a .args .s .now) (a .args .im) (a .pre .0) (a .pre .1) (a .args .l) (a .pre .2)) (class-end (a .args .s .now) (a .args .im) (a .pre .0) (a .pre .1) (a .args .r) (a .pre .3)) (m .members-of .ensures .0) (l .before .members-of2 .ensures .0) (l .loop .v) in
+    let e = c .before .x .given .1 in
+    let k = rw e at (c .before .before .before .seek-right .ensures) in
+    (sym (l .loop .inv) ∙ g (c .before .x .given .0 .0) (c .before .before .before .before .if1 .taken) (k .0) (k .2), k .1)
+
+-- src/lib.rt:150:27
+enum-told : tie.Need-enum-told Inv-loop μ-loop
+enum-told c = search needs
+
+-- src/lib.rt:150:27
+add-t13 : tie.Need-add-t13 Inv-loop μ-loop
+add-t13 c = search needs
+
+-- src/lib.rt:143:5
+loop-less : tie.Need-loop-less Inv-loop μ-loop
+loop-less c = search needs
+
+-- src/lib.rt:143:5
+loop-again : tie.Need-loop-again Inv-loop μ-loop
+loop-again c =
+    let l = c .before .before .before .before .before .before in let m = l .before .before in let a = m .before .before in
+    let g = seek-more (tablesOf (a .args .s .now)) (a .args .l) (a .args .r) (class-end (a .args .s .now) (a .args .im) (a .pre .0) (a .pre .1) (a .args .l) (a .pre .2)) (class-end (a .args .s .now) (a .args .im) (a .pre .0) (a .pre .1) (a .args .r) (a .pre .3)) (m .members-of .ensures .0) (l .before .members-of2 .ensures .0) (l .loop .v) in
+    let k = rw (c .before .enum-told .given .1) at (c .before .before .before .seek-right .ensures) in
+    g (c .before .before .before .before .if1 .taken) (k .0) ∙ l .loop .inv
+
+-- src/lib.rt:136:1
+returns-2 : tie.Need-returns-2 Inv-loop μ-loop
+returns-2 c =
+    let l = c .before .before in let m = l .before .before in let a = m .before .before in
+    let g = seek-end (tablesOf (a .args .s .now)) (a .args .l) (a .args .r) (class-end (a .args .s .now) (a .args .im) (a .pre .0) (a .pre .1) (a .args .l) (a .pre .2)) (class-end (a .args .s .now) (a .args .im) (a .pre .0) (a .pre .1) (a .args .r) (a .pre .3)) (m .members-of .ensures .0) (l .before .members-of2 .ensures .0) (l .loop .v) in
+    (sym (l .loop .inv) ∙ g (c .if1 .left), tt)
+
+pub seek-spec : {M : Type 1} → statement M
+seek-spec =
+    tie.close
+    (tie.spec
+    Inv-loop
+    μ-loop
+    members-of-requires
+    members-of-requires-2
+    loop-holds
+    seek-right-requires
+    enum-known-x
+    returns
+    enum-told
+    add-t13
+    loop-less
+    loop-again
+    returns-2)

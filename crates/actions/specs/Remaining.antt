@@ -1,0 +1,77 @@
+-- "Action." The structural actions that are left at a state of their enumeration: members in stored order, the left class's outermost, straight before crossed.
+use mathlib.Core.Path.{_≡_}
+use mathlib.Core.List.{List, [], _∷_, _++_}
+use Prim.Native.Nat.{ℕ, _+_, _<_}
+use lib.ListN.{length, getD, drop}
+use lib.Seq.{slice}
+use Rattle.spec.specs.Bytes.{each}
+use Rattle.spec.specs.Image.{Tables, Member, theClass, theMember, membersOf, childrenOf}
+use Rattle.spec.specs.Monomial.{classes}
+use Rattle.spec.specs.Action.{Action, alignMembers}
+use Rattle.actions.specs.declared.State.{State}
+use Rattle.actions.specs.declared.Sought.{Sought}
+use Rattle.actions.specs.declared.Sought.the-variants.{At, End}
+
+abbrev pub childClasses : Tables → ℕ → List ℕ
+childClasses t m = classes (childrenOf t (theMember t m))
+
+-- where the members of class c end
+abbrev pub endOf : Tables → ℕ → ℕ
+endOf t c = theClass t c .first + theClass t c .count
+
+-- ---- the actions of the two members at a state, and the one that follows those that are past
+abbrev pub actionsAt : Tables → State → List Action
+actionsAt t v = alignMembers t (theMember t (v .left)) (theMember t (v .right))
+
+abbrev pub actionAt : Tables → State → Action
+actionAt t v = getD (actionsAt t v) (v .past) (record { op = 0; pairs = [] })
+
+-- An action stands at v: its members are the image's, and not all of their actions, two at most, are past.
+pub record Stands (t : Tables) (v : State) : Type 0 where
+  pub left : v .left < length (t .members)
+  pub right : v .right < length (t .members)
+  pub more : v .past < length (actionsAt t v)
+  pub few : v .past < 2
+
+abbrev pub afterOf : State → State
+afterOf v = record { left = v .left; right = v .right; past = v .past + 1 }
+
+-- ---- what is left
+-- of member a with right members, n actions with the first of them past
+unfoldable pub rowFrom : Tables → Member → ℕ → List Member → List Action
+unfolding alignMembers each
+rowFrom t a n [] = []
+rowFrom t a n (b ∷ l) = drop n (alignMembers t a b) ++ each (alignMembers t a) l
+
+-- of left members, the first of them with the right members `row`, the others with all of class r
+unfoldable pub rowsFrom : Tables → ℕ → ℕ → List Member → List Member → List Action
+unfolding alignMembers each rowFrom
+rowsFrom t r n row [] = []
+rowsFrom t r n row (a ∷ l) = rowFrom t a n row ++ each (λ x. each (alignMembers t x) (membersOf t r)) l
+
+-- of classes l and r at state w
+unfoldable pub listFrom : Tables → ℕ → ℕ → State → List Action
+unfolding rowsFrom
+listFrom t l r w = rowsFrom t r (w .past) (slice (w .right) (endOf t r) (t .members)) (slice (w .left) (endOf t l) (t .members))
+
+-- ---- what seeking finds: the first action that is left and a state behind which the others are, or that none is left
+abbrev pub foundIn : Tables → ℕ → ℕ → Sought → List Action
+foundIn t l r (At v) = actionAt t v ∷ listFrom t l r (afterOf v)
+foundIn t l r End = []
+
+abbrev pub StandsFound : Tables → Sought → Type 0
+StandsFound t (At v) = Stands t v
+StandsFound t End = Unit
+
+-- ---- the same of one left member, the one at w, and right members before `to`
+unfoldable pub rowAt : Tables → ℕ → State → List Action
+unfolding rowFrom
+rowAt t to w = rowFrom t (theMember t (w .left)) (w .past) (slice (w .right) to (t .members))
+
+abbrev pub foundRow : Tables → ℕ → Sought → List Action
+foundRow t to (At v) = actionAt t v ∷ rowAt t to (afterOf v)
+foundRow t to End = []
+
+abbrev pub SameLeft : State → Sought → Type 0
+SameLeft w (At v) = v .left ≡ w .left
+SameLeft w End = Unit
