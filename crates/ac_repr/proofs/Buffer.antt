@@ -1,0 +1,87 @@
+-- Laws of `terms`: a term is read and written at two numbers.
+use mathlib.Core.Path.{_≡_, refl, sym, ap, _∙_}
+use mathlib.Core.List.{List, [], _∷_, _++_}
+use Prim.Native.Nat.{ℕ, zero, suc, _+_, _*_, _-_, _≤_, _<_}
+use native.Mathlib.Nat.{not-suc-le-zero, le-of-suc-le-suc}
+use native.Mathlib.Numerals.{add-one}
+use native.Mathlib.Omega.{arith}
+use lib.ListN.{length, take, drop, getD, set, length-drop}
+use lib.Seq.{drop-cons, paste, paste-suc, paste-zero, getD-drop, getD-at, length-paste-head}
+use Rattle.spec.specs.Bytes.{Two}
+use Rattle.ac_repr.specs.Terms.{terms}
+
+twice : (i : ℕ) → 2 * suc i ≡ suc (suc (2 * i))
+twice i = omega arith
+
+twice-one : (i : ℕ) → 2 * suc i + 1 ≡ suc (suc (2 * i + 1))
+twice-one i = omega arith
+
+pub terms-length : (n : ℕ) (s : List ℕ) → length s ≡ 2 * n → length (terms s) ≡ n
+unfolding terms
+terms-length zero [] e = refl
+terms-length zero (x ∷ s) e = absurd (omega arith)
+terms-length (suc n) [] e = absurd (omega arith)
+terms-length (suc n) (x ∷ []) e = absurd (omega arith)
+terms-length (suc n) (x ∷ y ∷ s) e = ap suc (terms-length n s (omega arith))
+
+pub terms-at : (s : List ℕ) (i : ℕ) → 2 * i + 1 < length s → getD (terms s) i (0, 0) ≡ (getD s (2 * i) 0, getD s (2 * i + 1) 0)
+unfolding terms
+terms-at [] i h = absurd (not-suc-le-zero h)
+terms-at (x ∷ []) i h = absurd (omega arith)
+terms-at (x ∷ y ∷ s) zero h = refl
+terms-at (x ∷ y ∷ s) (suc i) h = rw (twice-one i, twice i) (terms-at s i (omega arith))
+
+pub terms-set : (s : List ℕ) (i c k : ℕ) → 2 * i + 1 < length s → terms (set (set s (2 * i) c) (2 * i + 1) k) ≡ set (terms s) i (c, k)
+unfolding terms
+terms-set [] i c k h = absurd (not-suc-le-zero h)
+terms-set (x ∷ []) i c k h = absurd (omega arith)
+terms-set (x ∷ y ∷ s) zero c k h = refl
+terms-set (x ∷ y ∷ s) (suc i) c k h = rw (twice-one i, twice i) (ap (λ (l : List Two). (x, y) ∷ l) (terms-set s i c k (omega arith)))
+
+-- two buffers of n terms with the same terms are the same buffer
+pub terms-whole : (n : ℕ) (s u : List ℕ) → length s ≡ 2 * n → length u ≡ 2 * n → terms s ≡ terms u → s ≡ u
+unfolding terms
+terms-whole zero [] [] e f q = refl
+terms-whole zero [] (y ∷ u) e f q = absurd (omega arith)
+terms-whole zero (x ∷ s) u e f q = absurd (omega arith)
+terms-whole (suc n) [] u e f q = absurd (omega arith)
+terms-whole (suc n) (x ∷ []) u e f q = absurd (omega arith)
+terms-whole (suc n) (x ∷ y ∷ s) [] e f q = absurd (omega arith)
+terms-whole (suc n) (x ∷ y ∷ s) (z ∷ []) e f q = absurd (omega arith)
+terms-whole (suc n) (x ∷ y ∷ s) (z ∷ w ∷ u) e f q =
+    let r : terms s ≡ terms u = cc in
+    let a : x ≡ z = ap (λ (l : List Two). getD l 0 (0, 0) .0) q in
+    let b : y ≡ w = ap (λ (l : List Two). getD l 0 (0, 0) .1) q in
+    rw (a, b, terms-whole n s u (omega arith) (omega arith) r) refl
+
+-- ---- a carry that ripples up: place p + j takes the carry, and hands its own term on
+module _ (l : List Two) (p j : ℕ) (t : Two) (h : p + j < length l) where
+  ripple-room : j < length (t ∷ drop p l)
+  ripple-room = simp length-drop (omega arith)
+
+  ripple-set : set (paste l p (t ∷ drop p l) j) (p + j) (getD (t ∷ drop p l) j (0, 0)) ≡ paste l p (t ∷ drop p l) (j + 1)
+  ripple-set = rw add-one (paste-suc l p (t ∷ drop p l) j (0, 0) h ripple-room)
+
+  ripple-carry : getD (paste l p (t ∷ drop p l) j) (p + j) (0, 0) ≡ getD (t ∷ drop p l) (j + 1) (0, 0)
+  ripple-carry =
+      rw (add-one, getD-drop, drop-cons l (p + j) (0, 0))
+      (getD-at (take p l ++ take j (t ∷ drop p l)) (getD l (p + j) (0, 0)) _ (0, 0) (p + j)
+      (length-paste-head l p (t ∷ drop p l) j (omega arith) (omega (arith, ripple-room))))
+
+-- after j places: t and the j - 1 terms that follow stand from place p on, and x is to stand next
+pub record Rippled (l₀ l : List Two) (p j : ℕ) (t x : Two) : Type 0 where
+  pub whole : l ≡ paste l₀ p (t ∷ drop p l₀) j
+  pub carry : x ≡ getD (t ∷ drop p l₀) j (0, 0)
+
+pub rippled-none : (l : List Two) (p : ℕ) (t : Two) → Rippled l l p 0 t t
+rippled-none l p t = record { whole = paste-zero l p (t ∷ drop p l); carry = refl }
+
+pub rippled-more : (s₀ s s′ : List ℕ) (p j : ℕ) (t x : Two) (c k : ℕ) → length s₀ ≡ 130 → p + j < 65 → Rippled (terms s₀) (terms s) p j t x
+    → c ≡ getD (terms s) (p + j) (0, 0) .0 → k ≡ getD (terms s) (p + j) (0, 0) .1 → terms s′ ≡ set (terms s) (p + j) (x .0, x .1)
+    → Rippled (terms s₀) (terms s′) p (j + 1) t (c, k)
+rippled-more s₀ s s′ p j t x c k l h r a b w =
+    let f : p + j < length (terms s₀) = rw (terms-length 65 s₀ l) h in
+    record {
+      whole = w ∙ rw (r .whole, r .carry) (ripple-set (terms s₀) p j t f);
+      carry = rw (a, b, r .whole) (ripple-carry (terms s₀) p j t f);
+    }
