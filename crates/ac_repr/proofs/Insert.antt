@@ -131,3 +131,6 @@ module _ (n c k : ℕ) (s u : List ℕ) (r : Roomy n k s) where
 -- the new count fits
 pub room-for : (n k : ℕ) (s : List ℕ) (p y : ℕ) → Roomy n k s → p < n → y ≡ getD (terms s) p (0, 0) .1 → y + k < 2 ^ 64
 room-for n k s p y r h e = omega (arith, r .fits, e, ap (λ (t : Two). t .1) (getD-take n (terms s) p (0, 0) h), count-le (held n s) p)
+
+pub roomy-less : (n k b : ℕ) (s : List ℕ) → k ≤ b → Roomy n b s → Roomy n k s
+roomy-less n k b s h r = record { numbers = r .numbers; room = r .room; fits = omega (arith, r .fits) }

@@ -1,2 +1,6 @@
 pub mod Buffer
 pub mod Insert
+pub mod Scans
+pub mod Children
+
+pub mod Padding

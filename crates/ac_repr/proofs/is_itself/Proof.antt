@@ -1,0 +1,55 @@
+use Rattle.ac_repr.proofs.Scans.{itself-length, itself-class, itself-count}
+use Rattle.ac_repr.specs.Terms.{terms, held, position, Holds, Roomy}
+use borrow.Author.Tests.{lt-ltb, le-ltb, le-leb, lt-leb, eq-eqb, ne-eqb}
+use Prim.Native.Nat.{ℕ, zero, suc, _≤_, _<_, _-_, _+_, _*_, _^_}
+use native.Mathlib.Omega.{arith}
+use native.Mathlib.Numerals.{add-one}
+use mathlib.Core.Path.{_≡_, refl, ap, sym, _∙_}
+use mathlib.Core.Logic.{⊎-elim}
+use mathlib.Core.List.{List, [], _∷_, _++_, append-nil}
+use lib.ListN.{length, take, drop, getD, set, length-set, length-take, length-drop, length-append, drop-of-length-le}
+use borrow.Author.Needs.{needs}
+use Rattle.ac_repr.proofs.is_itself.Statement.{statement}
+use Rattle.ac_repr.proofs.is_itself.Tie as tie
+use Rattle.ac_repr.proofs.is_itself.Reads as reads
+use Rattle.ac_repr.proofs.is_itself.Lts as lts
+use Rattle.ac_repr.proofs.class_at.Reads as class-at-reads
+use Rattle.ac_repr.proofs.count_at.Reads as count-at-reads
+use Rattle.ac_repr.proofs.long.Reads as long-reads
+
+-- src/lib.rt:189:9
+returns : tie.Need-returns
+returns c =
+    let b = c .before .before in
+    sym (itself-length (b .args .mono .now) (b .args .n) (b .args .c) (b .pre .0) (b .pre .1) (c .if1 .taken))
+
+-- src/lib.rt:191:8
+class-at-requires : tie.Need-class-at-requires
+class-at-requires c κs = search needs
+
+-- src/lib.rt:191:29
+long-requires : tie.Need-long-requires
+long-requires c κs = search needs
+
+-- src/lib.rt:192:9
+returns-2 : tie.Need-returns-2
+returns-2 c =
+    let b = c .before .before .before .before .before in
+    sym (itself-class (b .args .mono .now) (b .args .n) (b .args .c) (b .pre .0) (b .pre .1) (c .before .before .class-at .result) (c .before .before .before .if1 .left) (c .before .before .class-at .ensures)
+    (λ e. c .if2 .taken (e ∙ sym (c .before .long .ensures))))
+
+-- src/lib.rt:194:5
+count-at-requires : tie.Need-count-at-requires
+count-at-requires c κs = search needs
+
+-- src/lib.rt:184:1
+returns-3 : tie.Need-returns-3
+returns-3 c =
+    let b = c .before .before .before .before .before .before in
+    sym (itself-count (b .args .mono .now) (b .args .n) (b .args .c) (b .pre .0) (b .pre .1) (c .before .before .before .class-at .result) (c .count-at .result) (c .before .before .before .before .if1 .left) (c .before .before .before .class-at .ensures)
+    (c .before .if2 .left ∙ c .before .before .long .ensures) (c .count-at .ensures))
+
+pub is-itself-spec : {M : Type 1} → statement M
+is-itself-spec =
+    tie.close
+    (tie.spec returns class-at-requires long-requires returns-2 count-at-requires returns-3)

@@ -1,0 +1,56 @@
+use borrow.Author.Tests.{lt-ltb, le-ltb, le-leb, lt-leb, eq-eqb, ne-eqb}
+use Prim.Native.Nat.{ℕ, zero, suc, _≤_, _<_, _-_, _+_, _*_, _^_}
+use native.Mathlib.Omega.{arith}
+use native.Mathlib.Numerals.{add-one}
+use mathlib.Core.Path.{_≡_, refl, ap, sym, _∙_}
+use mathlib.Core.Logic.{⊎-elim}
+use mathlib.Core.List.{List, [], _∷_, _++_, append-nil}
+use lib.ListN.{length, take, drop, getD, set, length-set, length-take, length-drop, length-append, drop-of-length-le}
+use borrow.Author.Needs.{needs}
+use Rattle.ac_repr.proofs.of_place.Statement.{statement}
+use Rattle.ac_repr.proofs.of_place.Tie as tie
+use Rattle.ac_repr.proofs.of_place.Reads as reads
+use Rattle.ac_repr.proofs.of_place.Lts as lts
+use Rattle.ac_repr.proofs.itself.Reads as itself-reads
+use Rattle.ac_repr.proofs.of_member.Reads as of-member-reads
+use Rattle.image.proofs.members_of.Reads as members-of-reads
+
+-- src/lib.rt:137:9
+members-of-requires : tie.Need-members-of-requires
+members-of-requires c κs = search needs
+
+-- src/lib.rt:139:9
+of-member-requires : tie.Need-of-member-requires
+of-member-requires c κs = search needs
+
+-- src/lib.rt:139:9
+same-length : tie.Need-same-length
+same-length c = search needs
+
+-- src/lib.rt:139:9
+returns : tie.Need-returns
+returns c = ?
+
+-- src/lib.rt:141:5
+itself-requires : tie.Need-itself-requires
+itself-requires c κs = search needs
+
+-- src/lib.rt:133:1
+same-length-2 : tie.Need-same-length-2
+same-length-2 c = search needs
+
+-- src/lib.rt:133:1
+returns-2 : tie.Need-returns-2
+returns-2 c = ?
+
+pub of-place-spec : {M : Type 1} → statement M
+of-place-spec =
+    tie.close
+    (tie.spec
+    members-of-requires
+    of-member-requires
+    same-length
+    returns
+    itself-requires
+    same-length-2
+    returns-2)

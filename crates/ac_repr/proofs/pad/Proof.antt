@@ -1,0 +1,97 @@
+use borrow.Author.Tests.{lt-ltb, le-ltb, le-leb, lt-leb, eq-eqb, ne-eqb}
+use Prim.Native.Nat.{ℕ, zero, suc, _≤_, _<_, _-_, _+_, _*_, _^_}
+use native.Mathlib.Omega.{arith}
+use native.Mathlib.Numerals.{add-one}
+use mathlib.Core.Path.{_≡_, refl, ap, sym, _∙_}
+use mathlib.Core.Logic.{⊎-elim}
+use mathlib.Core.List.{List, [], _∷_, _++_, append-nil}
+use lib.ListN.{length, take, drop, getD, set, length-set, length-take, length-drop, length-append, drop-of-length-le}
+use borrow.Author.Needs.{needs}
+use Rattle.ac_repr.proofs.pad.Statement.{statement}
+use Rattle.ac_repr.proofs.pad.Tie as tie
+use Rattle.ac_repr.proofs.pad.Reads as reads
+use Rattle.ac_repr.proofs.pad.Lts as lts
+use Rattle.ac_repr.proofs.both_narrow.Reads as both-narrow-reads
+use Rattle.ac_repr.proofs.level.Reads as level-reads
+use Rattle.ac_repr.proofs.total.Reads as total-reads
+use Rattle.ac_repr.proofs.unmatched.Reads as unmatched-reads
+
+-- src/lib.rt:240:9
+total-requires : tie.Need-total-requires
+total-requires c κs = search needs
+
+-- src/lib.rt:241:9
+total-requires-2 : tie.Need-total-requires-2
+total-requires-2 c κs = search needs
+
+-- src/lib.rt:242:8
+unmatched-requires : tie.Need-unmatched-requires
+unmatched-requires c κs = search needs
+
+-- src/lib.rt:243:9
+same-length : tie.Need-same-length
+same-length c = search needs
+
+-- src/lib.rt:243:9
+same-length-2 : tie.Need-same-length-2
+same-length-2 c = search needs
+
+-- src/lib.rt:243:9
+returns : tie.Need-returns
+returns c = ?
+
+-- src/lib.rt:245:9
+level-requires : tie.Need-level-requires
+level-requires c κs = search needs
+
+-- src/lib.rt:246:9
+level-requires-2 : tie.Need-level-requires-2
+level-requires-2 c κs = search needs
+
+-- src/lib.rt:247:8
+both-narrow-requires : tie.Need-both-narrow-requires
+both-narrow-requires c κs = search needs
+
+-- src/lib.rt:248:9
+same-length-3 : tie.Need-same-length-3
+same-length-3 c = search needs
+
+-- src/lib.rt:248:9
+same-length-4 : tie.Need-same-length-4
+same-length-4 c = search needs
+
+-- src/lib.rt:248:9
+returns-2 : tie.Need-returns-2
+returns-2 c = ?
+
+-- src/lib.rt:236:1
+same-length-5 : tie.Need-same-length-5
+same-length-5 c = search needs
+
+-- src/lib.rt:236:1
+same-length-6 : tie.Need-same-length-6
+same-length-6 c = search needs
+
+-- src/lib.rt:236:1
+returns-3 : tie.Need-returns-3
+returns-3 c = ?
+
+pub pad-spec : {M : Type 1} → statement M
+pad-spec =
+    tie.close
+    (tie.spec
+    total-requires
+    total-requires-2
+    unmatched-requires
+    same-length
+    same-length-2
+    returns
+    level-requires
+    level-requires-2
+    both-narrow-requires
+    same-length-3
+    same-length-4
+    returns-2
+    same-length-5
+    same-length-6
+    returns-3)

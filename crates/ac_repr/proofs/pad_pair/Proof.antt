@@ -1,0 +1,60 @@
+use borrow.Author.Tests.{lt-ltb, le-ltb, le-leb, lt-leb, eq-eqb, ne-eqb}
+use Prim.Native.Nat.{ℕ, zero, suc, _≤_, _<_, _-_, _+_, _*_, _^_}
+use native.Mathlib.Omega.{arith}
+use native.Mathlib.Numerals.{add-one}
+use mathlib.Core.Path.{_≡_, refl, ap, sym, _∙_}
+use mathlib.Core.Logic.{⊎-elim}
+use mathlib.Core.List.{List, [], _∷_, _++_, append-nil}
+use lib.ListN.{length, take, drop, getD, set, length-set, length-take, length-drop, length-append, drop-of-length-le}
+use borrow.Author.Needs.{needs}
+use Rattle.ac_repr.proofs.pad_pair.Statement.{statement}
+use Rattle.ac_repr.proofs.pad_pair.Tie as tie
+use Rattle.ac_repr.proofs.pad_pair.Reads as reads
+use Rattle.ac_repr.proofs.pad_pair.Lts as lts
+use Rattle.ac_repr.proofs.both_itself.Reads as both-itself-reads
+use Rattle.ac_repr.proofs.pad.Reads as pad-reads
+
+-- src/lib.rt:258:8
+both-itself-requires : tie.Need-both-itself-requires
+both-itself-requires c κs = search needs
+
+-- src/lib.rt:259:9
+same-length : tie.Need-same-length
+same-length c = search needs
+
+-- src/lib.rt:259:9
+same-length-2 : tie.Need-same-length-2
+same-length-2 c = search needs
+
+-- src/lib.rt:259:9
+returns : tie.Need-returns
+returns c = ?
+
+-- src/lib.rt:261:5
+pad-requires : tie.Need-pad-requires
+pad-requires c κs = search needs
+
+-- src/lib.rt:254:1
+same-length-3 : tie.Need-same-length-3
+same-length-3 c = search needs
+
+-- src/lib.rt:254:1
+same-length-4 : tie.Need-same-length-4
+same-length-4 c = search needs
+
+-- src/lib.rt:254:1
+returns-2 : tie.Need-returns-2
+returns-2 c = ?
+
+pub pad-pair-spec : {M : Type 1} → statement M
+pad-pair-spec =
+    tie.close
+    (tie.spec
+    both-itself-requires
+    same-length
+    same-length-2
+    returns
+    pad-requires
+    same-length-3
+    same-length-4
+    returns-2)
