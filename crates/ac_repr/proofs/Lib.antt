@@ -2,5 +2,4 @@ pub mod Buffer
 pub mod Insert
 pub mod Scans
 pub mod Children
-
 pub mod Padding

@@ -251,7 +251,15 @@ fn pad(id: usize, left: &mut [u64], n: usize, right: &mut [u64], m: usize) -> Pa
 }
 
 // "except both classes as themselves once"
-pub fn pad_pair(id: usize, l: usize, r: usize, left: &mut [u64], n: usize, right: &mut [u64], m: usize) -> Padded
+pub fn pad_pair(
+    id: usize,
+    l: usize,
+    r: usize,
+    left: &mut [u64],
+    n: usize,
+    right: &mut [u64],
+    m: usize,
+) -> Padded
     requires { ⌜ Paddable n m (now left) (now right) ⌝ }
     ensures { λ x. ⌜ Pads (answerOf l r id (held n (now (left .entry))) (held m (now (right .entry)))) id (held n (now (left .entry))) (held m (now (right .entry))) (now (left .entry)) (now (right .entry)) (now (left .exit)) (now (right .exit)) x ⌝ }
 {

@@ -45,8 +45,7 @@ returns : tie.Need-returns
 returns c =
     let a = c .before .before in
     let t = a .before .before in
-    let g = t .before .before in
-    (
+    let g = t .before .before in (
       rw (← g .child-class .ensures .0, ← t .before .long .ensures, ← t .child-times .ensures .0) (a .add-class .ensures),
       omega (arith, t .child-times .ensures),
     )

@@ -1,3 +1,4 @@
+use Rattle.ac_repr.proofs.Scans.{both-first, both-not}
 use borrow.Author.Tests.{lt-ltb, le-ltb, le-leb, lt-leb, eq-eqb, ne-eqb}
 use Prim.Native.Nat.{ℕ, zero, suc, _≤_, _<_, _-_, _+_, _*_, _^_}
 use native.Mathlib.Omega.{arith}
@@ -23,11 +24,11 @@ narrow-requires-2 c κs = search needs
 
 -- src/lib.rt:178:9
 returns : tie.Need-returns
-returns c = ?
+returns c = both-first _ _ _ _ (c .before .if1 .taken) (c .before .before .narrow .ensures) (c .narrow2 .ensures)
 
 -- src/lib.rt:173:1
 returns-2 : tie.Need-returns-2
-returns-2 c = ?
+returns-2 c = both-not _ _ _ (c .if1 .left) (c .before .narrow .ensures)
 
 pub both-narrow-spec : {M : Type 1} → statement M
 both-narrow-spec = tie.close (tie.spec narrow-requires narrow-requires-2 returns returns-2)

@@ -49,8 +49,7 @@ loop-less c = search needs
 loop-again : tie.Need-loop-again Inv-loop μ-loop
 loop-again c =
     let l = c .before .before .before in
-    let b = l .before .before in
-    (
+    let b = l .before .before in (
       omega arith,
       rw add-one (sym (narrow-more (b .args .mono .now) (b .args .n) (l .loop .i) (c .before .count-at .result) (b .pre .0) (b .pre .1) (omega arith) (c .before .count-at .ensures) (c .if1 .left)) ∙ l .loop .inv .1),
     )

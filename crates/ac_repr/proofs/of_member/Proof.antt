@@ -39,13 +39,12 @@ add-child-requires : tie.Need-add-child-requires Inv-loop μ-loop
 add-child-requires c κs =
     let l = c .before .before .before in
     let d = l .before in
-    let b = d .before .before .before in
-    (
+    let b = d .before .before .before in (
       b .pre .0,
       child-number (b .args .s .now) (b .args .im) (b .pre .0) (b .pre .1) (b .args .m) (d .children-of .result) (l .loop .k) (b .pre .2) (d .children-of .ensures .0) (omega arith),
       upto-room (tablesOf (b .args .s .now)) (d .children-of .result .from) (d .children-of .result .to)
-      (member-few (b .args .s .now) (b .args .im) (b .pre .0) (b .pre .1) (b .args .m) (d .children-of .result) (b .pre .2) (d .children-of .ensures .0))
-      (b .args .mono .now) (l .loop .mono) (l .loop .n) (l .loop .k) (l .loop .inv) (omega arith),
+          (member-few (b .args .s .now) (b .args .im) (b .pre .0) (b .pre .1) (b .args .m) (d .children-of .result) (b .pre .2) (d .children-of .ensures .0))
+          (b .args .mono .now) (l .loop .mono) (l .loop .n) (l .loop .k) (l .loop .inv) (omega arith),
     )
 
 -- src/lib.rt:118:9

@@ -1,3 +1,4 @@
+use Rattle.ac_repr.proofs.Padding.{pads-unmatched, pads-pair, pads-wide, few-rows, few-cols}
 use borrow.Author.Tests.{lt-ltb, le-ltb, le-leb, lt-leb, eq-eqb, ne-eqb}
 use Prim.Native.Nat.{ℕ, zero, suc, _≤_, _<_, _-_, _+_, _*_, _^_}
 use native.Mathlib.Omega.{arith}
@@ -38,7 +39,12 @@ same-length-2 c = search needs
 
 -- src/lib.rt:243:9
 returns : tie.Need-returns
-returns c = ?
+returns c =
+    let q = c .before .before in
+    let o = q .before .before in
+    let b = o .before .before .before .before in
+    pads-unmatched (b .args .id) (b .args .n) (b .args .m) (b .args .left .now) (b .args .right .now) (b .pre) (c .before .unmatched .result) (o .total .result) (q .total2 .result)
+    (o .total .ensures) (q .total2 .ensures) (c .before .unmatched .ensures) (c .if1 .taken)
 
 -- src/lib.rt:245:9
 level-requires : tie.Need-level-requires
@@ -50,7 +56,18 @@ level-requires-2 c κs = search needs
 
 -- src/lib.rt:247:8
 both-narrow-requires : tie.Need-both-narrow-requires
-both-narrow-requires c κs = search needs
+both-narrow-requires c κs =
+    let v = c .before .before .before .before in
+    let w = v .before .before .before .before in
+    let u = w .before .before .before in
+    let q = u .before in
+    let o = q .before .before in
+    let b = o .before .before .before .before in (
+      w .level .kept .0 ∙ b .pre .numbersLeft,
+      few-rows (b .args .id) (b .args .n) (b .args .m) (o .total .result) (q .total2 .result) (b .args .left .now) (b .args .right .now) (w .level .last .0) (v .level2 .last .0) (w .level .result) (v .level2 .result) (b .pre) (o .total .ensures) (q .total2 .ensures) (w .level .ensures) (v .level2 .ensures),
+      v .level2 .kept .0 ∙ b .pre .numbersRight,
+      few-cols (b .args .id) (b .args .n) (b .args .m) (o .total .result) (q .total2 .result) (b .args .left .now) (b .args .right .now) (w .level .last .0) (v .level2 .last .0) (w .level .result) (v .level2 .result) (b .pre) (o .total .ensures) (q .total2 .ensures) (w .level .ensures) (v .level2 .ensures),
+    )
 
 -- src/lib.rt:248:9
 same-length-3 : tie.Need-same-length-3
@@ -62,7 +79,15 @@ same-length-4 c = search needs
 
 -- src/lib.rt:248:9
 returns-2 : tie.Need-returns-2
-returns-2 c = ?
+returns-2 c =
+    let v = c .before .before .before .before .before .before in
+    let w = v .before .before .before .before in
+    let u = w .before .before .before in
+    let q = u .before in
+    let o = q .before .before in
+    let b = o .before .before .before .before in
+    pads-pair (b .args .id) (b .args .n) (b .args .m) (o .total .result) (q .total2 .result) (b .args .left .now) (b .args .right .now) (w .level .last .0) (v .level2 .last .0) (w .level .result) (v .level2 .result) (b .pre) (o .total .ensures) (q .total2 .ensures) (w .level .ensures) (v .level2 .ensures)
+    (u .unmatched .result) (c .before .both-narrow .result) (u .unmatched .ensures) (w .before .before .if1 .left) (c .before .both-narrow .ensures) (c .if2 .taken)
 
 -- src/lib.rt:236:1
 same-length-5 : tie.Need-same-length-5
@@ -74,7 +99,15 @@ same-length-6 c = search needs
 
 -- src/lib.rt:236:1
 returns-3 : tie.Need-returns-3
-returns-3 c = ?
+returns-3 c =
+    let v = c .before .before .before .before .before .before in
+    let w = v .before .before .before .before in
+    let u = w .before .before .before in
+    let q = u .before in
+    let o = q .before .before in
+    let b = o .before .before .before .before in
+    pads-wide (b .args .id) (b .args .n) (b .args .m) (o .total .result) (q .total2 .result) (b .args .left .now) (b .args .right .now) (w .level .last .0) (v .level2 .last .0) (w .level .result) (v .level2 .result) (b .pre) (o .total .ensures) (q .total2 .ensures) (w .level .ensures) (v .level2 .ensures)
+    (u .unmatched .result) (c .before .both-narrow .result) (u .unmatched .ensures) (w .before .before .if1 .left) (c .before .both-narrow .ensures) (c .if2 .left)
 
 pub pad-spec : {M : Type 1} → statement M
 pad-spec =
