@@ -127,7 +127,7 @@ module _ (t : Tables) (first to : ℕ) (f : Fewest t first to) where
       }
 
 -- the children of a member, as a part of the table
-pub children-slice : (l : List Two) (first count : ℕ) → first + count ≤ length l → slice first (first + count) l ≡ take count (drop first l)
+pub children-slice : {A : Type 0} (l : List A) (first count : ℕ) → first + count ≤ length l → slice first (first + count) l ≡ take count (drop first l)
 children-slice l first count h = rw take-add (drop-at (take first l) (take count (drop first l)) first (length-take-le first l (omega arith)))
 
 -- ---- the span that the image gives

@@ -3,3 +3,4 @@ pub mod Insert
 pub mod Scans
 pub mod Children
 pub mod Padding
+pub mod Places

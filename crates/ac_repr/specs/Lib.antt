@@ -1,2 +1,4 @@
 pub mod Terms
 pub mod Pad
+pub mod Walk
+pub mod WalkLaws

@@ -14,6 +14,8 @@ ghost use Rattle.ac_repr.specs.Terms.{terms, held, position, Holds, Room
 ghost use Rattle.ac_repr.specs.Pad.{TOTAL, Made, monomialAt, unmatched, bothNarrow, paddedOf, answerOf, Pads, Paddable};
 use image::Image;
 
+pub mod pairs;
+
 // ---- a term: its class and its count
 pub fn class_at(mono: &[u64], i: usize) -> u64
     requires { ⌜ (length (now mono) ≡ 130) × (i < 65) ⌝ }

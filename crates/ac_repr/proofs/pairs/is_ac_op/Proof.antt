@@ -1,0 +1,56 @@
+use borrow.Author.Tests.{lt-ltb, le-ltb, le-leb, lt-leb, eq-eqb, ne-eqb}
+use Prim.Native.Nat.{ℕ, zero, suc, _≤_, _<_, _-_, _+_, _*_, _^_}
+use native.Mathlib.Omega.{arith}
+use native.Mathlib.Numerals.{add-one}
+use mathlib.Core.Path.{_≡_, refl, ap, sym, _∙_}
+use mathlib.Core.Logic.{⊎-elim}
+use mathlib.Core.List.{List, [], _∷_, _++_, append-nil}
+use lib.ListN.{length, take, drop, getD, set, length-set, length-take, length-drop, length-append, drop-of-length-le}
+use borrow.Author.Needs.{needs}
+use Rattle.ac_repr.proofs.pairs.is_ac_op.Statement.{statement}
+use Rattle.ac_repr.proofs.pairs.is_ac_op.Tie as tie
+use Rattle.ac_repr.proofs.pairs.is_ac_op.Reads as reads
+use Rattle.ac_repr.proofs.pairs.is_ac_op.Lts as lts
+use Rattle.ac_repr.proofs.pairs.has_op.Reads as has-op-reads
+use Rattle.id.proofs.is_ac.Reads as is-ac-reads
+use Rattle.image.proofs.kind.Reads as kind-reads
+
+-- src/pairs.rt:79:19
+kind-requires : tie.Need-kind-requires
+kind-requires c κs = search needs
+
+-- src/pairs.rt:79:9
+is-ac-requires : tie.Need-is-ac-requires
+is-ac-requires c κs = search needs
+
+-- src/pairs.rt:80:9
+returns : tie.Need-returns
+returns c = ?
+
+-- src/pairs.rt:82:8
+has-op-requires : tie.Need-has-op-requires
+has-op-requires c κs = search needs
+
+-- src/pairs.rt:83:9
+returns-2 : tie.Need-returns-2
+returns-2 c = ?
+
+-- src/pairs.rt:85:5
+has-op-requires-2 : tie.Need-has-op-requires-2
+has-op-requires-2 c κs = search needs
+
+-- src/pairs.rt:75:1
+returns-3 : tie.Need-returns-3
+returns-3 c = ?
+
+pub is-ac-op-spec : {M : Type 1} → statement M
+is-ac-op-spec =
+    tie.close
+    (tie.spec
+    kind-requires
+    is-ac-requires
+    returns
+    has-op-requires
+    returns-2
+    has-op-requires-2
+    returns-3)

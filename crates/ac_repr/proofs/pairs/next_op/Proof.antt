@@ -1,0 +1,62 @@
+use borrow.Author.Needs.{needs}
+use borrow.Author.Tests.{lt-ltb, le-ltb, le-leb, lt-leb, eq-eqb, ne-eqb}
+use Prim.Native.Nat.{ℕ, zero, suc, _≤_, _<_, _-_, _+_, _*_, _^_}
+use native.Mathlib.Omega.{arith}
+use native.Mathlib.Numerals.{add-one}
+use mathlib.Core.Path.{_≡_, refl, ap, sym, _∙_}
+use mathlib.Core.Logic.{⊎-elim}
+use mathlib.Core.List.{List, [], _∷_, _++_, append-nil}
+use lib.ListN.{length, take, drop, getD, set, length-set, length-take, length-drop, length-append, drop-of-length-le}
+use Rattle.ac_repr.proofs.pairs.next_op.Statement.{statement}
+use Rattle.ac_repr.proofs.pairs.next_op.Tie as tie
+use Rattle.ac_repr.proofs.pairs.next_op.Reads as reads
+use Rattle.ac_repr.proofs.pairs.next_op.Lts as lts
+use Rattle.ac_repr.proofs.pairs.is_ac_op.Reads as is-ac-op-reads
+
+abbrev Inv-loop : tie.InvT-loop
+Inv-loop s im l r o i₀ i = ?
+
+abbrev μ-loop : tie.MeasureT-loop
+μ-loop s im l r o i₀ i = ?
+
+-- src/pairs.rt:94:5
+loop-holds : tie.Need-loop-holds Inv-loop μ-loop
+loop-holds c = search needs
+
+-- src/pairs.rt:95:12
+is-ac-op-requires : tie.Need-is-ac-op-requires Inv-loop μ-loop
+is-ac-op-requires c κs = search needs
+
+-- src/pairs.rt:96:13
+returns : tie.Need-returns Inv-loop μ-loop
+returns c = ?
+
+-- src/pairs.rt:98:9
+add-i : tie.Need-add-i Inv-loop μ-loop
+add-i c = search needs
+
+-- src/pairs.rt:94:5
+loop-less : tie.Need-loop-less Inv-loop μ-loop
+loop-less c = search needs
+
+-- src/pairs.rt:94:5
+loop-again : tie.Need-loop-again Inv-loop μ-loop
+loop-again c = ?
+
+-- src/pairs.rt:89:1
+returns-2 : tie.Need-returns-2 Inv-loop μ-loop
+returns-2 c = ?
+
+pub next-op-spec : {M : Type 1} → statement M
+next-op-spec =
+    tie.close
+    (tie.spec
+    Inv-loop
+    μ-loop
+    loop-holds
+    is-ac-op-requires
+    returns
+    add-i
+    loop-less
+    loop-again
+    returns-2)

@@ -1,0 +1,73 @@
+use Rattle.ac_repr.specs.WalkLaws.{first-stop, first-more, first-end}
+use Rattle.ac_repr.specs.Walk.{firstFrom, hasPlace}
+use Rattle.spec.specs.Image.{tablesOf, theClass, membersOf}
+use borrow.Author.Needs.{needs}
+use borrow.Author.Tests.{lt-ltb, le-ltb, le-leb, lt-leb, eq-eqb, ne-eqb}
+use Prim.Native.Nat.{ℕ, zero, suc, _≤_, _<_, _-_, _+_, _*_, _^_}
+use native.Mathlib.Omega.{arith}
+use native.Mathlib.Numerals.{add-one}
+use mathlib.Core.Path.{_≡_, refl, ap, sym, _∙_}
+use mathlib.Core.Logic.{⊎-elim}
+use mathlib.Core.List.{List, [], _∷_, _++_, append-nil}
+use lib.ListN.{length, take, drop, getD, set, length-set, length-take, length-drop, length-append, drop-of-length-le}
+use Rattle.ac_repr.proofs.pairs.next_place.Statement.{statement}
+use Rattle.ac_repr.proofs.pairs.next_place.Tie as tie
+use Rattle.ac_repr.proofs.pairs.next_place.Reads as reads
+use Rattle.ac_repr.proofs.pairs.next_place.Lts as lts
+use Rattle.ac_repr.proofs.pairs.has_place.Reads as has-place-reads
+
+abbrev Inv-loop : tie.InvT-loop
+Inv-loop s im end op x i₀ i = firstFrom (hasPlace (tablesOf s) end op) i (suc end) ≡ firstFrom (hasPlace (tablesOf s) end op) x (suc end)
+
+abbrev μ-loop : tie.MeasureT-loop
+μ-loop s im end op x i₀ i = suc end - i
+
+-- src/pairs.rt:50:5
+loop-holds : tie.Need-loop-holds Inv-loop μ-loop
+loop-holds c = refl
+
+-- src/pairs.rt:51:12
+has-place-requires : tie.Need-has-place-requires Inv-loop μ-loop
+has-place-requires c κs = search needs
+
+-- src/pairs.rt:52:13
+returns : tie.Need-returns Inv-loop μ-loop
+returns c =
+    let l = c .before .before .before in
+    let b = l .before .before in
+    sym (first-stop (hasPlace (tablesOf (b .args .s .now)) (b .args .end) (b .args .op)) (l .loop .i) (suc (b .args .end)) (omega arith) (sym (c .before .has-place .ensures) ∙ c .if1 .taken)) ∙ l .loop .inv
+
+-- src/pairs.rt:54:9
+add-i : tie.Need-add-i Inv-loop μ-loop
+add-i c = search needs
+
+-- src/pairs.rt:50:5
+loop-less : tie.Need-loop-less Inv-loop μ-loop
+loop-less c = search needs
+
+-- src/pairs.rt:50:5
+loop-again : tie.Need-loop-again Inv-loop μ-loop
+loop-again c =
+    let l = c .before .before .before in
+    let b = l .before .before in
+    rw add-one (sym (first-more (hasPlace (tablesOf (b .args .s .now)) (b .args .end) (b .args .op)) (l .loop .i) (suc (b .args .end)) (omega arith) (sym (c .before .has-place .ensures) ∙ c .if1 .left)) ∙ l .loop .inv)
+
+-- src/pairs.rt:45:1
+returns-2 : tie.Need-returns-2 Inv-loop μ-loop
+returns-2 c =
+    let b = c .before .before .before in
+    sym (first-end (hasPlace (tablesOf (b .args .s .now)) (b .args .end) (b .args .op)) (c .before .loop .i) (suc (b .args .end)) (omega arith)) ∙ c .before .loop .inv
+
+pub next-place-spec : {M : Type 1} → statement M
+next-place-spec =
+    tie.close
+    (tie.spec
+    Inv-loop
+    μ-loop
+    loop-holds
+    has-place-requires
+    returns
+    add-i
+    loop-less
+    loop-again
+    returns-2)
