@@ -4,3 +4,4 @@ pub mod Scans
 pub mod Children
 pub mod Padding
 pub mod Places
+pub mod Steps

@@ -89,18 +89,29 @@ abbrev pub leftOf : (Walk → List Walk) → Step → List Walk
 leftOf later (At w) = w ∷ later (afterOf w)
 leftOf later End = []
 
--- the step's pair stands under operation o within both classes
+-- the step's pair stands within the tables
 abbrev pub Within : Tables → ℕ → ℕ → Step → Type 0
 Within t l r (At w) = (w .op < length (t .operations)) × (w .a ≤ endOf t l) × (w .b ≤ endOf t r)
 Within t l r End = Unit
 
-abbrev pub SameOp : ℕ → Step → Type 0
-SameOp o (At w) = w .op ≡ o
-SameOp o End = Unit
+-- beside left place a of operation o
+abbrev pub Beside : Tables → ℕ → ℕ → ℕ → Step → Type 0
+Beside t r o a (At w) = (w .op ≡ o) × (w .a ≡ a) × (w .b ≤ endOf t r)
+Beside t r o a End = Unit
 
-abbrev pub SameLeft : ℕ → Step → Type 0
-SameLeft a (At w) = w .a ≡ a
-SameLeft a End = Unit
+-- under operation o
+abbrev pub Under : Tables → ℕ → ℕ → ℕ → Step → Type 0
+Under t l r o (At w) = (w .op ≡ o) × (w .a ≤ endOf t l) × (w .b ≤ endOf t r)
+Under t l r o End = Unit
+
+-- A step beside one left place, and one under one operation.
+pub record InRow (t : Tables) (r o a b : ℕ) (x : Step) : Type 0 where
+  pub left : row t (endOf t r) o a b ≡ leftOf (λ w. row t (endOf t r) o a (w .b)) x
+  pub beside : Beside t r o a x
+
+pub record InOp (t : Tables) (l r o : ℕ) (list : List Walk) (x : Step) : Type 0 where
+  pub left : list ≡ leftOf (under t l r) x
+  pub placed : Under t l r o x
 
 -- A step through the pairs of `list`: the answer is the first one, and `later` gives those after it.
 pub record Stepped (t : Tables) (l r : ℕ) (later : Walk → List Walk) (list : List Walk) (x : Step) : Type 0 where

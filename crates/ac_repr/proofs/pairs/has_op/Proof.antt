@@ -63,8 +63,7 @@ loop-again : tie.Need-loop-again Inv-loop μ-loop
 loop-again c =
     let l = c .before .before .before .before in
     let d = l .before in
-    let b = d .before .before in
-    (
+    let b = d .before .before in (
       omega (arith, c .before .before .if1 .taken),
       rw add-one (sym (any-more (tablesOf (b .args .s .now)) (b .args .op) (l .loop .i) (d .members-of .result .to) (c .before .member-op .result) (c .before .before .if1 .taken) (span-within (b .args .s .now) (b .args .im) (b .args .c) (d .members-of .result) (b .pre .0) (b .pre .1) (b .pre .2) (d .members-of .ensures .0)) (c .before .member-op .ensures .0) (c .if2 .left)) ∙ l .loop .inv .1),
     )

@@ -1,3 +1,6 @@
+use Rattle.ac_repr.specs.WalkLaws.{first-stop, first-more, first-end}
+use Rattle.ac_repr.specs.Walk.{firstFrom, acOp}
+use Rattle.spec.specs.Image.{tablesOf, theClass, membersOf}
 use borrow.Author.Needs.{needs}
 use borrow.Author.Tests.{lt-ltb, le-ltb, le-leb, lt-leb, eq-eqb, ne-eqb}
 use Prim.Native.Nat.{ℕ, zero, suc, _≤_, _<_, _-_, _+_, _*_, _^_}
@@ -14,14 +17,14 @@ use Rattle.ac_repr.proofs.pairs.next_op.Lts as lts
 use Rattle.ac_repr.proofs.pairs.is_ac_op.Reads as is-ac-op-reads
 
 abbrev Inv-loop : tie.InvT-loop
-Inv-loop s im l r o i₀ i = ?
+Inv-loop s im l r o i₀ i = firstFrom (acOp (tablesOf s) l r) i (im .operations) ≡ firstFrom (acOp (tablesOf s) l r) o (im .operations)
 
 abbrev μ-loop : tie.MeasureT-loop
-μ-loop s im l r o i₀ i = ?
+μ-loop s im l r o i₀ i = im .operations - i
 
 -- src/pairs.rt:94:5
 loop-holds : tie.Need-loop-holds Inv-loop μ-loop
-loop-holds c = search needs
+loop-holds c = refl
 
 -- src/pairs.rt:95:12
 is-ac-op-requires : tie.Need-is-ac-op-requires Inv-loop μ-loop
@@ -29,7 +32,10 @@ is-ac-op-requires c κs = search needs
 
 -- src/pairs.rt:96:13
 returns : tie.Need-returns Inv-loop μ-loop
-returns c = ?
+returns c =
+    let l = c .before .before .before .before in
+    let b = l .before .before in
+    sym (first-stop (acOp (tablesOf (b .args .s .now)) (b .args .l) (b .args .r)) (l .loop .i) (b .args .im .operations) (c .before .before .if1 .taken) (sym (c .before .is-ac-op .ensures) ∙ c .if2 .taken)) ∙ l .loop .inv
 
 -- src/pairs.rt:98:9
 add-i : tie.Need-add-i Inv-loop μ-loop
@@ -41,11 +47,17 @@ loop-less c = search needs
 
 -- src/pairs.rt:94:5
 loop-again : tie.Need-loop-again Inv-loop μ-loop
-loop-again c = ?
+loop-again c =
+    let l = c .before .before .before .before in
+    let b = l .before .before in
+    rw add-one (sym (first-more (acOp (tablesOf (b .args .s .now)) (b .args .l) (b .args .r)) (l .loop .i) (b .args .im .operations) (c .before .before .if1 .taken) (sym (c .before .is-ac-op .ensures) ∙ c .if2 .left)) ∙ l .loop .inv)
 
 -- src/pairs.rt:89:1
 returns-2 : tie.Need-returns-2 Inv-loop μ-loop
-returns-2 c = ?
+returns-2 c =
+    let l = c .before .before in
+    let b = l .before .before in
+    sym (first-end (acOp (tablesOf (b .args .s .now)) (b .args .l) (b .args .r)) (l .loop .i) (b .args .im .operations) (c .if1 .left)) ∙ l .loop .inv
 
 pub next-op-spec : {M : Type 1} → statement M
 next-op-spec =
