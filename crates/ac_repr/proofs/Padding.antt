@@ -11,11 +11,11 @@ use Rattle.spec.specs.Bytes.{Two, pick, both, all, sum, sameTwo, sameTwos}
 use Rattle.spec.specs.Image.{NO-IDENTITY}
 use Rattle.spec.specs.Monomial.{Monomial, insertAdd, total, itself, bothItself, narrow}
 use Rattle.ac_repr.specs.Terms.{terms, held, front, Holds, Roomy}
-use Rattle.ac_repr.specs.Pad.{TOTAL, levelled, unmatched, bothNarrow, paddedOf, answerOf, Pads, Paddable}
+use Rattle.ac_repr.specs.Pad.{TOTAL, Made, levelled, unmatched, bothNarrow, paddedOf, answerOf, Pads, Paddable}
 use Rattle.ac_repr.specs.declared.Padded.{Padded}
 use Rattle.ac_repr.specs.declared.Padded.the-variants.{Pair, Nothing}
 use Rattle.ac_repr.proofs.Insert.{held-length}
-use Rattle.ac_repr.proofs.Children.{held-same, held-is, grow}
+use Rattle.ac_repr.proofs.Children.{held-same, held-is, front-front, grow}
 
 -- ---- level: the smaller one gets what it lacks
 abbrev pub Level : Monomial → ℕ → ℕ → ℕ → Monomial
@@ -177,3 +177,24 @@ module _ (id l r n m : ℕ) (s u : List ℕ) (p : Paddable n m s u) where
   pads-other x s′ u′ y h i d =
       let q : bothItself l r (held n s) (held m u) ≡ false = sym h ∙ i in
       record { answer = rw q (d .answer); rows = d .rows; cols = d .cols }
+
+-- ---- padding after both monomials have been written
+pub paddable : (A B : Monomial) (s u s₁ u₁ : List ℕ) (n m : ℕ) → length s₁ ≡ 130 → length u₁ ≡ 130 → Made A s s₁ n → Made B u u₁ m → Paddable n m s₁ u₁
+paddable A B s u s₁ u₁ n m l k a b = record {
+  numbersLeft = l;
+  numbersRight = k;
+  fewLeft = a .few;
+  fewRight = b .few;
+  smallLeft = rw (held-is A s s₁ n (a .holds)) (a .small);
+  smallRight = rw (held-is B u u₁ m (b .holds)) (b .small);
+}
+
+pub pads-made : (l r id e : ℕ) (A B : Monomial) (s u s₁ u₁ s′ u′ : List ℕ) (n m : ℕ) (x : Padded) → id ≡ e → Made A s s₁ n → Made B u u₁ m
+    → Pads (answerOf l r id (held n s₁) (held m u₁)) id (held n s₁) (held m u₁) s₁ u₁ s′ u′ x → Pads (answerOf l r e A B) e A B s u s′ u′ x
+pads-made l r id e A B s u s₁ u₁ s′ u′ n m x q a b d =
+    let c : Pads (answerOf l r e A B) e A B s₁ u₁ s′ u′ x = rw (held-is A s s₁ n (a .holds), held-is B u u₁ m (b .holds), q) at d in
+    record {
+      answer = c .answer;
+      rows = c .rows ∙ ap (λ (z : List Two). front (levelled e A B) z) (a .holds .whole) ∙ front-front A (levelled e A B) (terms s) (levelled-long e A B);
+      cols = c .cols ∙ ap (λ (z : List Two). front (levelled e B A) z) (b .holds .whole) ∙ front-front B (levelled e B A) (terms u) (levelled-long e B A);
+    }

@@ -82,6 +82,10 @@ module _ (s : List ℕ) (im : Image) (c : ℕ) (p : Span) (l : Loaded s im) (v :
   pub span-any : (o : ℕ) → any (ofOp o) (slice (p .from) (p .to) (tablesOf s .members)) ≡ any (ofOp o) (membersOf (tablesOf s) c)
   span-any o = rw (e, children-slice (tablesOf s .members) (theClass (tablesOf s) c .first) (theClass (tablesOf s) c .count) inside) refl
 
+-- places are small numbers
+pub end-small : (s : List ℕ) (im : Image) (c : ℕ) → Loaded s im → Valid (tablesOf s) → c < im .classes → endOf (tablesOf s) c ≤ 1024
+end-small s im c l v h = omega (arith, membersWithin (tablesOf s) v c (rw (classes-many s im l) h), v .counts .fewMembers)
+
 -- ---- operations
 module _ (t : Tables) (l r o k : ℕ) (a : Bool) (e : k ≡ kindOf t o) (f : a ≡ isAC k) where
   pub op-other : a ≡ false → false ≡ acOp t l r o
