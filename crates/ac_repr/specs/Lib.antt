@@ -2,3 +2,4 @@ pub mod Terms
 pub mod Pad
 pub mod Walk
 pub mod WalkLaws
+pub mod Transports

@@ -6,7 +6,7 @@ use mathlib.Core.List.{List, [], _∷_, _++_, map}
 use Prim.Native.Nat.{ℕ, zero, suc, _+_, _-_, _≤_, _<_}
 use lib.Dec.{ltb, eqb}
 use lib.ListN.{length}
-use Rattle.spec.specs.Bytes.{pick, both, any, filter, each, upFrom, place}
+use Rattle.spec.specs.Bytes.{pick, both, any, filter, each, upFrom, place, sameTwos}
 use Rattle.spec.specs.Image.{Tables, NO-IDENTITY, isAC, kindOf, identityOf, theClass, theMember, membersOf}
 use Rattle.spec.specs.Monomial.{Monomial, MonomialPair, bothItself, padPair, narrowPairs}
 use Rattle.spec.specs.Action.{TransportAction}
@@ -119,12 +119,13 @@ pub record Stepped (t : Tables) (l r : ℕ) (later : Walk → List Walk) (list :
   pub left : list ≡ leftOf later x
   pub within : Within t l r x
 
--- ---- "acts by transport over each monomial pair, except both classes as themselves once": the action at a pair of places, if there is one
+-- ---- "acts by transport over each monomial pair, except both classes as themselves once": the action over two monomials, if there is one
+unfoldable pub actionOver : Tables → ℕ → ℕ → ℕ → Monomial → Monomial → List TransportAction
+unfolding padPair narrowPairs sameTwos
+actionOver t l r o a b =
+    map (λ m. record { op = o; sides = m }) (narrowPairs (elim (bothItself l r a b) [ true ↦ [] | false ↦ padPair (identityOf t o) a b ]))
+
+-- the action at a pair of places, if there is one
 unfoldable pub actionsAt : Tables → ℕ → ℕ → Walk → List TransportAction
-unfolding monomialAt padPair narrowPairs
-actionsAt t l r w =
-    map (λ m. record { op = w .op; sides = m })
-    (narrowPairs (elim (bothItself l r (monomialAt t l (w .a)) (monomialAt t r (w .b))) [
-      | true ↦ []
-      | false ↦ padPair (identityOf t (w .op)) (monomialAt t l (w .a)) (monomialAt t r (w .b))
-    ]))
+unfolding monomialAt actionOver
+actionsAt t l r w = actionOver t l r (w .op) (monomialAt t l (w .a)) (monomialAt t r (w .b))
