@@ -91,7 +91,7 @@ module _ (id n m a b : ℕ) (s u s′ u′ : List ℕ) (k l : ℕ) (p : Paddable
   pads-pair x y h i j w =
       let q : unmatched id (total (held n s)) (total (held m u)) ≡ false = rw (← e, ← f) (sym h ∙ i) in
       let r : bothNarrow (levelled id (held n s) (held m u)) (levelled id (held m u) (held n s)) ≡ true = sym (narrow-are y j) ∙ w in
-      record { answer = rw (q, r, rows .len, cols .len) refl; rows = rows .whole; cols = cols .whole }
+      record { answer = rw (q, r, rows .len, cols .len) refl; rows = rows .whole; cols = cols .whole; few = (few-rows, few-cols) }
 
   pub pads-wide : (x y : Bool) → x ≡ unmatched id a b → x ≡ false → y ≡ bothNarrow (held k s′) (held l u′) → y ≡ false
       → Pads (paddedOf id (held n s) (held m u)) id (held n s) (held m u) s u s′ u′ Nothing
@@ -99,7 +99,7 @@ module _ (id n m a b : ℕ) (s u s′ u′ : List ℕ) (k l : ℕ) (p : Paddable
   pads-wide x y h i j w =
       let q : unmatched id (total (held n s)) (total (held m u)) ≡ false = rw (← e, ← f) (sym h ∙ i) in
       let r : bothNarrow (levelled id (held n s) (held m u)) (levelled id (held m u) (held n s)) ≡ false = sym (narrow-are y j) ∙ w in
-      record { answer = rw (q, r) refl; rows = rows .whole; cols = cols .whole }
+      record { answer = rw (q, r) refl; rows = rows .whole; cols = cols .whole; few = tt }
 
 -- no padding: nothing is written
 levelled-no : (id : ℕ) (A B : Monomial) → id ≡ NO-IDENTITY → levelled id A B ≡ A
@@ -128,6 +128,7 @@ module _ (id n m : ℕ) (s u : List ℕ) (p : Paddable n m s u) where
         answer = rw q refl;
         rows = same (levelled id (held n s) (held m u)) n s (levelled-no id (held n s) (held m u) z) (p .numbersLeft) (p .fewLeft);
         cols = same (levelled id (held m u) (held n s)) m u (levelled-no id (held m u) (held n s) z) (p .numbersRight) (p .fewRight);
+        few = tt;
       }
     where
       none : (t : Bool) → pick t false (eqb id NO-IDENTITY) ≡ true → id ≡ NO-IDENTITY
@@ -164,6 +165,7 @@ module _ (id l r n m : ℕ) (s u : List ℕ) (p : Paddable n m s u) where
         answer = rw q refl;
         rows = same id n m s u p (levelled id (held n s) (held m u)) n s (levelled-even id (held n s) (held m u) (a ∙ sym b)) (p .numbersLeft) (p .fewLeft);
         cols = same id n m s u p (levelled id (held m u) (held n s)) m u (levelled-even id (held m u) (held n s) (b ∙ sym a)) (p .numbersRight) (p .fewRight);
+        few = tt;
       }
     where
       parts : (a b : Bool) → both a b ≡ true → (a ≡ true) × (b ≡ true)
@@ -176,7 +178,7 @@ module _ (id l r n m : ℕ) (s u : List ℕ) (p : Paddable n m s u) where
   unfolding answerOf
   pads-other x s′ u′ y h i d =
       let q : bothItself l r (held n s) (held m u) ≡ false = sym h ∙ i in
-      record { answer = rw q (d .answer); rows = d .rows; cols = d .cols }
+      record { answer = rw q (d .answer); rows = d .rows; cols = d .cols; few = d .few }
 
 -- ---- padding after both monomials have been written
 pub paddable : (A B : Monomial) (s u s₁ u₁ : List ℕ) (n m : ℕ) → length s₁ ≡ 130 → length u₁ ≡ 130 → Made A s s₁ n → Made B u u₁ m → Paddable n m s₁ u₁
@@ -197,4 +199,5 @@ pads-made l r id e A B s u s₁ u₁ s′ u′ n m x q a b d =
       answer = c .answer;
       rows = c .rows ∙ ap (λ (z : List Two). front (levelled e A B) z) (a .holds .whole) ∙ front-front A (levelled e A B) (terms s) (levelled-long e A B);
       cols = c .cols ∙ ap (λ (z : List Two). front (levelled e B A) z) (b .holds .whole) ∙ front-front B (levelled e B A) (terms u) (levelled-long e B A);
+      few = c .few;
     }

@@ -3,3 +3,4 @@ pub mod Pad
 pub mod Walk
 pub mod WalkLaws
 pub mod Transports
+pub mod Sides

@@ -50,11 +50,17 @@ unfoldable pub answerOf : ℕ → ℕ → ℕ → Monomial → Monomial → Padd
 unfolding paddedOf
 answerOf l r identity a b = pick (bothItself l r a b) Nothing (paddedOf identity a b)
 
+-- "At most 65 rows and 65 columns."
+abbrev pub Few : Padded → Type 0
+Few (Pair n m) = (n ≤ 65) × (m ≤ 65)
+Few Nothing = Unit
+
 -- What padding a and b leaves: the answer, and both buffers whole.
 pub record Pads (want : Padded) (identity : ℕ) (a b : Monomial) (s u s′ u′ : List ℕ) (x : Padded) : Type 0 where
   pub answer : x ≡ want
   pub rows : terms s′ ≡ front (levelled identity a b) (terms s)
   pub cols : terms u′ ≡ front (levelled identity b a) (terms u)
+  pub few : Few x
 
 -- Both buffers hold monomials of classes whose totals stay within 64 bits, with room for the identity.
 pub record Paddable (n m : ℕ) (s u : List ℕ) : Type 0 where
