@@ -35,8 +35,9 @@ fn put_term(mono: &mut [u64], i: usize, c: u64, k: u64)
     requires { ⌜ (length (now mono) ≡ 130) × (i < 65) ⌝ }
     ensures { λ _. ⌜ terms (now (mono .exit)) ≡ set (terms (now (mono .entry))) i (c, k) ⌝ }
 {
-    mono[2 * i] = c;
-    mono[2 * i + 1] = k;
+    let at = 2 * i;
+    mono[at] = c;
+    mono[at + 1] = k;
 }
 
 // The first of n places whose class is not below c.
@@ -73,7 +74,7 @@ fn insert_term(mono: &mut [u64], p: usize, n: usize, c: u64, k: u64)
 }
 
 // k more of class c in the monomial of n terms: how many terms it has then.
-pub fn add_class(mono: &mut [u64], n: usize, c: u64, k: u64) -> usize
+fn add_class(mono: &mut [u64], n: usize, c: u64, k: u64) -> usize
     requires { ⌜ Roomy n k (now mono) ⌝ }
     ensures { λ r. ⌜ Holds (insertAdd c k (held n (now (mono .entry)))) (now (mono .entry)) (now (mono .exit)) r ⌝ }
 {
@@ -108,7 +109,7 @@ fn add_child(s: &[u8], im: Image, k: usize, mono: &mut [u64], n: usize) -> usize
 }
 
 // "Classes rising, counts of one class added."
-pub fn of_member(s: &[u8], im: Image, m: usize, mono: &mut [u64]) -> usize
+fn of_member(s: &[u8], im: Image, m: usize, mono: &mut [u64]) -> usize
     requires { ⌜ Loaded (now s) im × Valid (tablesOf (now s)) × (m < im .members) × (length (now mono) ≡ 130) ⌝ }
     ensures { λ r. ⌜ Made (monomial (childrenOf (tablesOf (now (s .entry))) (theMember (tablesOf (now (s .entry))) m))) (now (mono .entry)) (now (mono .exit)) r ⌝ }
 {
@@ -132,7 +133,7 @@ fn itself(mono: &mut [u64], c: usize) -> usize
 }
 
 // The monomial at place x of class c: of its member x, or of the class itself once where x is past its members.
-pub fn of_place(s: &[u8], im: Image, c: usize, x: usize, mono: &mut [u64]) -> usize
+fn of_place(s: &[u8], im: Image, c: usize, x: usize, mono: &mut [u64]) -> usize
     requires { ⌜ Loaded (now s) im × Valid (tablesOf (now s)) × (c < im .classes) × (length (now mono) ≡ 130) ⌝ }
     ensures { λ r. ⌜ Made (monomialAt (tablesOf (now (s .entry))) c x) (now (mono .entry)) (now (mono .exit)) r ⌝ }
 {
@@ -253,7 +254,7 @@ fn pad(id: usize, left: &mut [u64], n: usize, right: &mut [u64], m: usize) -> Pa
 }
 
 // "except both classes as themselves once"
-pub fn pad_pair(
+fn pad_pair(
     id: usize,
     l: usize,
     r: usize,

@@ -87,7 +87,7 @@ fn is_ac_op(s: &[u8], im: Image, l: usize, r: usize, op: usize) -> bool
 }
 
 // The first operation from o on that acts by transport; the number of operations where there is none.
-pub fn next_op(s: &[u8], im: Image, l: usize, r: usize, o: usize) -> usize
+fn next_op(s: &[u8], im: Image, l: usize, r: usize, o: usize) -> usize
     requires { ⌜ Loaded (now s) im × Valid (tablesOf (now s)) × (l < im .classes) × (r < im .classes) ⌝ }
     ensures { λ x. ⌜ x ≡ firstFrom (acOp (tablesOf (now (s .entry))) l r) o (im .operations) ⌝ }
 {

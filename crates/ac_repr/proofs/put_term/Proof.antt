@@ -1,6 +1,4 @@
 use Rattle.ac_repr.proofs.Buffer.{terms-set}
-use Rattle.ac_repr.specs.Terms.{terms, held, position, Holds, Roomy}
-use Rattle.spec.specs.Bytes.{Two}
 use borrow.Author.Tests.{lt-ltb, le-ltb, le-leb, lt-leb, eq-eqb, ne-eqb}
 use Prim.Native.Nat.{ℕ, zero, suc, _≤_, _<_, _-_, _+_, _*_, _^_}
 use native.Mathlib.Omega.{arith}
@@ -15,39 +13,35 @@ use Rattle.ac_repr.proofs.put_term.Tie as tie
 use Rattle.ac_repr.proofs.put_term.Reads as reads
 use Rattle.ac_repr.proofs.put_term.Lts as lts
 
--- src/lib.rt:29:10
+-- src/lib.rt:38:14
+mul-at : tie.Need-mul-at
+mul-at c = search needs
+
+-- src/lib.rt:39:5
 mul-mono : tie.Need-mul-mono
 mul-mono c = search needs
 
--- src/lib.rt:29:5
-mul-mono-2 : tie.Need-mul-mono-2
-mul-mono-2 c = search needs
-
--- src/lib.rt:29:5
+-- src/lib.rt:39:5
 slice-write-mono : tie.Need-slice-write-mono
 slice-write-mono c = search needs
 
--- src/lib.rt:30:10
-mul-mono-3 : tie.Need-mul-mono-3
-mul-mono-3 c = search needs
-
--- src/lib.rt:30:10
+-- src/lib.rt:40:10
 add-mono : tie.Need-add-mono
 add-mono c = search needs
 
--- src/lib.rt:30:5
-mul-mono-4 : tie.Need-mul-mono-4
-mul-mono-4 c = search needs
+-- src/lib.rt:40:5
+mul-mono-2 : tie.Need-mul-mono-2
+mul-mono-2 c = search needs
 
--- src/lib.rt:30:5
+-- src/lib.rt:40:5
 slice-write-mono-2 : tie.Need-slice-write-mono-2
 slice-write-mono-2 c = simp length-set (omega arith)
 
--- src/lib.rt:25:1
+-- src/lib.rt:34:1
 same-length : tie.Need-same-length
 same-length c = search needs
 
--- src/lib.rt:25:1
+-- src/lib.rt:34:1
 returns : tie.Need-returns
 returns c = terms-set (c .args .mono .now) (c .args .i) (c .args .c) (c .args .k) (omega arith)
 
@@ -55,12 +49,11 @@ pub put-term-spec : {M : Type 1} → statement M
 put-term-spec =
     tie.close
     (tie.spec
+    mul-at
     mul-mono
-    mul-mono-2
     slice-write-mono
-    mul-mono-3
     add-mono
-    mul-mono-4
+    mul-mono-2
     slice-write-mono-2
     same-length
     returns)
