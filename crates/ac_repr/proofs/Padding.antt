@@ -11,35 +11,32 @@ use Rattle.spec.specs.Bytes.{Two, pick, both, all, sum, sameTwo, sameTwos}
 use Rattle.spec.specs.Image.{NO-IDENTITY}
 use Rattle.spec.specs.Monomial.{Monomial, insertAdd, total, itself, bothItself, narrow}
 use Rattle.ac_repr.specs.Terms.{terms, held, front, Holds, Roomy}
-use Rattle.ac_repr.specs.Pad.{TOTAL, Made, levelled, unmatched, bothNarrow, paddedOf, answerOf, Pads, Paddable}
+use Rattle.ac_repr.specs.Pad.{TOTAL, Made, levelBy, levelled, unmatched, bothNarrow, paddedOf, answerOf, Pads, Paddable}
 use Rattle.ac_repr.specs.declared.Padded.{Padded}
 use Rattle.ac_repr.specs.declared.Padded.the-variants.{Pair, Nothing}
 use Rattle.ac_repr.proofs.Insert.{held-length}
 use Rattle.ac_repr.proofs.Children.{held-same, held-is, front-front, grow}
 
 -- ---- level: the smaller one gets what it lacks
-abbrev pub Level : Monomial → ℕ → ℕ → ℕ → Monomial
-Level m id a b = pick (ltb a b) (pick (eqb id NO-IDENTITY) m (insertAdd id (b - a) m)) m
-
 module _ (m : Monomial) (id a b : ℕ) (s u : List ℕ) (r : ℕ) where
-  pub level-more : (x : ℕ) → a < b → (id ≡ NO-IDENTITY → ⊥) → x ≡ id → Holds (insertAdd x (b - a) m) s u r → Holds (Level m id a b) s u r
+  pub level-more : (x : ℕ) → a < b → (id ≡ NO-IDENTITY → ⊥) → x ≡ id → Holds (insertAdd x (b - a) m) s u r → Holds (levelBy id m a b) s u r
   level-more x h n e d = rw (lt-ltb a b h, ne-eqb id NO-IDENTITY n, ← e) d
 
-  pub level-none : id ≡ NO-IDENTITY → Holds m s u r → Holds (Level m id a b) s u r
+  pub level-none : id ≡ NO-IDENTITY → Holds m s u r → Holds (levelBy id m a b) s u r
   level-none e d = step (ltb a b)
     where
       step : (p : Bool) → Holds (pick p (pick (eqb id NO-IDENTITY) m (insertAdd id (b - a) m)) m) s u r
       step true = rw (eq-eqb id NO-IDENTITY e) d
       step false = d
 
-  pub level-same : b ≤ a → Holds m s u r → Holds (Level m id a b) s u r
+  pub level-same : b ≤ a → Holds m s u r → Holds (levelBy id m a b) s u r
   level-same h d = rw (le-ltb a b h) d
 
 pub level-room : (n a b : ℕ) (s : List ℕ) → length s ≡ 130 → n ≤ 64 → a ≡ total (held n s) → b ≤ TOTAL → a < b → Roomy n (b - a) s
 level-room n a b s l f e g h = record { numbers = l; room = omega arith; fits = omega (arith, e) }
 
 -- ---- pad
-levelled-is : (id a b : ℕ) (A B : Monomial) → a ≡ total A → b ≡ total B → Level A id a b ≡ levelled id A B
+levelled-is : (id a b : ℕ) (A B : Monomial) → a ≡ total A → b ≡ total B → levelBy id A a b ≡ levelled id A B
 unfolding levelled
 levelled-is id a b A B e f = rw (e, f) refl
 
@@ -63,7 +60,7 @@ levelled-long id A B = step (ltb (total A) (total B)) (eqb id NO-IDENTITY)
 
 -- after both have been levelled
 module _ (id n m a b : ℕ) (s u s′ u′ : List ℕ) (k l : ℕ) (p : Paddable n m s u) (e : a ≡ total (held n s)) (f : b ≡ total (held m u))
-    (d : Holds (Level (held n s) id a b) s s′ k) (g : Holds (Level (held m u) id b a) u u′ l) where
+    (d : Holds (levelBy id (held n s) a b) s s′ k) (g : Holds (levelBy id (held m u) b a) u u′ l) where
   A : Monomial
   A = held n s
 

@@ -27,10 +27,13 @@ unfoldable pub monomialAt : Tables → ℕ → ℕ → Monomial
 unfolding addAll
 monomialAt t c x = elim (ltb x (theClass t c .first + theClass t c .count)) [ true ↦ monomial (childrenOf t (theMember t x)) | false ↦ itself c ]
 
--- a with as many identities as it lacks beside b
+-- m, whose total is a, with as many identities as it lacks beside a total of b
+abbrev pub levelBy : ℕ → Monomial → ℕ → ℕ → Monomial
+levelBy identity m a b = pick (ltb a b) (pick (eqb identity NO-IDENTITY) m (insertAdd identity (b - a) m)) m
+
 unfoldable pub levelled : ℕ → Monomial → Monomial → Monomial
 unfolding insertAdd total
-levelled identity a b = pick (ltb (total a) (total b)) (pick (eqb identity NO-IDENTITY) a (insertAdd identity (total b - total a) a)) a
+levelled identity a b = levelBy identity a (total a) (total b)
 
 -- totals differ, and there is no identity
 abbrev pub unmatched : ℕ → ℕ → ℕ → Bool

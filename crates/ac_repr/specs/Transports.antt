@@ -15,10 +15,11 @@ use Rattle.spec.specs.Monomial.{Monomial, MonomialPair, insertAdd, addAll, mono
 use Rattle.spec.specs.Action.{TransportAction, acOps, transports}
 use Rattle.laws.specs.Valid.{Valid}
 use Rattle.laws.specs.AcceptedUses.{membersWithin}
-use Rattle.ac_repr.specs.Pad.{monomialAt, levelled, unmatched, bothNarrow, paddedOf, answerOf, sidesOf}
-use Rattle.ac_repr.specs.Walk.{passing, endOf, hasPlace, placesFrom, walkAt, row, rows, acOp, pairsFrom, walks, allWalks, actionOver, actionsAt}
+use Rattle.ac_repr.specs.Pad.{monomialAt}
+use Rattle.ac_repr.specs.Walk.{passing, endOf, hasPlace, placesFrom, walkAt, row, rows, acOp, pairsFrom, walks, allWalks, afterOf, leftOf, Stepped, actionOver, actionsAt}
 use Rattle.ac_repr.specs.declared.pairs.Walk.{Walk}
-use Rattle.ac_repr.specs.declared.Padded.the-variants.{Pair, Nothing}
+use Rattle.ac_repr.specs.declared.pairs.Step.{Step}
+use Rattle.ac_repr.specs.declared.pairs.Step.the-variants.{At, End}
 
 -- ---- lists, one after the other
 each-append : {A B : Type 0} (f : A → List B) (a b : List A) → each f (a ++ b) ≡ each f a ++ each f b
@@ -183,3 +184,24 @@ module _ (t : Tables) (v : Valid t) (l r : ℕ) (a : l < length (t .classes)) (b
       step : (q : Bool) → eqb l r ≡ q → transports t l r ≡ each (actionsAt t l r) (allWalks t l r)
       step true e = rw (transports, allWalks, e) refl
       step false e = rw (transports, allWalks, e) by-operations
+
+-- ---- what a caller of `first` and `next` knows: the actions that are left at a step
+unfoldable pub actionsLeft : Tables → ℕ → ℕ → Step → List TransportAction
+unfolding each actionsAt walks
+actionsLeft t l r x = each (actionsAt t l r) (leftOf (walks t l r) x)
+
+module _ (t : Tables) (l r : ℕ) where
+  -- at the first step, all
+  pub left-first : (x : Step) → Valid t → l < length (t .classes) → r < length (t .classes) → Stepped t l r (walks t l r) (allWalks t l r) x → transports t l r ≡ actionsLeft t l r x
+  unfolding actionsLeft
+  left-first x v a b d = transports-walk t v l r a b ∙ ap (λ (m : List Walk). each (actionsAt t l r) m) (d .left)
+
+  -- at a pair of places its own action, if there is one, and those left at the next step
+  pub left-next : (w : Walk) (x : Step) → Stepped t l r (walks t l r) (walks t l r (afterOf w)) x → actionsLeft t l r (At w) ≡ actionsAt t l r w ++ actionsLeft t l r x
+  unfolding actionsLeft each
+  left-next w x d = ap (λ (m : List Walk). actionsAt t l r w ++ each (actionsAt t l r) m) (d .left)
+
+  -- at the end, none
+  pub left-end : actionsLeft t l r End ≡ []
+  unfolding actionsLeft each
+  left-end = refl

@@ -1,17 +1,16 @@
 // Monomials of members (ac_repr.rs): sums lined up class by class, in a lent buffer of 65 terms, 64 children and the identity.
 ghost use mathlib.Core.Path.{_≡_};
 ghost use mathlib.Core.List.{_∷_};
-ghost use Prim.Native.Nat.{ℕ, _+_, _-_, _*_, _≤_, _<_, _^_};
-ghost use lib.Dec.{ltb, eqb};
+ghost use Prim.Native.Nat.{ℕ, _+_, _≤_, _<_, _^_};
 ghost use lib.ListN.{length, getD, set, drop};
 ghost use lib.Seq.{paste};
-ghost use Rattle.spec.specs.Bytes.{pick, sameTwos};
-ghost use Rattle.spec.specs.Image.{tablesOf, theMember, childrenOf, NO-IDENTITY};
+ghost use Rattle.spec.specs.Bytes.{sameTwos};
+ghost use Rattle.spec.specs.Image.{tablesOf, theMember, childrenOf};
 ghost use Rattle.spec.specs.Monomial.{insertAdd, monomial, total, narrow, itself, bothItself};
 ghost use Rattle.laws.specs.Valid.{Valid};
 ghost use Rattle.image.specs.Loaded.{Loaded, theChild};
 ghost use Rattle.ac_repr.specs.Terms.{terms, held, position, Holds, Roomy};
-ghost use Rattle.ac_repr.specs.Pad.{TOTAL, Made, monomialAt, unmatched, bothNarrow, paddedOf, answerOf, Pads, Paddable};
+ghost use Rattle.ac_repr.specs.Pad.{TOTAL, Made, monomialAt, levelBy, unmatched, bothNarrow, paddedOf, answerOf, Pads, Paddable};
 use image::Image;
 
 pub mod pairs;
@@ -219,7 +218,7 @@ fn unmatched(id: usize, a: u64, b: u64) -> bool
 // The monomial of n terms, whose total is a, with the identities that it lacks where the other's total is b.
 fn level(mono: &mut [u64], n: usize, id: usize, a: u64, b: u64) -> usize
     requires { ⌜ (length (now mono) ≡ 130) × (n ≤ 64) × (a ≡ total (held n (now mono))) × (b ≤ TOTAL) ⌝ }
-    ensures { λ r. ⌜ Holds (pick (ltb a b) (pick (eqb id NO-IDENTITY) (held n (now (mono .entry))) (insertAdd id (b - a) (held n (now (mono .entry))))) (held n (now (mono .entry)))) (now (mono .entry)) (now (mono .exit)) r ⌝ }
+    ensures { λ r. ⌜ Holds (levelBy id (held n (now (mono .entry))) a b) (now (mono .entry)) (now (mono .exit)) r ⌝ }
 {
     if a < b {
         if id != Image::NO_IDENTITY {
