@@ -2,14 +2,14 @@
 use mathlib.Core.Path.{_≡_, refl, sym, ap, _∙_}
 use mathlib.Core.Bool.{Bool, true, false}
 use mathlib.Core.List.{List, [], _∷_, _++_}
-use Prim.Native.Nat.{ℕ, zero, suc, _+_, _*_, _-_, _≤_, _<_, _^_}
+use Prim.Native.Nat.{ℕ, suc, _+_, _*_, _-_, _≤_, _<_}
 use native.Mathlib.Numerals.{add-one}
 use native.Mathlib.Omega.{arith}
 use borrow.Author.Tests.{lt-ltb, le-ltb}
 use lib.Dec.{ltb, eqb}
-use lib.ListN.{length, take, drop, getD, set, take-append-drop, length-drop}
-use lib.Seq.{take-at, take-add, drop-at, drop-append-add, drop-drop, drop-cons, take-take, slice, slice-cons, slice-empty, length-take-le, set-split}
-use Rattle.spec.specs.Bytes.{Two, pick, sum}
+use lib.ListN.{length, take, drop, getD, set, take-append-drop}
+use lib.Seq.{take-at, take-add, drop-at, drop-append-add, drop-drop, slice, slice-cons, slice-empty, length-take-le, set-split}
+use Rattle.spec.specs.Bytes.{Two, sum}
 use Rattle.spec.specs.Image.{Tables, tablesOf, theClass, theMember, childrenOf}
 use Rattle.spec.specs.Monomial.{Monomial, insertAdd, addAll, monomial, total, itself}
 use Rattle.laws.specs.Monomials.{total-insert}
@@ -19,7 +19,7 @@ use Rattle.image.specs.Loaded.{Loaded, childSpan, memberSpan, members-many, chi
 use Rattle.image.specs.declared.Image.{Image}
 use Rattle.image.specs.declared.Span.{Span}
 use Rattle.ac_repr.specs.Terms.{terms, held, front, Holds, Roomy}
-use Rattle.ac_repr.specs.Pad.{TOTAL, Made, monomialAt}
+use Rattle.ac_repr.specs.Pad.{Made, monomialAt}
 use Rattle.ac_repr.proofs.Buffer.{terms-length}
 use Rattle.ac_repr.proofs.Insert.{held-length}
 

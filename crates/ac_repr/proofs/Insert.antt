@@ -1,18 +1,18 @@
 -- Laws of `insertAdd` by the place that `position` finds, and of what add_class leaves.
 use mathlib.Core.Path.{_≡_, refl, sym, ap, _∙_}
 use mathlib.Core.Bool.{Bool, true, false}
-use mathlib.Core.List.{List, [], _∷_, _++_, map}
-use Prim.Native.Nat.{ℕ, zero, suc, _+_, _*_, _-_, _≤_, _<_, _^_, suc-le-suc, zero-le}
+use mathlib.Core.List.{List, [], _∷_, _++_}
+use Prim.Native.Nat.{ℕ, zero, suc, _+_, _≤_, _<_, _^_, suc-le-suc, zero-le}
 use native.Mathlib.Nat.{not-suc-le-zero, le-of-suc-le-suc}
 use native.Mathlib.Numerals.{add-one}
 use native.Mathlib.Omega.{arith}
-use borrow.Author.Tests.{lt-ltb, le-ltb, eq-eqb, ne-eqb, ltb-true, ltb-false}
+use borrow.Author.Tests.{lt-ltb, le-ltb, eq-eqb, ne-eqb}
 use lib.Dec.{ltb, eqb}
 use lib.ListN.{length, take, drop, getD, set, length-append, length-take, length-drop, length-set, take-append-drop, drop-of-length-le}
 use lib.Seq.{drop-cons, paste, take-take, take-add, drop-at, getD-take, length-take-le, set-append-left}
-use Rattle.spec.specs.Bytes.{Two, pick, sum}
+use Rattle.spec.specs.Bytes.{Two, sum}
 use Rattle.spec.specs.Monomial.{Monomial, insertAdd, total}
-use Rattle.ac_repr.specs.Terms.{terms, held, position, front, Holds, Roomy}
+use Rattle.ac_repr.specs.Terms.{terms, held, position, Holds, Roomy}
 use Rattle.ac_repr.proofs.Buffer.{terms-length}
 
 -- ---- position

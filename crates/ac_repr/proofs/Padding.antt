@@ -2,14 +2,14 @@
 use mathlib.Core.Path.{_≡_, refl, sym, ap, _∙_}
 use mathlib.Core.Bool.{Bool, true, false}
 use mathlib.Core.List.{List, [], _∷_}
-use Prim.Native.Nat.{ℕ, zero, suc, _+_, _-_, _≤_, _<_}
+use Prim.Native.Nat.{ℕ, _+_, _-_, _≤_, _<_}
 use native.Mathlib.Omega.{arith}
-use borrow.Author.Tests.{lt-ltb, le-ltb, eq-eqb, ne-eqb, eqb-true, eqb-false}
+use borrow.Author.Tests.{lt-ltb, le-ltb, eq-eqb, ne-eqb, eqb-true}
 use lib.Dec.{ltb, eqb}
 use lib.ListN.{length}
-use Rattle.spec.specs.Bytes.{Two, pick, both, all, sum, sameTwo, sameTwos}
+use Rattle.spec.specs.Bytes.{Two, pick, both, sum, sameTwos}
 use Rattle.spec.specs.Image.{NO-IDENTITY}
-use Rattle.spec.specs.Monomial.{Monomial, insertAdd, total, itself, bothItself, narrow}
+use Rattle.spec.specs.Monomial.{Monomial, insertAdd, total, itself, bothItself}
 use Rattle.ac_repr.specs.Terms.{terms, held, front, Holds, Roomy}
 use Rattle.ac_repr.specs.Pad.{TOTAL, Made, levelBy, levelled, unmatched, bothNarrow, paddedOf, answerOf, Pads, Paddable}
 use Rattle.ac_repr.specs.declared.Padded.{Padded}

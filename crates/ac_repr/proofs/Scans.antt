@@ -2,13 +2,13 @@
 use mathlib.Core.Path.{_≡_, refl, sym, ap, _∙_}
 use mathlib.Core.Bool.{Bool, true, false}
 use mathlib.Core.List.{List, [], _∷_}
-use Prim.Native.Nat.{ℕ, zero, suc, _+_, _≤_, _<_}
+use Prim.Native.Nat.{ℕ, suc, _+_, _≤_, _<_}
 use native.Mathlib.Omega.{arith}
 use borrow.Author.Tests.{le-leb, lt-leb, eq-eqb, ne-eqb}
 use lib.Dec.{leb, eqb}
-use lib.ListN.{length, take, drop, getD, drop-of-length-le}
+use lib.ListN.{length, drop, getD, drop-of-length-le}
 use lib.Seq.{drop-cons, getD-take}
-use Rattle.spec.specs.Bytes.{Two, pick, both, all, sum, sameTwo, sameTwos}
+use Rattle.spec.specs.Bytes.{Two, both, all, sum, sameTwo, sameTwos}
 use Rattle.spec.specs.Monomial.{Monomial, total, narrow, itself, COUNT}
 use Rattle.ac_repr.specs.Terms.{terms, held}
 use Rattle.ac_repr.proofs.Insert.{held-length}

@@ -1,16 +1,16 @@
 -- One law for each way out of a step of the walk.
 use mathlib.Core.Path.{_≡_, refl, sym, ap, _∙_}
 use mathlib.Core.Bool.{Bool, true, false}
-use mathlib.Core.List.{List, [], _∷_, _++_, append-assoc}
-use Prim.Native.Nat.{ℕ, zero, suc, _+_, _-_, _≤_, _<_}
+use mathlib.Core.List.{List, [], _∷_, _++_}
+use Prim.Native.Nat.{ℕ, suc, _+_, _≤_, _<_}
 use native.Mathlib.Numerals.{add-one}
 use native.Mathlib.Omega.{arith}
 use borrow.Author.Tests.{eq-eqb, ne-eqb, ltb-true, ltb-false}
-use lib.Dec.{ltb, eqb}
+use lib.Dec.{ltb}
 use lib.ListN.{length}
-use Rattle.spec.specs.Bytes.{pick, each}
+use Rattle.spec.specs.Bytes.{each}
 use Rattle.spec.specs.Image.{Tables, theClass}
-use Rattle.ac_repr.specs.Walk.{passing, firstFrom, endOf, hasPlace, walkAt, row, rows, under, acOp, pairsFrom, walks, allWalks, afterOf, leftOf, Within, Beside, Under, InRow, InOp, Stepped}
+use Rattle.ac_repr.specs.Walk.{firstFrom, endOf, hasPlace, walkAt, row, rows, under, acOp, pairsFrom, walks, allWalks, afterOf, InRow, InOp, Stepped}
 use Rattle.ac_repr.specs.WalkLaws.{found, passing-stop, passing-end, row-some, row-none, rows-some, rows-none, rows-has, rows-empty, under-has, under-not, stepped}
 use Rattle.ac_repr.specs.declared.pairs.Walk.{Walk}
 use Rattle.ac_repr.specs.declared.pairs.Step.{Step}

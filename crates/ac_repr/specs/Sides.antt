@@ -1,19 +1,19 @@
 -- What the answer of `monomials` says of the action at a pair of places, for its callers.
-use mathlib.Core.Path.{_≡_, refl, sym, ap, _∙_}
+use mathlib.Core.Path.{_≡_, refl}
 use mathlib.Core.Bool.{Bool, true, false}
-use mathlib.Core.List.{List, [], _∷_, _++_, map}
-use Prim.Native.Nat.{ℕ, _+_, _-_, _≤_, _<_}
+use mathlib.Core.List.{List, [], _∷_}
+use Prim.Native.Nat.{ℕ, _-_}
 use native.Mathlib.Omega.{arith}
-use borrow.Author.Tests.{ltb-true, ltb-false, eqb-true, eqb-false, eq-eqb}
+use borrow.Author.Tests.{ltb-true, ltb-false, eqb-true, eqb-false}
 use lib.Dec.{ltb, eqb}
-use lib.ListN.{length, take, drop}
+use lib.ListN.{length, drop}
 use lib.Seq.{take-at}
-use Rattle.spec.specs.Bytes.{Two, pick, both, all, filter, sameTwos}
+use Rattle.spec.specs.Bytes.{pick, both, filter}
 use Rattle.spec.specs.Image.{Tables, NO-IDENTITY, identityOf}
-use Rattle.spec.specs.Monomial.{Monomial, MonomialPair, insertAdd, total, pairOf, padPair, bothItself, narrow, narrowPairs}
+use Rattle.spec.specs.Monomial.{Monomial, MonomialPair, total, pairOf, padPair, bothItself, narrow, narrowPairs}
 use Rattle.laws.specs.Monomials.{total-insert}
-use Rattle.ac_repr.specs.Terms.{terms, held, front}
-use Rattle.ac_repr.specs.Pad.{monomialAt, levelled, unmatched, bothNarrow, paddedOf, answerOf, sidesOf, Few, Pads}
+use Rattle.ac_repr.specs.Terms.{terms, held}
+use Rattle.ac_repr.specs.Pad.{monomialAt, levelled, unmatched, bothNarrow, paddedOf, answerOf, sidesOf, Pads}
 use Rattle.ac_repr.specs.Walk.{actionOver, actionsAt}
 use Rattle.ac_repr.specs.declared.pairs.Walk.{Walk}
 use Rattle.ac_repr.specs.declared.Padded.{Padded}

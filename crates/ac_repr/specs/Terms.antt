@@ -1,7 +1,7 @@
 -- A monomial in a lent buffer: term i, a class and its count, stands at numbers 2 i and 2 i + 1; the first n terms hold a monomial of n classes.
 use mathlib.Core.Path.{_≡_}
 use mathlib.Core.List.{List, [], _∷_, _++_}
-use Prim.Native.Nat.{ℕ, zero, suc, _+_, _*_, _<_, _^_}
+use Prim.Native.Nat.{ℕ, suc, _+_, _<_, _^_}
 use lib.Dec.{ltb}
 use lib.ListN.{length, take, drop}
 use Rattle.spec.specs.Bytes.{Two, pick}

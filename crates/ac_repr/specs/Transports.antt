@@ -1,17 +1,17 @@
 -- The walk goes through the transports of two classes, each once and in order: what `first` and `next` lead through is what the definitions list.
 use mathlib.Core.Path.{_≡_, refl, sym, ap, _∙_}
-use mathlib.Core.Bool.{Bool, true, false, not}
-use mathlib.Core.List.{List, [], _∷_, _++_, map, append-assoc, append-nil}
+use mathlib.Core.Bool.{Bool, true, false}
+use mathlib.Core.List.{List, [], _∷_, _++_, map, append-assoc}
 use Prim.Native.Nat.{ℕ, zero, suc, _+_, _-_, _≤_, _<_}
 use native.Mathlib.Nat.{sub-zero}
 use native.Mathlib.Omega.{arith}
-use borrow.Author.Tests.{lt-ltb, le-ltb, eqb-true}
-use lib.Dec.{ltb, leb, eqb}
-use lib.ListN.{length, take, drop, getD}
+use borrow.Author.Tests.{lt-ltb, le-ltb}
+use lib.Dec.{ltb, eqb}
+use lib.ListN.{length, take, drop}
 use lib.Seq.{drop-cons}
-use Rattle.spec.specs.Bytes.{pick, both, all, any, filter, each, upFrom, sum, sameTwos}
-use Rattle.spec.specs.Image.{Tables, Member, NO-IDENTITY, isAC, kindOf, identityOf, theClass, theMember, membersOf, childrenOf}
-use Rattle.spec.specs.Monomial.{Monomial, MonomialPair, insertAdd, addAll, monomial, total, itself, monomialsOf, padPair, pairOf, bothItself, representationPairs, narrow, narrowPairs, COUNT}
+use Rattle.spec.specs.Bytes.{pick, both, filter, each, upFrom}
+use Rattle.spec.specs.Image.{Tables, NO-IDENTITY, identityOf, theClass, theMember, childrenOf}
+use Rattle.spec.specs.Monomial.{Monomial, MonomialPair, monomial, itself, monomialsOf, padPair, bothItself, representationPairs, narrow, narrowPairs}
 use Rattle.spec.specs.Action.{TransportAction, acOps, transports}
 use Rattle.laws.specs.Valid.{Valid}
 use Rattle.laws.specs.AcceptedUses.{membersWithin}

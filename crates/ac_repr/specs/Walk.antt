@@ -3,12 +3,12 @@
 use mathlib.Core.Path.{_≡_}
 use mathlib.Core.Bool.{Bool, true, false, not}
 use mathlib.Core.List.{List, [], _∷_, _++_, map}
-use Prim.Native.Nat.{ℕ, zero, suc, _+_, _-_, _≤_, _<_}
+use Prim.Native.Nat.{ℕ, suc, _+_, _-_, _≤_, _<_}
 use lib.Dec.{ltb, eqb}
 use lib.ListN.{length}
 use Rattle.spec.specs.Bytes.{pick, both, any, filter, each, upFrom, place, sameTwos}
 use Rattle.spec.specs.Image.{Tables, NO-IDENTITY, isAC, kindOf, identityOf, theClass, theMember, membersOf}
-use Rattle.spec.specs.Monomial.{Monomial, MonomialPair, bothItself, padPair, narrowPairs}
+use Rattle.spec.specs.Monomial.{Monomial, bothItself, padPair, narrowPairs}
 use Rattle.spec.specs.Action.{TransportAction}
 use Rattle.ac_repr.specs.Pad.{monomialAt}
 use Rattle.ac_repr.specs.declared.pairs.Walk.{Walk}

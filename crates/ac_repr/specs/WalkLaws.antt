@@ -1,16 +1,13 @@
 -- Laws of the walk: each pair of places leads to the one after it.
 use mathlib.Core.Path.{_≡_, refl, sym, ap, _∙_}
-use mathlib.Core.Bool.{Bool, true, false, not}
-use mathlib.Core.List.{List, [], _∷_, _++_, map, append-assoc, append-nil}
-use Prim.Native.Nat.{ℕ, zero, suc, _+_, _-_, _≤_, _<_}
-use native.Mathlib.Numerals.{add-one}
+use mathlib.Core.Bool.{Bool, true, false}
+use mathlib.Core.List.{List, [], _∷_, _++_, map}
+use Prim.Native.Nat.{ℕ, zero, suc, _-_, _≤_, _<_}
 use native.Mathlib.Omega.{arith}
-use native.Mathlib.Decide.{decLt}
-use lib.Dec.{ltb, eqb}
 use lib.ListN.{length}
-use Rattle.spec.specs.Bytes.{pick, both, any, filter, each, upFrom, place}
+use Rattle.spec.specs.Bytes.{filter, each, upFrom, place}
 use Rattle.spec.specs.Image.{Tables, theClass}
-use Rattle.ac_repr.specs.Walk.{passing, firstFrom, endOf, hasPlace, placesFrom, walkAt, row, rows, under, acOp, pairsFrom, walks, afterOf, stepOf, leftOf, Within, Stepped}
+use Rattle.ac_repr.specs.Walk.{passing, firstFrom, endOf, hasPlace, placesFrom, walkAt, row, rows, under, stepOf, leftOf, Within, Stepped}
 use Rattle.ac_repr.specs.declared.pairs.Walk.{Walk}
 use Rattle.ac_repr.specs.declared.pairs.Step.{Step}
 use Rattle.ac_repr.specs.declared.pairs.Step.the-variants.{At, End}

@@ -1,22 +1,8 @@
 use Rattle.ac_repr.proofs.Insert.{roomy-less}
-use Rattle.ac_repr.specs.Terms.{terms, held, position, Holds, Roomy}
-use borrow.Author.Tests.{lt-ltb, le-ltb, le-leb, lt-leb, eq-eqb, ne-eqb}
-use Prim.Native.Nat.{ℕ, zero, suc, _≤_, _<_, _-_, _+_, _*_, _^_}
 use native.Mathlib.Omega.{arith}
-use native.Mathlib.Numerals.{add-one}
-use mathlib.Core.Path.{_≡_, refl, ap, sym, _∙_}
-use mathlib.Core.Logic.{⊎-elim}
-use mathlib.Core.List.{List, [], _∷_, _++_, append-nil}
-use lib.ListN.{length, take, drop, getD, set, length-set, length-take, length-drop, length-append, drop-of-length-le}
 use borrow.Author.Needs.{needs}
 use Rattle.ac_repr.proofs.add_child.Statement.{statement}
 use Rattle.ac_repr.proofs.add_child.Tie as tie
-use Rattle.ac_repr.proofs.add_child.Reads as reads
-use Rattle.ac_repr.proofs.add_child.Lts as lts
-use Rattle.ac_repr.proofs.add_class.Reads as add-class-reads
-use Rattle.ac_repr.proofs.long.Reads as long-reads
-use Rattle.image.proofs.child_class.Reads as child-class-reads
-use Rattle.image.proofs.child_times.Reads as child-times-reads
 
 -- src/lib.rt:103:18
 child-class-requires : tie.Need-child-class-requires

@@ -1,23 +1,13 @@
 use Rattle.ac_repr.proofs.Insert.{added-hit, added-miss, room-for}
-use Rattle.ac_repr.specs.Terms.{terms, held, position, Holds, Roomy}
-use borrow.Author.Tests.{lt-ltb, le-ltb, le-leb, lt-leb, eq-eqb, ne-eqb}
-use Prim.Native.Nat.{ℕ, zero, suc, _≤_, _<_, _-_, _+_, _*_, _^_}
+use Rattle.ac_repr.specs.Terms.{terms}
+use Prim.Native.Nat.{_<_, _-_}
 use native.Mathlib.Omega.{arith}
-use native.Mathlib.Numerals.{add-one}
-use mathlib.Core.Path.{_≡_, refl, ap, sym, _∙_}
+use mathlib.Core.Path.{_≡_, _∙_}
 use mathlib.Core.Logic.{⊎-elim}
-use mathlib.Core.List.{List, [], _∷_, _++_, append-nil}
-use lib.ListN.{length, take, drop, getD, set, length-set, length-take, length-drop, length-append, drop-of-length-le}
+use lib.ListN.{getD}
 use borrow.Author.Needs.{needs}
 use Rattle.ac_repr.proofs.add_class.Statement.{statement}
 use Rattle.ac_repr.proofs.add_class.Tie as tie
-use Rattle.ac_repr.proofs.add_class.Reads as reads
-use Rattle.ac_repr.proofs.add_class.Lts as lts
-use Rattle.ac_repr.proofs.class_at.Reads as class-at-reads
-use Rattle.ac_repr.proofs.count_at.Reads as count-at-reads
-use Rattle.ac_repr.proofs.insert_term.Reads as insert-term-reads
-use Rattle.ac_repr.proofs.place.Reads as place-reads
-use Rattle.ac_repr.proofs.put_term.Reads as put-term-reads
 
 -- src/lib.rt:71:9
 place-requires : tie.Need-place-requires

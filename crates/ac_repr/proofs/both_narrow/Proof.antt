@@ -1,18 +1,7 @@
 use Rattle.ac_repr.proofs.Scans.{both-first, both-not}
-use borrow.Author.Tests.{lt-ltb, le-ltb, le-leb, lt-leb, eq-eqb, ne-eqb}
-use Prim.Native.Nat.{ℕ, zero, suc, _≤_, _<_, _-_, _+_, _*_, _^_}
-use native.Mathlib.Omega.{arith}
-use native.Mathlib.Numerals.{add-one}
-use mathlib.Core.Path.{_≡_, refl, ap, sym, _∙_}
-use mathlib.Core.Logic.{⊎-elim}
-use mathlib.Core.List.{List, [], _∷_, _++_, append-nil}
-use lib.ListN.{length, take, drop, getD, set, length-set, length-take, length-drop, length-append, drop-of-length-le}
 use borrow.Author.Needs.{needs}
 use Rattle.ac_repr.proofs.both_narrow.Statement.{statement}
 use Rattle.ac_repr.proofs.both_narrow.Tie as tie
-use Rattle.ac_repr.proofs.both_narrow.Reads as reads
-use Rattle.ac_repr.proofs.both_narrow.Lts as lts
-use Rattle.ac_repr.proofs.narrow.Reads as narrow-reads
 
 -- src/lib.rt:177:8
 narrow-requires : tie.Need-narrow-requires

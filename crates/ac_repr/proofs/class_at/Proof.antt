@@ -1,19 +1,10 @@
 use Rattle.ac_repr.proofs.Buffer.{terms-at}
-use Rattle.ac_repr.specs.Terms.{terms, held, position, Holds, Roomy}
 use Rattle.spec.specs.Bytes.{Two}
-use borrow.Author.Tests.{lt-ltb, le-ltb, le-leb, lt-leb, eq-eqb, ne-eqb}
-use Prim.Native.Nat.{ℕ, zero, suc, _≤_, _<_, _-_, _+_, _*_, _^_}
 use native.Mathlib.Omega.{arith}
-use native.Mathlib.Numerals.{add-one}
-use mathlib.Core.Path.{_≡_, refl, ap, sym, _∙_}
-use mathlib.Core.Logic.{⊎-elim}
-use mathlib.Core.List.{List, [], _∷_, _++_, append-nil}
-use lib.ListN.{length, take, drop, getD, set, length-set, length-take, length-drop, length-append, drop-of-length-le}
+use mathlib.Core.Path.{ap, sym}
 use borrow.Author.Needs.{needs}
 use Rattle.ac_repr.proofs.class_at.Statement.{statement}
 use Rattle.ac_repr.proofs.class_at.Tie as tie
-use Rattle.ac_repr.proofs.class_at.Reads as reads
-use Rattle.ac_repr.proofs.class_at.Lts as lts
 
 -- src/lib.rt:15:10
 mul-result : tie.Need-mul-result

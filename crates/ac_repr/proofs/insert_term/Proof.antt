@@ -1,23 +1,12 @@
 use Rattle.ac_repr.proofs.Buffer.{Rippled, rippled-none, rippled-more}
-use lib.Seq.{paste}
-use Rattle.ac_repr.specs.Terms.{terms, held, position, Holds, Roomy}
-use Rattle.spec.specs.Bytes.{Two}
+use Rattle.ac_repr.specs.Terms.{terms}
 use borrow.Author.Needs.{needs}
-use borrow.Author.Tests.{lt-ltb, le-ltb, le-leb, lt-leb, eq-eqb, ne-eqb}
-use Prim.Native.Nat.{ℕ, zero, suc, _≤_, _<_, _-_, _+_, _*_, _^_}
+use Prim.Native.Nat.{_≤_, _<_, _-_, _+_}
 use native.Mathlib.Omega.{arith}
-use native.Mathlib.Numerals.{add-one}
-use mathlib.Core.Path.{_≡_, refl, ap, sym, _∙_}
-use mathlib.Core.Logic.{⊎-elim}
-use mathlib.Core.List.{List, [], _∷_, _++_, append-nil}
-use lib.ListN.{length, take, drop, getD, set, length-set, length-take, length-drop, length-append, drop-of-length-le}
+use mathlib.Core.Path.{_≡_, _∙_}
+use lib.ListN.{length}
 use Rattle.ac_repr.proofs.insert_term.Statement.{statement}
 use Rattle.ac_repr.proofs.insert_term.Tie as tie
-use Rattle.ac_repr.proofs.insert_term.Reads as reads
-use Rattle.ac_repr.proofs.insert_term.Lts as lts
-use Rattle.ac_repr.proofs.class_at.Reads as class-at-reads
-use Rattle.ac_repr.proofs.count_at.Reads as count-at-reads
-use Rattle.ac_repr.proofs.put_term.Reads as put-term-reads
 
 abbrev Inv-loop : tie.InvT-loop
 Inv-loop mono₀ p n c k x₀ y₀ j₀ mono x y j = (j ≤ n + 1) × (length mono ≡ 130) × Rippled (terms mono₀) (terms mono) p j (c, k) (x, y)

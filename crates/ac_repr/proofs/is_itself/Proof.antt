@@ -1,21 +1,8 @@
 use Rattle.ac_repr.proofs.Scans.{itself-length, itself-class, itself-count}
-use Rattle.ac_repr.specs.Terms.{terms, held, position, Holds, Roomy}
-use borrow.Author.Tests.{lt-ltb, le-ltb, le-leb, lt-leb, eq-eqb, ne-eqb}
-use Prim.Native.Nat.{ℕ, zero, suc, _≤_, _<_, _-_, _+_, _*_, _^_}
-use native.Mathlib.Omega.{arith}
-use native.Mathlib.Numerals.{add-one}
-use mathlib.Core.Path.{_≡_, refl, ap, sym, _∙_}
-use mathlib.Core.Logic.{⊎-elim}
-use mathlib.Core.List.{List, [], _∷_, _++_, append-nil}
-use lib.ListN.{length, take, drop, getD, set, length-set, length-take, length-drop, length-append, drop-of-length-le}
+use mathlib.Core.Path.{sym, _∙_}
 use borrow.Author.Needs.{needs}
 use Rattle.ac_repr.proofs.is_itself.Statement.{statement}
 use Rattle.ac_repr.proofs.is_itself.Tie as tie
-use Rattle.ac_repr.proofs.is_itself.Reads as reads
-use Rattle.ac_repr.proofs.is_itself.Lts as lts
-use Rattle.ac_repr.proofs.class_at.Reads as class-at-reads
-use Rattle.ac_repr.proofs.count_at.Reads as count-at-reads
-use Rattle.ac_repr.proofs.long.Reads as long-reads
 
 -- src/lib.rt:189:9
 returns : tie.Need-returns

@@ -1,19 +1,7 @@
 use Rattle.ac_repr.proofs.Children.{itself-made}
-use borrow.Author.Tests.{lt-ltb, le-ltb, le-leb, lt-leb, eq-eqb, ne-eqb}
-use Prim.Native.Nat.{ℕ, zero, suc, _≤_, _<_, _-_, _+_, _*_, _^_}
-use native.Mathlib.Omega.{arith}
-use native.Mathlib.Numerals.{add-one}
-use mathlib.Core.Path.{_≡_, refl, ap, sym, _∙_}
-use mathlib.Core.Logic.{⊎-elim}
-use mathlib.Core.List.{List, [], _∷_, _++_, append-nil}
-use lib.ListN.{length, take, drop, getD, set, length-set, length-take, length-drop, length-append, drop-of-length-le}
 use borrow.Author.Needs.{needs}
 use Rattle.ac_repr.proofs.itself.Statement.{statement}
 use Rattle.ac_repr.proofs.itself.Tie as tie
-use Rattle.ac_repr.proofs.itself.Reads as reads
-use Rattle.ac_repr.proofs.itself.Lts as lts
-use Rattle.ac_repr.proofs.long.Reads as long-reads
-use Rattle.ac_repr.proofs.put_term.Reads as put-term-reads
 
 -- src/lib.rt:128:23
 long-requires : tie.Need-long-requires

@@ -1,21 +1,10 @@
 use Rattle.ac_repr.proofs.Padding.{level-more, level-none, level-same, level-room}
 use Rattle.ac_repr.proofs.Children.{held-same}
-use Rattle.ac_repr.specs.Terms.{terms, held, position, Holds, Roomy}
-use borrow.Author.Tests.{lt-ltb, le-ltb, le-leb, lt-leb, eq-eqb, ne-eqb}
-use Prim.Native.Nat.{ℕ, zero, suc, _≤_, _<_, _-_, _+_, _*_, _^_}
+use Rattle.ac_repr.specs.Terms.{held}
 use native.Mathlib.Omega.{arith}
-use native.Mathlib.Numerals.{add-one}
-use mathlib.Core.Path.{_≡_, refl, ap, sym, _∙_}
-use mathlib.Core.Logic.{⊎-elim}
-use mathlib.Core.List.{List, [], _∷_, _++_, append-nil}
-use lib.ListN.{length, take, drop, getD, set, length-set, length-take, length-drop, length-append, drop-of-length-le}
 use borrow.Author.Needs.{needs}
 use Rattle.ac_repr.proofs.level.Statement.{statement}
 use Rattle.ac_repr.proofs.level.Tie as tie
-use Rattle.ac_repr.proofs.level.Reads as reads
-use Rattle.ac_repr.proofs.level.Lts as lts
-use Rattle.ac_repr.proofs.add_class.Reads as add-class-reads
-use Rattle.ac_repr.proofs.long.Reads as long-reads
 
 -- src/lib.rt:223:39
 long-requires : tie.Need-long-requires

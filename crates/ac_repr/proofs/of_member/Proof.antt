@@ -1,21 +1,10 @@
 use Rattle.ac_repr.proofs.Children.{Upto, upto-none, upto-room, upto-turn, upto-all, member-few, member-made, child-number}
 use Rattle.spec.specs.Image.{tablesOf}
-use Rattle.ac_repr.specs.Terms.{terms, held, position, Holds, Roomy}
 use borrow.Author.Needs.{needs}
-use borrow.Author.Tests.{lt-ltb, le-ltb, le-leb, lt-leb, eq-eqb, ne-eqb}
-use Prim.Native.Nat.{ℕ, zero, suc, _≤_, _<_, _-_, _+_, _*_, _^_}
+use Prim.Native.Nat.{_-_}
 use native.Mathlib.Omega.{arith}
-use native.Mathlib.Numerals.{add-one}
-use mathlib.Core.Path.{_≡_, refl, ap, sym, _∙_}
-use mathlib.Core.Logic.{⊎-elim}
-use mathlib.Core.List.{List, [], _∷_, _++_, append-nil}
-use lib.ListN.{length, take, drop, getD, set, length-set, length-take, length-drop, length-append, drop-of-length-le}
 use Rattle.ac_repr.proofs.of_member.Statement.{statement}
 use Rattle.ac_repr.proofs.of_member.Tie as tie
-use Rattle.ac_repr.proofs.of_member.Reads as reads
-use Rattle.ac_repr.proofs.of_member.Lts as lts
-use Rattle.ac_repr.proofs.add_child.Reads as add-child-reads
-use Rattle.image.proofs.children_of.Reads as children-of-reads
 
 abbrev Inv-loop : tie.InvT-loop
 Inv-loop s im m mono₀ span n₀ k₀ mono n k = Upto (tablesOf s) (span .from) (span .to) mono₀ mono n k

@@ -1,21 +1,8 @@
 use Rattle.ac_repr.proofs.Children.{place-member, place-itself, member-number}
 use Rattle.spec.specs.Image.{tablesOf}
-use borrow.Author.Tests.{lt-ltb, le-ltb, le-leb, lt-leb, eq-eqb, ne-eqb}
-use Prim.Native.Nat.{ℕ, zero, suc, _≤_, _<_, _-_, _+_, _*_, _^_}
-use native.Mathlib.Omega.{arith}
-use native.Mathlib.Numerals.{add-one}
-use mathlib.Core.Path.{_≡_, refl, ap, sym, _∙_}
-use mathlib.Core.Logic.{⊎-elim}
-use mathlib.Core.List.{List, [], _∷_, _++_, append-nil}
-use lib.ListN.{length, take, drop, getD, set, length-set, length-take, length-drop, length-append, drop-of-length-le}
 use borrow.Author.Needs.{needs}
 use Rattle.ac_repr.proofs.of_place.Statement.{statement}
 use Rattle.ac_repr.proofs.of_place.Tie as tie
-use Rattle.ac_repr.proofs.of_place.Reads as reads
-use Rattle.ac_repr.proofs.of_place.Lts as lts
-use Rattle.ac_repr.proofs.itself.Reads as itself-reads
-use Rattle.ac_repr.proofs.of_member.Reads as of-member-reads
-use Rattle.image.proofs.members_of.Reads as members-of-reads
 
 -- src/lib.rt:137:9
 members-of-requires : tie.Need-members-of-requires

@@ -1,21 +1,8 @@
 use Rattle.ac_repr.proofs.Padding.{pads-unmatched, pads-pair, pads-wide, few-rows, few-cols}
-use borrow.Author.Tests.{lt-ltb, le-ltb, le-leb, lt-leb, eq-eqb, ne-eqb}
-use Prim.Native.Nat.{ℕ, zero, suc, _≤_, _<_, _-_, _+_, _*_, _^_}
-use native.Mathlib.Omega.{arith}
-use native.Mathlib.Numerals.{add-one}
-use mathlib.Core.Path.{_≡_, refl, ap, sym, _∙_}
-use mathlib.Core.Logic.{⊎-elim}
-use mathlib.Core.List.{List, [], _∷_, _++_, append-nil}
-use lib.ListN.{length, take, drop, getD, set, length-set, length-take, length-drop, length-append, drop-of-length-le}
+use mathlib.Core.Path.{_∙_}
 use borrow.Author.Needs.{needs}
 use Rattle.ac_repr.proofs.pad.Statement.{statement}
 use Rattle.ac_repr.proofs.pad.Tie as tie
-use Rattle.ac_repr.proofs.pad.Reads as reads
-use Rattle.ac_repr.proofs.pad.Lts as lts
-use Rattle.ac_repr.proofs.both_narrow.Reads as both-narrow-reads
-use Rattle.ac_repr.proofs.level.Reads as level-reads
-use Rattle.ac_repr.proofs.total.Reads as total-reads
-use Rattle.ac_repr.proofs.unmatched.Reads as unmatched-reads
 
 -- src/lib.rt:240:9
 total-requires : tie.Need-total-requires

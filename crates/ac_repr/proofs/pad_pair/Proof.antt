@@ -1,19 +1,7 @@
 use Rattle.ac_repr.proofs.Padding.{pads-itself, pads-other}
-use borrow.Author.Tests.{lt-ltb, le-ltb, le-leb, lt-leb, eq-eqb, ne-eqb}
-use Prim.Native.Nat.{ℕ, zero, suc, _≤_, _<_, _-_, _+_, _*_, _^_}
-use native.Mathlib.Omega.{arith}
-use native.Mathlib.Numerals.{add-one}
-use mathlib.Core.Path.{_≡_, refl, ap, sym, _∙_}
-use mathlib.Core.Logic.{⊎-elim}
-use mathlib.Core.List.{List, [], _∷_, _++_, append-nil}
-use lib.ListN.{length, take, drop, getD, set, length-set, length-take, length-drop, length-append, drop-of-length-le}
 use borrow.Author.Needs.{needs}
 use Rattle.ac_repr.proofs.pad_pair.Statement.{statement}
 use Rattle.ac_repr.proofs.pad_pair.Tie as tie
-use Rattle.ac_repr.proofs.pad_pair.Reads as reads
-use Rattle.ac_repr.proofs.pad_pair.Lts as lts
-use Rattle.ac_repr.proofs.both_itself.Reads as both-itself-reads
-use Rattle.ac_repr.proofs.pad.Reads as pad-reads
 
 -- src/lib.rt:258:8
 both-itself-requires : tie.Need-both-itself-requires

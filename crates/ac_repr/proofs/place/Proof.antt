@@ -1,20 +1,13 @@
 use Rattle.ac_repr.proofs.Insert.{scan-more, scan-stop, scan-end}
-use Rattle.ac_repr.specs.Terms.{terms, held, position, Holds, Roomy}
-use Rattle.spec.specs.Bytes.{Two}
+use Rattle.ac_repr.specs.Terms.{held, position}
 use borrow.Author.Needs.{needs}
-use borrow.Author.Tests.{lt-ltb, le-ltb, le-leb, lt-leb, eq-eqb, ne-eqb}
-use Prim.Native.Nat.{ℕ, zero, suc, _≤_, _<_, _-_, _+_, _*_, _^_}
+use Prim.Native.Nat.{_≤_, _-_, _+_}
 use native.Mathlib.Omega.{arith}
 use native.Mathlib.Numerals.{add-one}
-use mathlib.Core.Path.{_≡_, refl, ap, sym, _∙_}
-use mathlib.Core.Logic.{⊎-elim}
-use mathlib.Core.List.{List, [], _∷_, _++_, append-nil}
-use lib.ListN.{length, take, drop, getD, set, length-set, length-take, length-drop, length-append, drop-of-length-le}
+use mathlib.Core.Path.{_≡_}
+use lib.ListN.{drop}
 use Rattle.ac_repr.proofs.place.Statement.{statement}
 use Rattle.ac_repr.proofs.place.Tie as tie
-use Rattle.ac_repr.proofs.place.Reads as reads
-use Rattle.ac_repr.proofs.place.Lts as lts
-use Rattle.ac_repr.proofs.class_at.Reads as class-at-reads
 
 abbrev Inv-loop : tie.InvT-loop
 Inv-loop mono n c i₀ i = (i ≤ n) × (position c (held n mono) ≡ i + position c (drop i (held n mono)))

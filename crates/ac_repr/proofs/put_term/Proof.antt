@@ -1,17 +1,9 @@
 use Rattle.ac_repr.proofs.Buffer.{terms-set}
-use borrow.Author.Tests.{lt-ltb, le-ltb, le-leb, lt-leb, eq-eqb, ne-eqb}
-use Prim.Native.Nat.{ℕ, zero, suc, _≤_, _<_, _-_, _+_, _*_, _^_}
 use native.Mathlib.Omega.{arith}
-use native.Mathlib.Numerals.{add-one}
-use mathlib.Core.Path.{_≡_, refl, ap, sym, _∙_}
-use mathlib.Core.Logic.{⊎-elim}
-use mathlib.Core.List.{List, [], _∷_, _++_, append-nil}
-use lib.ListN.{length, take, drop, getD, set, length-set, length-take, length-drop, length-append, drop-of-length-le}
+use lib.ListN.{length-set}
 use borrow.Author.Needs.{needs}
 use Rattle.ac_repr.proofs.put_term.Statement.{statement}
 use Rattle.ac_repr.proofs.put_term.Tie as tie
-use Rattle.ac_repr.proofs.put_term.Reads as reads
-use Rattle.ac_repr.proofs.put_term.Lts as lts
 
 -- src/lib.rt:38:14
 mul-at : tie.Need-mul-at

@@ -1,20 +1,14 @@
 use Rattle.ac_repr.proofs.Scans.{total-more, total-end}
 use Rattle.spec.specs.Monomial.{total}
-use Rattle.ac_repr.specs.Terms.{terms, held, position, Holds, Roomy}
+use Rattle.ac_repr.specs.Terms.{held}
 use borrow.Author.Needs.{needs}
-use borrow.Author.Tests.{lt-ltb, le-ltb, le-leb, lt-leb, eq-eqb, ne-eqb}
-use Prim.Native.Nat.{ℕ, zero, suc, _≤_, _<_, _-_, _+_, _*_, _^_}
+use Prim.Native.Nat.{_≤_, _-_, _+_}
 use native.Mathlib.Omega.{arith}
 use native.Mathlib.Numerals.{add-one}
-use mathlib.Core.Path.{_≡_, refl, ap, sym, _∙_}
-use mathlib.Core.Logic.{⊎-elim}
-use mathlib.Core.List.{List, [], _∷_, _++_, append-nil}
-use lib.ListN.{length, take, drop, getD, set, length-set, length-take, length-drop, length-append, drop-of-length-le}
+use mathlib.Core.Path.{_≡_}
+use lib.ListN.{drop}
 use Rattle.ac_repr.proofs.total.Statement.{statement}
 use Rattle.ac_repr.proofs.total.Tie as tie
-use Rattle.ac_repr.proofs.total.Reads as reads
-use Rattle.ac_repr.proofs.total.Lts as lts
-use Rattle.ac_repr.proofs.count_at.Reads as count-at-reads
 
 abbrev Inv-loop : tie.InvT-loop
 Inv-loop mono n sum₀ i₀ sum i = (i ≤ n) × (sum + total (drop i (held n mono)) ≡ total (held n mono))

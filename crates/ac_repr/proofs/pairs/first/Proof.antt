@@ -1,19 +1,8 @@
 use Rattle.ac_repr.proofs.Steps.{first-none, first-some}
-use Rattle.spec.specs.Image.{tablesOf, theClass, membersOf}
-use borrow.Author.Tests.{lt-ltb, le-ltb, le-leb, lt-leb, eq-eqb, ne-eqb}
-use Prim.Native.Nat.{ℕ, zero, suc, _≤_, _<_, _-_, _+_, _*_, _^_}
-use native.Mathlib.Omega.{arith}
-use native.Mathlib.Numerals.{add-one}
-use mathlib.Core.Path.{_≡_, refl, ap, sym, _∙_}
-use mathlib.Core.Logic.{⊎-elim}
-use mathlib.Core.List.{List, [], _∷_, _++_, append-nil}
-use lib.ListN.{length, take, drop, getD, set, length-set, length-take, length-drop, length-append, drop-of-length-le}
+use Rattle.spec.specs.Image.{tablesOf}
 use borrow.Author.Needs.{needs}
 use Rattle.ac_repr.proofs.pairs.first.Statement.{statement}
 use Rattle.ac_repr.proofs.pairs.first.Tie as tie
-use Rattle.ac_repr.proofs.pairs.first.Reads as reads
-use Rattle.ac_repr.proofs.pairs.first.Lts as lts
-use Rattle.ac_repr.proofs.pairs.from_op.Reads as from-op-reads
 
 -- src/pairs.rt:180:9
 returns : tie.Need-returns

@@ -1,22 +1,12 @@
 use Rattle.ac_repr.proofs.Steps.{Ahead, ahead, ops-at, ops-next, ops-end}
 use Rattle.image.specs.Loaded.{operations-many}
-use Rattle.spec.specs.Image.{tablesOf, theClass, membersOf}
+use Rattle.spec.specs.Image.{tablesOf}
 use borrow.Author.Needs.{needs}
-use borrow.Author.Tests.{lt-ltb, le-ltb, le-leb, lt-leb, eq-eqb, ne-eqb}
-use Prim.Native.Nat.{ℕ, zero, suc, _≤_, _<_, _-_, _+_, _*_, _^_}
+use Prim.Native.Nat.{_-_, _+_}
 use native.Mathlib.Omega.{arith}
-use native.Mathlib.Numerals.{add-one}
-use mathlib.Core.Path.{_≡_, refl, ap, sym, _∙_}
-use mathlib.Core.Logic.{⊎-elim}
-use mathlib.Core.List.{List, [], _∷_, _++_, append-nil}
-use lib.ListN.{length, take, drop, getD, set, length-set, length-take, length-drop, length-append, drop-of-length-le}
+use mathlib.Core.Path.{sym}
 use Rattle.ac_repr.proofs.pairs.from_op.Statement.{statement}
 use Rattle.ac_repr.proofs.pairs.from_op.Tie as tie
-use Rattle.ac_repr.proofs.pairs.from_op.Reads as reads
-use Rattle.ac_repr.proofs.pairs.from_op.Lts as lts
-use Rattle.ac_repr.proofs.pairs.in_rows.Reads as in-rows-reads
-use Rattle.ac_repr.proofs.pairs.next_op.Reads as next-op-reads
-use Rattle.image.proofs.first_member.Reads as first-member-reads
 
 abbrev Inv-loop : tie.InvT-loop
 Inv-loop s im l r o from i₀ i = Ahead (tablesOf s) l r o i

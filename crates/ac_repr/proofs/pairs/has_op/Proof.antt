@@ -1,22 +1,14 @@
 use Rattle.ac_repr.proofs.Places.{ofOp, any-stop, any-more, any-end, span-within, span-members, span-rises, span-any}
 use Rattle.spec.specs.Bytes.{any}
 use lib.Seq.{slice}
-use Rattle.spec.specs.Image.{tablesOf, theClass, membersOf}
+use Rattle.spec.specs.Image.{tablesOf, membersOf}
 use borrow.Author.Needs.{needs}
-use borrow.Author.Tests.{lt-ltb, le-ltb, le-leb, lt-leb, eq-eqb, ne-eqb}
-use Prim.Native.Nat.{ℕ, zero, suc, _≤_, _<_, _-_, _+_, _*_, _^_}
+use Prim.Native.Nat.{_≤_, _-_}
 use native.Mathlib.Omega.{arith}
 use native.Mathlib.Numerals.{add-one}
-use mathlib.Core.Path.{_≡_, refl, ap, sym, _∙_}
-use mathlib.Core.Logic.{⊎-elim}
-use mathlib.Core.List.{List, [], _∷_, _++_, append-nil}
-use lib.ListN.{length, take, drop, getD, set, length-set, length-take, length-drop, length-append, drop-of-length-le}
+use mathlib.Core.Path.{_≡_, sym, _∙_}
 use Rattle.ac_repr.proofs.pairs.has_op.Statement.{statement}
 use Rattle.ac_repr.proofs.pairs.has_op.Tie as tie
-use Rattle.ac_repr.proofs.pairs.has_op.Reads as reads
-use Rattle.ac_repr.proofs.pairs.has_op.Lts as lts
-use Rattle.image.proofs.member_op.Reads as member-op-reads
-use Rattle.image.proofs.members_of.Reads as members-of-reads
 
 abbrev Inv-loop : tie.InvT-loop
 Inv-loop s im c op span i₀ i = (i ≤ span .to) × (any (ofOp op) (slice i (span .to) (tablesOf s .members)) ≡ any (ofOp op) (membersOf (tablesOf s) c))

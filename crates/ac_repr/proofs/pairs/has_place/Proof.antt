@@ -1,20 +1,8 @@
 use Rattle.ac_repr.proofs.Places.{place-op, place-past, place-end}
-use Rattle.spec.specs.Image.{tablesOf, theClass, membersOf}
-use borrow.Author.Tests.{lt-ltb, le-ltb, le-leb, lt-leb, eq-eqb, ne-eqb}
-use Prim.Native.Nat.{ℕ, zero, suc, _≤_, _<_, _-_, _+_, _*_, _^_}
-use native.Mathlib.Omega.{arith}
-use native.Mathlib.Numerals.{add-one}
-use mathlib.Core.Path.{_≡_, refl, ap, sym, _∙_}
-use mathlib.Core.Logic.{⊎-elim}
-use mathlib.Core.List.{List, [], _∷_, _++_, append-nil}
-use lib.ListN.{length, take, drop, getD, set, length-set, length-take, length-drop, length-append, drop-of-length-le}
+use Rattle.spec.specs.Image.{tablesOf}
 use borrow.Author.Needs.{needs}
 use Rattle.ac_repr.proofs.pairs.has_place.Statement.{statement}
 use Rattle.ac_repr.proofs.pairs.has_place.Tie as tie
-use Rattle.ac_repr.proofs.pairs.has_place.Reads as reads
-use Rattle.ac_repr.proofs.pairs.has_place.Lts as lts
-use Rattle.image.proofs.identity.Reads as identity-reads
-use Rattle.image.proofs.member_op.Reads as member-op-reads
 
 -- src/pairs.rt:36:16
 member-op-requires : tie.Need-member-op-requires

@@ -1,21 +1,9 @@
 use Rattle.ac_repr.proofs.Steps.{row-ends, row-goes}
 use Rattle.ac_repr.proofs.Places.{span-members, span-end}
-use Rattle.spec.specs.Image.{tablesOf, theClass, membersOf}
-use borrow.Author.Tests.{lt-ltb, le-ltb, le-leb, lt-leb, eq-eqb, ne-eqb}
-use Prim.Native.Nat.{ℕ, zero, suc, _≤_, _<_, _-_, _+_, _*_, _^_}
-use native.Mathlib.Omega.{arith}
-use native.Mathlib.Numerals.{add-one}
-use mathlib.Core.Path.{_≡_, refl, ap, sym, _∙_}
-use mathlib.Core.Logic.{⊎-elim}
-use mathlib.Core.List.{List, [], _∷_, _++_, append-nil}
-use lib.ListN.{length, take, drop, getD, set, length-set, length-take, length-drop, length-append, drop-of-length-le}
+use Rattle.spec.specs.Image.{tablesOf}
 use borrow.Author.Needs.{needs}
 use Rattle.ac_repr.proofs.pairs.in_row.Statement.{statement}
 use Rattle.ac_repr.proofs.pairs.in_row.Tie as tie
-use Rattle.ac_repr.proofs.pairs.in_row.Reads as reads
-use Rattle.ac_repr.proofs.pairs.in_row.Lts as lts
-use Rattle.ac_repr.proofs.pairs.next_place.Reads as next-place-reads
-use Rattle.image.proofs.members_of.Reads as members-of-reads
 
 -- src/pairs.rt:110:9
 members-of-requires : tie.Need-members-of-requires

@@ -1,22 +1,9 @@
 use Rattle.ac_repr.proofs.Places.{op-other, op-left, op-right}
 use borrow.Author.Tests.{not-true, not-false}
-use Rattle.spec.specs.Image.{tablesOf, theClass, membersOf}
-use borrow.Author.Tests.{lt-ltb, le-ltb, le-leb, lt-leb, eq-eqb, ne-eqb}
-use Prim.Native.Nat.{ℕ, zero, suc, _≤_, _<_, _-_, _+_, _*_, _^_}
-use native.Mathlib.Omega.{arith}
-use native.Mathlib.Numerals.{add-one}
-use mathlib.Core.Path.{_≡_, refl, ap, sym, _∙_}
-use mathlib.Core.Logic.{⊎-elim}
-use mathlib.Core.List.{List, [], _∷_, _++_, append-nil}
-use lib.ListN.{length, take, drop, getD, set, length-set, length-take, length-drop, length-append, drop-of-length-le}
+use Rattle.spec.specs.Image.{tablesOf}
 use borrow.Author.Needs.{needs}
 use Rattle.ac_repr.proofs.pairs.is_ac_op.Statement.{statement}
 use Rattle.ac_repr.proofs.pairs.is_ac_op.Tie as tie
-use Rattle.ac_repr.proofs.pairs.is_ac_op.Reads as reads
-use Rattle.ac_repr.proofs.pairs.is_ac_op.Lts as lts
-use Rattle.ac_repr.proofs.pairs.has_op.Reads as has-op-reads
-use Rattle.id.proofs.is_ac.Reads as is-ac-reads
-use Rattle.image.proofs.kind.Reads as kind-reads
 
 -- src/pairs.rt:79:19
 kind-requires : tie.Need-kind-requires

@@ -1,22 +1,10 @@
 use Rattle.ac_repr.proofs.Padding.{paddable, pads-made}
 use Rattle.ac_repr.specs.Pad.{monomialAt}
 use Rattle.spec.specs.Image.{tablesOf, identityOf}
-use borrow.Author.Tests.{lt-ltb, le-ltb, le-leb, lt-leb, eq-eqb, ne-eqb}
-use Prim.Native.Nat.{ℕ, zero, suc, _≤_, _<_, _-_, _+_, _*_, _^_}
-use native.Mathlib.Omega.{arith}
-use native.Mathlib.Numerals.{add-one}
-use mathlib.Core.Path.{_≡_, refl, ap, sym, _∙_}
-use mathlib.Core.Logic.{⊎-elim}
-use mathlib.Core.List.{List, [], _∷_, _++_, append-nil}
-use lib.ListN.{length, take, drop, getD, set, length-set, length-take, length-drop, length-append, drop-of-length-le}
+use mathlib.Core.Path.{_∙_}
 use borrow.Author.Needs.{needs}
 use Rattle.ac_repr.proofs.pairs.monomials.Statement.{statement}
 use Rattle.ac_repr.proofs.pairs.monomials.Tie as tie
-use Rattle.ac_repr.proofs.pairs.monomials.Reads as reads
-use Rattle.ac_repr.proofs.pairs.monomials.Lts as lts
-use Rattle.ac_repr.proofs.of_place.Reads as of-place-reads
-use Rattle.ac_repr.proofs.pad_pair.Reads as pad-pair-reads
-use Rattle.image.proofs.identity.Reads as identity-reads
 
 -- src/pairs.rt:226:9
 of-place-requires : tie.Need-of-place-requires

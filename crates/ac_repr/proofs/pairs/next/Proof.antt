@@ -2,22 +2,11 @@ use Rattle.ac_repr.proofs.Steps.{next-at, next-op}
 use Rattle.ac_repr.proofs.Places.{end-small}
 use Rattle.ac_repr.specs.Walk.{afterOf}
 use Rattle.image.specs.Loaded.{operations-many}
-use Rattle.spec.specs.Image.{tablesOf, theClass, membersOf}
-use borrow.Author.Tests.{lt-ltb, le-ltb, le-leb, lt-leb, eq-eqb, ne-eqb}
-use Prim.Native.Nat.{ℕ, zero, suc, _≤_, _<_, _-_, _+_, _*_, _^_}
+use Rattle.spec.specs.Image.{tablesOf}
 use native.Mathlib.Omega.{arith}
-use native.Mathlib.Numerals.{add-one}
-use mathlib.Core.Path.{_≡_, refl, ap, sym, _∙_}
-use mathlib.Core.Logic.{⊎-elim}
-use mathlib.Core.List.{List, [], _∷_, _++_, append-nil}
-use lib.ListN.{length, take, drop, getD, set, length-set, length-take, length-drop, length-append, drop-of-length-le}
 use borrow.Author.Needs.{needs}
 use Rattle.ac_repr.proofs.pairs.next.Statement.{statement}
 use Rattle.ac_repr.proofs.pairs.next.Tie as tie
-use Rattle.ac_repr.proofs.pairs.next.Reads as reads
-use Rattle.ac_repr.proofs.pairs.next.Lts as lts
-use Rattle.ac_repr.proofs.pairs.from_op.Reads as from-op-reads
-use Rattle.ac_repr.proofs.pairs.in_op.Reads as in-op-reads
 
 -- src/pairs.rt:198:16
 add-t8 : tie.Need-add-t8

@@ -1,20 +1,12 @@
 use Rattle.ac_repr.specs.WalkLaws.{first-stop, first-more, first-end}
 use Rattle.ac_repr.specs.Walk.{firstFrom, acOp}
-use Rattle.spec.specs.Image.{tablesOf, theClass, membersOf}
+use Rattle.spec.specs.Image.{tablesOf}
 use borrow.Author.Needs.{needs}
-use borrow.Author.Tests.{lt-ltb, le-ltb, le-leb, lt-leb, eq-eqb, ne-eqb}
-use Prim.Native.Nat.{ℕ, zero, suc, _≤_, _<_, _-_, _+_, _*_, _^_}
-use native.Mathlib.Omega.{arith}
+use Prim.Native.Nat.{_-_}
 use native.Mathlib.Numerals.{add-one}
-use mathlib.Core.Path.{_≡_, refl, ap, sym, _∙_}
-use mathlib.Core.Logic.{⊎-elim}
-use mathlib.Core.List.{List, [], _∷_, _++_, append-nil}
-use lib.ListN.{length, take, drop, getD, set, length-set, length-take, length-drop, length-append, drop-of-length-le}
+use mathlib.Core.Path.{_≡_, refl, sym, _∙_}
 use Rattle.ac_repr.proofs.pairs.next_op.Statement.{statement}
 use Rattle.ac_repr.proofs.pairs.next_op.Tie as tie
-use Rattle.ac_repr.proofs.pairs.next_op.Reads as reads
-use Rattle.ac_repr.proofs.pairs.next_op.Lts as lts
-use Rattle.ac_repr.proofs.pairs.is_ac_op.Reads as is-ac-op-reads
 
 abbrev Inv-loop : tie.InvT-loop
 Inv-loop s im l r o i₀ i = firstFrom (acOp (tablesOf s) l r) i (im .operations) ≡ firstFrom (acOp (tablesOf s) l r) o (im .operations)

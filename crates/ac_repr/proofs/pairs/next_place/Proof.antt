@@ -1,20 +1,13 @@
 use Rattle.ac_repr.specs.WalkLaws.{first-stop, first-more, first-end}
 use Rattle.ac_repr.specs.Walk.{firstFrom, hasPlace}
-use Rattle.spec.specs.Image.{tablesOf, theClass, membersOf}
+use Rattle.spec.specs.Image.{tablesOf}
 use borrow.Author.Needs.{needs}
-use borrow.Author.Tests.{lt-ltb, le-ltb, le-leb, lt-leb, eq-eqb, ne-eqb}
-use Prim.Native.Nat.{ℕ, zero, suc, _≤_, _<_, _-_, _+_, _*_, _^_}
+use Prim.Native.Nat.{suc, _-_}
 use native.Mathlib.Omega.{arith}
 use native.Mathlib.Numerals.{add-one}
-use mathlib.Core.Path.{_≡_, refl, ap, sym, _∙_}
-use mathlib.Core.Logic.{⊎-elim}
-use mathlib.Core.List.{List, [], _∷_, _++_, append-nil}
-use lib.ListN.{length, take, drop, getD, set, length-set, length-take, length-drop, length-append, drop-of-length-le}
+use mathlib.Core.Path.{_≡_, refl, sym, _∙_}
 use Rattle.ac_repr.proofs.pairs.next_place.Statement.{statement}
 use Rattle.ac_repr.proofs.pairs.next_place.Tie as tie
-use Rattle.ac_repr.proofs.pairs.next_place.Reads as reads
-use Rattle.ac_repr.proofs.pairs.next_place.Lts as lts
-use Rattle.ac_repr.proofs.pairs.has_place.Reads as has-place-reads
 
 abbrev Inv-loop : tie.InvT-loop
 Inv-loop s im end op x i₀ i = firstFrom (hasPlace (tablesOf s) end op) i (suc end) ≡ firstFrom (hasPlace (tablesOf s) end op) x (suc end)
