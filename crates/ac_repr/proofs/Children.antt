@@ -20,7 +20,7 @@ use Rattle.image.specs.declared.Image.{Image}
 use Rattle.image.specs.declared.Span.{Span}
 use Rattle.ac_repr.specs.Terms.{terms, held, front, Holds, Roomy}
 use Rattle.ac_repr.specs.Pad.{Made, monomialAt}
-use Rattle.ac_repr.proofs.Buffer.{terms-length}
+use Rattle.ac_repr.specs.TermLaws.{terms-length}
 use Rattle.ac_repr.proofs.Insert.{held-length}
 
 -- ---- what is at the front

@@ -13,7 +13,7 @@ use lib.Seq.{drop-cons, paste, take-take, take-add, drop-at, getD-take, length-t
 use Rattle.spec.specs.Bytes.{Two, sum}
 use Rattle.spec.specs.Monomial.{Monomial, insertAdd, total}
 use Rattle.ac_repr.specs.Terms.{terms, held, position, Holds, Roomy}
-use Rattle.ac_repr.proofs.Buffer.{terms-length}
+use Rattle.ac_repr.specs.TermLaws.{terms-length}
 
 -- ---- position
 pub held-length : (n : ℕ) (s : List ℕ) → length s ≡ 130 → n ≤ 65 → length (held n s) ≡ n

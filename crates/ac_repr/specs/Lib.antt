@@ -1,4 +1,5 @@
 pub mod Terms
+pub mod TermLaws
 pub mod Pad
 pub mod Walk
 pub mod WalkLaws

@@ -8,7 +8,7 @@ use lib.ListN.{length}
 use Rattle.spec.specs.Bytes.{pick, both, all}
 use Rattle.spec.specs.Image.{Tables, NO-IDENTITY, theClass, theMember, childrenOf}
 use Rattle.spec.specs.Monomial.{Monomial, MonomialPair, insertAdd, addAll, monomial, total, itself, pairOf, bothItself, narrow}
-use Rattle.ac_repr.specs.Terms.{terms, held, front, Holds}
+use Rattle.ac_repr.specs.Terms.{TERMS, NUMBERS, terms, held, front, Holds}
 use Rattle.ac_repr.specs.declared.Padded.{Padded}
 use Rattle.ac_repr.specs.declared.Padded.the-variants.{Pair, Nothing}
 
@@ -55,7 +55,7 @@ answerOf l r identity a b = pick (bothItself l r a b) Nothing (paddedOf identity
 
 -- "At most 65 rows and 65 columns."
 abbrev pub Few : Padded → Type 0
-Few (Pair n m) = (n ≤ 65) × (m ≤ 65)
+Few (Pair n m) = (n ≤ TERMS) × (m ≤ TERMS)
 Few Nothing = Unit
 
 -- What padding a and b leaves: the answer, and both buffers whole.
@@ -67,8 +67,8 @@ pub record Pads (want : Padded) (identity : ℕ) (a b : Monomial) (s u s′ u′
 
 -- Both buffers hold monomials of classes whose totals stay within 64 bits, with room for the identity.
 pub record Paddable (n m : ℕ) (s u : List ℕ) : Type 0 where
-  pub numbersLeft : length s ≡ 130
-  pub numbersRight : length u ≡ 130
+  pub numbersLeft : length s ≡ NUMBERS
+  pub numbersRight : length u ≡ NUMBERS
   pub fewLeft : n ≤ 64
   pub fewRight : m ≤ 64
   pub smallLeft : total (held n s) ≤ TOTAL

@@ -7,6 +7,14 @@ use lib.ListN.{length, take, drop}
 use Rattle.spec.specs.Bytes.{Two, pick}
 use Rattle.spec.specs.Monomial.{Monomial, total}
 
+-- 64 children and the identity
+abbrev pub TERMS : ℕ
+TERMS = 65
+
+-- the length of a buffer
+abbrev pub NUMBERS : ℕ
+NUMBERS = 130
+
 unfoldable pub terms : List ℕ → List Two
 terms [] = []
 terms (x ∷ []) = []
@@ -29,8 +37,8 @@ pub record Holds (m : Monomial) (s s′ : List ℕ) (r : ℕ) : Type 0 where
   pub len : r ≡ length m
   pub whole : terms s′ ≡ front m (terms s)
 
--- The buffer has its 130 numbers, there is room for one term more, and adding k to a count stays within 64 bits.
+-- The buffer has its length, there is room for one term more, and adding k to a count stays within 64 bits.
 pub record Roomy (n k : ℕ) (s : List ℕ) : Type 0 where
-  pub numbers : length s ≡ 130
-  pub room : n < 65
+  pub numbers : length s ≡ NUMBERS
+  pub room : n < TERMS
   pub fits : total (held n s) + k < 2 ^ 64

@@ -1,4 +1,4 @@
-// Monomials of members (ac_repr.rs): sums lined up class by class, in a lent buffer of 65 terms, 64 children and the identity.
+// Monomials of members (ac_repr.rs): sums lined up class by class, in a lent buffer.
 ghost use mathlib.Core.Path.{_≡_};
 ghost use mathlib.Core.List.{_∷_};
 ghost use Prim.Native.Nat.{ℕ, _+_, _≤_, _<_, _^_};
@@ -9,29 +9,34 @@ ghost use Rattle.spec.specs.Image.{tablesOf, theMember, childrenOf};
 ghost use Rattle.spec.specs.Monomial.{insertAdd, monomial, total, narrow, itself, bothItself};
 ghost use Rattle.laws.specs.Valid.{Valid};
 ghost use Rattle.image.specs.Loaded.{Loaded, theChild};
-ghost use Rattle.ac_repr.specs.Terms.{terms, held, position, Holds, Roomy};
+ghost use Rattle.ac_repr.specs.Terms.{TERMS, NUMBERS, terms, held, position, Holds, Roomy};
 ghost use Rattle.ac_repr.specs.Pad.{TOTAL, Made, monomialAt, levelBy, unmatched, bothNarrow, paddedOf, answerOf, Pads, Paddable};
 use image::Image;
 
 pub mod pairs;
 
+// 64 children and the identity, and the length of a buffer that holds them.
+pub const TERMS: usize = 65;
+
+pub const NUMBERS: usize = 2 * TERMS;
+
 // ---- a term: its class and its count
 pub fn class_at(mono: &[u64], i: usize) -> u64
-    requires { ⌜ (length (now mono) ≡ 130) × (i < 65) ⌝ }
+    requires { ⌜ (length (now mono) ≡ NUMBERS) × (i < TERMS) ⌝ }
     ensures { λ r. ⌜ r ≡ getD (terms (now (mono .entry))) i (0, 0) .0 ⌝ }
 {
     mono[2 * i]
 }
 
 pub fn count_at(mono: &[u64], i: usize) -> u64
-    requires { ⌜ (length (now mono) ≡ 130) × (i < 65) ⌝ }
+    requires { ⌜ (length (now mono) ≡ NUMBERS) × (i < TERMS) ⌝ }
     ensures { λ r. ⌜ r ≡ getD (terms (now (mono .entry))) i (0, 0) .1 ⌝ }
 {
     mono[2 * i + 1]
 }
 
 fn put_term(mono: &mut [u64], i: usize, c: u64, k: u64)
-    requires { ⌜ (length (now mono) ≡ 130) × (i < 65) ⌝ }
+    requires { ⌜ (length (now mono) ≡ NUMBERS) × (i < TERMS) ⌝ }
     ensures { λ _. ⌜ terms (now (mono .exit)) ≡ set (terms (now (mono .entry))) i (c, k) ⌝ }
 {
     let at = 2 * i;
@@ -41,7 +46,7 @@ fn put_term(mono: &mut [u64], i: usize, c: u64, k: u64)
 
 // The first of n places whose class is not below c.
 fn place(mono: &[u64], n: usize, c: u64) -> usize
-    requires { ⌜ (length (now mono) ≡ 130) × (n ≤ 65) ⌝ }
+    requires { ⌜ (length (now mono) ≡ NUMBERS) × (n ≤ TERMS) ⌝ }
     ensures { λ r. ⌜ (r ≡ position c (held n (now (mono .entry)))) × (r ≤ n) ⌝ }
 {
     let mut i = 0;
@@ -56,7 +61,7 @@ fn place(mono: &[u64], n: usize, c: u64) -> usize
 
 // The term (c, k) at place p, and the n terms that stood there one place up.
 fn insert_term(mono: &mut [u64], p: usize, n: usize, c: u64, k: u64)
-    requires { ⌜ (length (now mono) ≡ 130) × (p + n < 65) ⌝ }
+    requires { ⌜ (length (now mono) ≡ NUMBERS) × (p + n < TERMS) ⌝ }
     ensures { λ _. ⌜ terms (now (mono .exit)) ≡ paste (terms (now (mono .entry))) p ((c, k) ∷ drop p (terms (now (mono .entry)))) (n + 1) ⌝ }
 {
     let mut x = c;
@@ -109,7 +114,7 @@ fn add_child(s: &[u8], im: Image, k: usize, mono: &mut [u64], n: usize) -> usize
 
 // "Classes rising, counts of one class added."
 fn of_member(s: &[u8], im: Image, m: usize, mono: &mut [u64]) -> usize
-    requires { ⌜ Loaded (now s) im × Valid (tablesOf (now s)) × (m < im .members) × (length (now mono) ≡ 130) ⌝ }
+    requires { ⌜ Loaded (now s) im × Valid (tablesOf (now s)) × (m < im .members) × (length (now mono) ≡ NUMBERS) ⌝ }
     ensures { λ r. ⌜ Made (monomial (childrenOf (tablesOf (now (s .entry))) (theMember (tablesOf (now (s .entry))) m))) (now (mono .entry)) (now (mono .exit)) r ⌝ }
 {
     let span = image::children_of(s, im, m);
@@ -124,7 +129,7 @@ fn of_member(s: &[u8], im: Image, m: usize, mono: &mut [u64]) -> usize
 
 // "the monomial of itself once"
 fn itself(mono: &mut [u64], c: usize) -> usize
-    requires { ⌜ length (now mono) ≡ 130 ⌝ }
+    requires { ⌜ length (now mono) ≡ NUMBERS ⌝ }
     ensures { λ r. ⌜ Made (itself c) (now (mono .entry)) (now (mono .exit)) r ⌝ }
 {
     put_term(mono, 0, long(c), 1);
@@ -133,7 +138,7 @@ fn itself(mono: &mut [u64], c: usize) -> usize
 
 // The monomial at place x of class c: of its member x, or of the class itself once where x is past its members.
 fn of_place(s: &[u8], im: Image, c: usize, x: usize, mono: &mut [u64]) -> usize
-    requires { ⌜ Loaded (now s) im × Valid (tablesOf (now s)) × (c < im .classes) × (length (now mono) ≡ 130) ⌝ }
+    requires { ⌜ Loaded (now s) im × Valid (tablesOf (now s)) × (c < im .classes) × (length (now mono) ≡ NUMBERS) ⌝ }
     ensures { λ r. ⌜ Made (monomialAt (tablesOf (now (s .entry))) c x) (now (mono .entry)) (now (mono .exit)) r ⌝ }
 {
     let span = image::members_of(s, im, c);
@@ -145,7 +150,7 @@ fn of_place(s: &[u8], im: Image, c: usize, x: usize, mono: &mut [u64]) -> usize
 
 // ---- a pair of monomials: padding, both classes as themselves, narrowing
 pub fn total(mono: &[u64], n: usize) -> u64
-    requires { ⌜ (length (now mono) ≡ 130) × (n ≤ 65) × (total (held n (now mono)) < 2 ^ 64) ⌝ }
+    requires { ⌜ (length (now mono) ≡ NUMBERS) × (n ≤ TERMS) × (total (held n (now mono)) < 2 ^ 64) ⌝ }
     ensures { λ r. ⌜ r ≡ total (held n (now (mono .entry))) ⌝ }
 {
     let mut sum: u64 = 0;
@@ -159,7 +164,7 @@ pub fn total(mono: &[u64], n: usize) -> u64
 
 // No count is above 4,294,967,295.
 fn narrow(mono: &[u64], n: usize) -> bool
-    requires { ⌜ (length (now mono) ≡ 130) × (n ≤ 65) ⌝ }
+    requires { ⌜ (length (now mono) ≡ NUMBERS) × (n ≤ TERMS) ⌝ }
     ensures { λ r. ⌜ r ≡ narrow (held n (now (mono .entry))) ⌝ }
 {
     let mut i = 0;
@@ -173,7 +178,7 @@ fn narrow(mono: &[u64], n: usize) -> bool
 }
 
 fn both_narrow(left: &[u64], n: usize, right: &[u64], m: usize) -> bool
-    requires { ⌜ (length (now left) ≡ 130) × (n ≤ 65) × (length (now right) ≡ 130) × (m ≤ 65) ⌝ }
+    requires { ⌜ (length (now left) ≡ NUMBERS) × (n ≤ TERMS) × (length (now right) ≡ NUMBERS) × (m ≤ TERMS) ⌝ }
     ensures { λ r. ⌜ r ≡ bothNarrow (held n (now (left .entry))) (held m (now (right .entry))) ⌝ }
 {
     if narrow(left, n) {
@@ -184,7 +189,7 @@ fn both_narrow(left: &[u64], n: usize, right: &[u64], m: usize) -> bool
 
 // The monomial is class c itself once.
 fn is_itself(mono: &[u64], n: usize, c: usize) -> bool
-    requires { ⌜ (length (now mono) ≡ 130) × (n ≤ 65) ⌝ }
+    requires { ⌜ (length (now mono) ≡ NUMBERS) × (n ≤ TERMS) ⌝ }
     ensures { λ r. ⌜ r ≡ sameTwos (held n (now (mono .entry))) (itself c) ⌝ }
 {
     if n != 1 {
@@ -197,7 +202,7 @@ fn is_itself(mono: &[u64], n: usize, c: usize) -> bool
 }
 
 fn both_itself(left: &[u64], n: usize, l: usize, right: &[u64], m: usize, r: usize) -> bool
-    requires { ⌜ (length (now left) ≡ 130) × (n ≤ 65) × (length (now right) ≡ 130) × (m ≤ 65) ⌝ }
+    requires { ⌜ (length (now left) ≡ NUMBERS) × (n ≤ TERMS) × (length (now right) ≡ NUMBERS) × (m ≤ TERMS) ⌝ }
     ensures { λ x. ⌜ x ≡ bothItself l r (held n (now (left .entry))) (held m (now (right .entry))) ⌝ }
 {
     if is_itself(left, n, l) {
@@ -217,7 +222,7 @@ fn unmatched(id: usize, a: u64, b: u64) -> bool
 
 // The monomial of n terms, whose total is a, with the identities that it lacks where the other's total is b.
 fn level(mono: &mut [u64], n: usize, id: usize, a: u64, b: u64) -> usize
-    requires { ⌜ (length (now mono) ≡ 130) × (n ≤ 64) × (a ≡ total (held n (now mono))) × (b ≤ TOTAL) ⌝ }
+    requires { ⌜ (length (now mono) ≡ NUMBERS) × (n ≤ 64) × (a ≡ total (held n (now mono))) × (b ≤ TOTAL) ⌝ }
     ensures { λ r. ⌜ Holds (levelBy id (held n (now (mono .entry))) a b) (now (mono .entry)) (now (mono .exit)) r ⌝ }
 {
     if a < b {

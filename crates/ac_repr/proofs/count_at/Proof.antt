@@ -1,4 +1,4 @@
-use Rattle.ac_repr.proofs.Buffer.{terms-at}
+use Rattle.ac_repr.specs.TermLaws.{terms-at}
 use Rattle.spec.specs.Bytes.{Two}
 use native.Mathlib.Omega.{arith}
 use mathlib.Core.Path.{ap, sym}

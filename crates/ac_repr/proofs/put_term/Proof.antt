@@ -1,4 +1,4 @@
-use Rattle.ac_repr.proofs.Buffer.{terms-set}
+use Rattle.ac_repr.specs.TermLaws.{terms-set}
 use native.Mathlib.Omega.{arith}
 use lib.ListN.{length-set}
 use borrow.Author.Needs.{needs}
