@@ -24,7 +24,7 @@ pad-pair-requires c κs =
     let v = c .before .before .before .before .before in
     let u = v .before .before .before .before in
     let b = u .before .before .before .before .before in
-    paddable (monomialAt (tablesOf (b .args .s .now)) (b .args .l) (b .args .w .a)) (monomialAt (tablesOf (b .args .s .now)) (b .args .r) (b .args .w .b)) (b .args .left .now) (b .args .right .now)
+    paddable _ _ (b .args .left .now) (b .args .right .now)
     (u .of-place .last .1 .1 .1 .1 .0) (v .of-place2 .last .1 .1 .1 .1 .0) (u .of-place .result) (v .of-place2 .result)
     (u .of-place .kept .1 .1 .1 .1 .0 ∙ b .pre .5) (v .of-place2 .kept .1 .1 .1 .1 .0 ∙ b .pre .6) (u .of-place .ensures) (v .of-place2 .ensures)
 
