@@ -2,19 +2,19 @@
 use mathlib.Core.Path.{_≡_}
 use mathlib.Core.Bool.{Bool, true, false}
 use mathlib.Core.List.{List, [], _∷_}
-use Prim.Native.Nat.{ℕ, _+_, _-_, _≤_}
+use Prim.Native.Nat.{ℕ, _+_, _*_, _-_, _≤_}
 use lib.Dec.{ltb, eqb}
 use lib.ListN.{length}
 use Rattle.spec.specs.Bytes.{pick, both, all}
 use Rattle.spec.specs.Image.{Tables, NO-IDENTITY, theClass, theMember, childrenOf}
-use Rattle.spec.specs.Monomial.{Monomial, MonomialPair, insertAdd, addAll, monomial, total, itself, pairOf, bothItself, narrow}
+use Rattle.spec.specs.Monomial.{Monomial, MonomialPair, insertAdd, addAll, monomial, total, itself, pairOf, bothItself, narrow, COUNT}
 use Rattle.ac_repr.specs.Terms.{TERMS, NUMBERS, terms, held, front, Holds}
 use Rattle.ac_repr.specs.declared.Padded.{Padded}
 use Rattle.ac_repr.specs.declared.Padded.the-variants.{Pair, Nothing}
 
 -- the total of 64 children of 32-bit counts
 abbrev pub TOTAL : ℕ
-TOTAL = 274877906880
+TOTAL = 64 * COUNT
 
 -- A member's monomial, or a class itself once, has at most 64 terms and this total.
 pub record Made (m : Monomial) (s s′ : List ℕ) (r : ℕ) : Type 0 where
@@ -65,7 +65,7 @@ pub record Pads (want : Padded) (identity : ℕ) (a b : Monomial) (s u s′ u′
   pub cols : terms u′ ≡ front (levelled identity b a) (terms u)
   pub few : Few x
 
--- Both buffers hold monomials of classes whose totals stay within 64 bits, with room for the identity.
+-- Both buffers hold monomials as `Made` says, with room for the identity.
 pub record Paddable (n m : ℕ) (s u : List ℕ) : Type 0 where
   pub numbersLeft : length s ≡ NUMBERS
   pub numbersRight : length u ≡ NUMBERS

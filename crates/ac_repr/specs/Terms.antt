@@ -32,7 +32,7 @@ position c (t ∷ m) = pick (ltb (t .0) c) (suc (position c m)) 0
 abbrev pub front : Monomial → List Two → List Two
 front m l = m ++ drop (length m) l
 
--- What a function that writes m leaves: the number of m's terms, and the whole buffer.
+-- What a function that writes m leaves: the number of m's terms, and the whole buffer (its terms fix it: `terms-whole` of TermLaws).
 pub record Holds (m : Monomial) (s s′ : List ℕ) (r : ℕ) : Type 0 where
   pub len : r ≡ length m
   pub whole : terms s′ ≡ front m (terms s)

@@ -163,15 +163,16 @@ module _ (t : Tables) (l r o : ℕ) where
       ∙ rw (monomials-places t l o a, monomials-places t r o b) (by-places (placesFrom t (endOf t l) o (theClass t l .first)) (placesFrom t (endOf t r) o (theClass t r .first)))
 
 -- ---- all of them
-module _ (t : Tables) (v : Valid t) (l r : ℕ) (a : l < length (t .classes)) (b : r < length (t .classes)) where
-  operations-all : acOps t l r ≡ passing (acOp t l r) 0 (length (t .operations))
-  unfolding acOps passing acOp
-  operations-all = rw (sub-zero (length (t .operations))) refl
+-- the operations that `next_op` finds one after the other
+pub operations-all : (t : Tables) (l r : ℕ) → acOps t l r ≡ passing (acOp t l r) 0 (length (t .operations))
+unfolding acOps passing acOp
+operations-all t l r = rw (sub-zero (length (t .operations))) refl
 
+module _ (t : Tables) (v : Valid t) (l r : ℕ) (a : l < length (t .classes)) (b : r < length (t .classes)) where
   by-operations : each (λ o. map (action o) (narrowPairs (representationPairs t l r o))) (acOps t l r) ≡ each (actionsAt t l r) (pairsFrom t l r 0)
   unfolding pairsFrom
   by-operations =
-      rw operations-all
+      rw (operations-all t l r)
       (each-same (λ o. map (action o) (narrowPairs (representationPairs t l r o))) (λ o. each (actionsAt t l r) (rows t l r o (theClass t l .first))) (passing (acOp t l r) 0 (length (t .operations)))
       (λ o. operation-pairs t l r o (membersWithin t v l a) (membersWithin t v r b))
       ∙ sym (each-each (actionsAt t l r) (λ o. rows t l r o (theClass t l .first)) (passing (acOp t l r) 0 (length (t .operations)))))
