@@ -2,7 +2,8 @@
 use mathlib.Core.Path.{_≡_, refl, sym, ap, _∙_}
 use mathlib.Core.Bool.{Bool, true, false, not}
 use mathlib.Core.List.{List, [], _∷_, _++_}
-use Prim.Native.Nat.{ℕ, suc, _≤_, _<_}
+use Prim.Native.Nat.{ℕ, _+_, suc, _≤_, _<_}
+use native.Mathlib.Numerals.{add-one}
 use native.Mathlib.Omega.{arith}
 use borrow.Author.Tests.{lt-ltb, le-ltb, eq-eqb, ne-eqb}
 use lib.Dec.{eqb}
@@ -15,8 +16,20 @@ use Rattle.laws.specs.AcceptedUses.{membersWithin}
 use Rattle.image.specs.Loaded.{Loaded, memberSpan, classes-many, members-many}
 use Rattle.image.specs.declared.Image.{Image}
 use Rattle.image.specs.declared.Span.{Span}
-use Rattle.ac_repr.specs.Walk.{hasPlace, acOp, endOf}
+use Rattle.ac_repr.specs.WalkLaws.{first-stop, first-more, first-end}
+use Rattle.ac_repr.specs.Walk.{firstFrom, hasPlace, acOp, endOf}
 use Rattle.ac_repr.proofs.Children.{children-slice}
+
+-- ---- the scan for the first number that passes, at number i
+module _ (p : ℕ → Bool) (x e i : ℕ) (inv : firstFrom p i e ≡ firstFrom p x e) where
+  pub turn-stop : (b : Bool) → i < e → b ≡ p i → b ≡ true → i ≡ firstFrom p x e
+  turn-stop b h q z = sym (first-stop p i e h (sym q ∙ z)) ∙ inv
+
+  pub turn-more : (b : Bool) → i < e → b ≡ p i → b ≡ false → firstFrom p (i + 1) e ≡ firstFrom p x e
+  turn-more b h q z = rw add-one (sym (first-more p i e h (sym q ∙ z)) ∙ inv)
+
+  pub turn-end : e ≤ i → i ≡ firstFrom p x e
+  turn-end h = sym (first-end p i e h) ∙ inv
 
 -- ---- a place
 module _ (t : Tables) (end o x : ℕ) where

@@ -1,10 +1,9 @@
-use Rattle.ac_repr.specs.WalkLaws.{first-stop, first-more, first-end}
+use Rattle.ac_repr.proofs.Places.{turn-stop, turn-more, turn-end}
 use Rattle.ac_repr.specs.Walk.{firstFrom, acOp}
 use Rattle.spec.specs.Image.{tablesOf}
 use borrow.Author.Needs.{needs}
 use Prim.Native.Nat.{_-_}
-use native.Mathlib.Numerals.{add-one}
-use mathlib.Core.Path.{_≡_, refl, sym, _∙_}
+use mathlib.Core.Path.{_≡_, refl}
 use Rattle.ac_repr.proofs.pairs.next_op.Statement.{statement}
 use Rattle.ac_repr.proofs.pairs.next_op.Tie as tie
 
@@ -27,7 +26,7 @@ returns : tie.Need-returns Inv-loop μ-loop
 returns c =
     let l = c .before .before .before .before in
     let b = l .before .before in
-    sym (first-stop (acOp (tablesOf (b .args .s .now)) (b .args .l) (b .args .r)) (l .loop .i) (b .args .im .operations) (c .before .before .if1 .taken) (sym (c .before .is-ac-op .ensures) ∙ c .if2 .taken)) ∙ l .loop .inv
+    turn-stop (acOp (tablesOf (b .args .s .now)) (b .args .l) (b .args .r)) (b .args .o) (b .args .im .operations) (l .loop .i) (l .loop .inv) (c .before .is-ac-op .result) (c .before .before .if1 .taken) (c .before .is-ac-op .ensures) (c .if2 .taken)
 
 -- src/pairs.rt:98:9
 add-i : tie.Need-add-i Inv-loop μ-loop
@@ -42,14 +41,14 @@ loop-again : tie.Need-loop-again Inv-loop μ-loop
 loop-again c =
     let l = c .before .before .before .before in
     let b = l .before .before in
-    rw add-one (sym (first-more (acOp (tablesOf (b .args .s .now)) (b .args .l) (b .args .r)) (l .loop .i) (b .args .im .operations) (c .before .before .if1 .taken) (sym (c .before .is-ac-op .ensures) ∙ c .if2 .left)) ∙ l .loop .inv)
+    turn-more (acOp (tablesOf (b .args .s .now)) (b .args .l) (b .args .r)) (b .args .o) (b .args .im .operations) (l .loop .i) (l .loop .inv) (c .before .is-ac-op .result) (c .before .before .if1 .taken) (c .before .is-ac-op .ensures) (c .if2 .left)
 
 -- src/pairs.rt:89:1
 returns-2 : tie.Need-returns-2 Inv-loop μ-loop
 returns-2 c =
     let l = c .before .before in
     let b = l .before .before in
-    sym (first-end (acOp (tablesOf (b .args .s .now)) (b .args .l) (b .args .r)) (l .loop .i) (b .args .im .operations) (c .if1 .left)) ∙ l .loop .inv
+    turn-end (acOp (tablesOf (b .args .s .now)) (b .args .l) (b .args .r)) (b .args .o) (b .args .im .operations) (l .loop .i) (l .loop .inv) (c .if1 .left)
 
 pub next-op-spec : {M : Type 1} → statement M
 next-op-spec =

@@ -1,11 +1,10 @@
-use Rattle.ac_repr.specs.WalkLaws.{first-stop, first-more, first-end}
+use Rattle.ac_repr.proofs.Places.{turn-stop, turn-more, turn-end}
 use Rattle.ac_repr.specs.Walk.{firstFrom, hasPlace}
 use Rattle.spec.specs.Image.{tablesOf}
 use borrow.Author.Needs.{needs}
 use Prim.Native.Nat.{suc, _-_}
 use native.Mathlib.Omega.{arith}
-use native.Mathlib.Numerals.{add-one}
-use mathlib.Core.Path.{_≡_, refl, sym, _∙_}
+use mathlib.Core.Path.{_≡_, refl}
 use Rattle.ac_repr.proofs.pairs.next_place.Statement.{statement}
 use Rattle.ac_repr.proofs.pairs.next_place.Tie as tie
 
@@ -28,7 +27,7 @@ returns : tie.Need-returns Inv-loop μ-loop
 returns c =
     let l = c .before .before .before in
     let b = l .before .before in
-    sym (first-stop (hasPlace (tablesOf (b .args .s .now)) (b .args .end) (b .args .op)) (l .loop .i) (suc (b .args .end)) (omega arith) (sym (c .before .has-place .ensures) ∙ c .if1 .taken)) ∙ l .loop .inv
+    turn-stop (hasPlace (tablesOf (b .args .s .now)) (b .args .end) (b .args .op)) (b .args .x) (suc (b .args .end)) (l .loop .i) (l .loop .inv) (c .before .has-place .result) (omega arith) (c .before .has-place .ensures) (c .if1 .taken)
 
 -- src/pairs.rt:54:9
 add-i : tie.Need-add-i Inv-loop μ-loop
@@ -43,13 +42,14 @@ loop-again : tie.Need-loop-again Inv-loop μ-loop
 loop-again c =
     let l = c .before .before .before in
     let b = l .before .before in
-    rw add-one (sym (first-more (hasPlace (tablesOf (b .args .s .now)) (b .args .end) (b .args .op)) (l .loop .i) (suc (b .args .end)) (omega arith) (sym (c .before .has-place .ensures) ∙ c .if1 .left)) ∙ l .loop .inv)
+    turn-more (hasPlace (tablesOf (b .args .s .now)) (b .args .end) (b .args .op)) (b .args .x) (suc (b .args .end)) (l .loop .i) (l .loop .inv) (c .before .has-place .result) (omega arith) (c .before .has-place .ensures) (c .if1 .left)
 
 -- src/pairs.rt:45:1
 returns-2 : tie.Need-returns-2 Inv-loop μ-loop
 returns-2 c =
-    let b = c .before .before .before in
-    sym (first-end (hasPlace (tablesOf (b .args .s .now)) (b .args .end) (b .args .op)) (c .before .loop .i) (suc (b .args .end)) (omega arith)) ∙ c .before .loop .inv
+    let l = c .before in
+    let b = l .before .before in
+    turn-end (hasPlace (tablesOf (b .args .s .now)) (b .args .end) (b .args .op)) (b .args .x) (suc (b .args .end)) (l .loop .i) (l .loop .inv) (omega arith)
 
 pub next-place-spec : {M : Type 1} → statement M
 next-place-spec =
