@@ -13,10 +13,9 @@ use Rattle.spec.specs.Image.{Tables, NO-IDENTITY, identityOf}
 use Rattle.spec.specs.Monomial.{Monomial, MonomialPair, total, pairOf, padPair, bothItself, narrow, narrowPairs}
 use Rattle.laws.specs.Monomials.{total-insert}
 use Rattle.ac_repr.specs.Terms.{terms, held}
-use Rattle.ac_repr.specs.Pad.{monomialAt, levelled, unmatched, bothNarrow, paddedOf, answerOf, sidesOf, Pads}
-use Rattle.ac_repr.specs.Walk.{actionOver, actionsAt}
+use Rattle.ac_repr.specs.Pad.{monomialAt, levelled, unmatched, bothNarrow, paddedOf, answerOf, sidesOf}
+use Rattle.ac_repr.specs.Walk.{actionOver, actionsAt, Answered}
 use Rattle.ac_repr.specs.declared.pairs.Walk.{Walk}
-use Rattle.ac_repr.specs.declared.Padded.{Padded}
 use Rattle.ac_repr.specs.declared.Padded.the-variants.{Pair, Nothing}
 
 -- ---- the definitions' pair, by what the buffers hold
@@ -92,16 +91,12 @@ levels identity a b h = step (eqb (total a) (total b)) refl (eqb identity NO-IDE
 
 -- ---- what a caller of `monomials` knows
 module _ (t : Tables) (l r : ℕ) (w : Walk) (s u s′ u′ : List ℕ) where
-  abbrev pub Answered : Padded → Type 0
-  Answered x =
-      Pads (answerOf l r (identityOf t (w .op)) (monomialAt t l (w .a)) (monomialAt t r (w .b))) (identityOf t (w .op)) (monomialAt t l (w .a)) (monomialAt t r (w .b)) s u s′ u′ x
-
   -- no action at this pair of places
-  pub action-none : Answered Nothing → actionsAt t l r w ≡ []
+  pub action-none : Answered t l r w s u s′ u′ Nothing → actionsAt t l r w ≡ []
   unfolding actionsAt actionOver
   action-none d = rw (sides-are (identityOf t (w .op)) (monomialAt t l (w .a)) (monomialAt t r (w .b)) l r, ← d .answer) refl
 
-  module _ (n m : ℕ) (d : Answered (Pair n m)) where
+  module _ (n m : ℕ) (d : Answered t l r w s u s′ u′ (Pair n m)) where
     A : Monomial
     A = levelled (identityOf t (w .op)) (monomialAt t l (w .a)) (monomialAt t r (w .b))
 

@@ -10,7 +10,8 @@ use Rattle.spec.specs.Bytes.{pick, both, any, filter, each, upFrom, place, same
 use Rattle.spec.specs.Image.{Tables, NO-IDENTITY, isAC, kindOf, identityOf, theClass, theMember, membersOf}
 use Rattle.spec.specs.Monomial.{Monomial, bothItself, padPair, narrowPairs}
 use Rattle.spec.specs.Action.{TransportAction}
-use Rattle.ac_repr.specs.Pad.{monomialAt}
+use Rattle.ac_repr.specs.Pad.{monomialAt, answerOf, Pads}
+use Rattle.ac_repr.specs.declared.Padded.{Padded}
 use Rattle.ac_repr.specs.declared.pairs.Walk.{Walk}
 use Rattle.ac_repr.specs.declared.pairs.Step.{Step}
 use Rattle.ac_repr.specs.declared.pairs.Step.the-variants.{At, End}
@@ -129,3 +130,8 @@ actionOver t l r o a b =
 unfoldable pub actionsAt : Tables → ℕ → ℕ → Walk → List TransportAction
 unfolding monomialAt actionOver
 actionsAt t l r w = actionOver t l r (w .op) (monomialAt t l (w .a)) (monomialAt t r (w .b))
+
+-- What `monomials` leaves at a pair of places: the answer, and both buffers whole.
+abbrev pub Answered : Tables → ℕ → ℕ → Walk → List ℕ → List ℕ → List ℕ → List ℕ → Padded → Type 0
+Answered t l r w s u s′ u′ x =
+    Pads (answerOf l r (identityOf t (w .op)) (monomialAt t l (w .a)) (monomialAt t r (w .b))) (identityOf t (w .op)) (monomialAt t l (w .a)) (monomialAt t r (w .b)) s u s′ u′ x

@@ -1,13 +1,9 @@
 -- The walk on a small image, by evaluation: order, the class itself once, both classes as themselves, padding.
 use mathlib.Core.Path.{_≡_, refl}
-use mathlib.Core.List.{List, [], _∷_}
-use Prim.Native.Nat.{ℕ}
+use mathlib.Core.List.{[], _∷_}
 use Rattle.spec.specs.Image.{Tables}
 use Rattle.spec.specs.Monomial.{pairOf}
-use Rattle.spec.specs.Action.{TransportAction, transports}
-use Rattle.ac_repr.specs.Pad.{monomialAt}
 use Rattle.ac_repr.specs.Walk.{walkAt, allWalks, walks, afterOf, actionsAt}
-use Rattle.ac_repr.specs.declared.pairs.Walk.{Walk}
 
 -- operation 0 Lit, 1 MSet with identity class 0; class 2 holds operation 1 over 1:1 0:2 1:3, class 3 operation 1 over 1:2
 unfoldable pub small : Tables

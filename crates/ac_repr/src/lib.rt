@@ -1,7 +1,7 @@
 // Monomials of members (ac_repr.rs): sums lined up class by class, in a lent buffer.
 ghost use mathlib.Core.Path.{_≡_};
 ghost use mathlib.Core.List.{_∷_};
-ghost use Prim.Native.Nat.{ℕ, _+_, _≤_, _<_, _^_};
+ghost use Prim.Native.Nat.{_+_, _≤_, _<_, _^_};
 ghost use lib.ListN.{length, getD, set, drop};
 ghost use lib.Seq.{paste};
 ghost use Rattle.spec.specs.Bytes.{sameTwos};

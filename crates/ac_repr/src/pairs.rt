@@ -1,17 +1,15 @@
 // Walking through the representation pairs of two classes in the Rust's order, without storing them: a state by value and a step.
 // From `first`, over `next`, to `End` the actions that `monomials` finds are the transports of the two classes, in order (specs/Transports: left-first, left-next, left-end; specs/Sides: action-one, action-none).
 ghost use mathlib.Core.Path.{_≡_};
-ghost use mathlib.Core.List.{_∷_};
-ghost use Prim.Native.Nat.{ℕ, suc, _+_, _≤_, _<_};
+ghost use Prim.Native.Nat.{suc, _≤_, _<_};
 ghost use lib.Dec.{eqb};
 ghost use lib.ListN.{length};
 ghost use Rattle.spec.specs.Bytes.{any};
-ghost use Rattle.spec.specs.Image.{tablesOf, theClass, identityOf, membersOf};
+ghost use Rattle.spec.specs.Image.{tablesOf, membersOf};
 ghost use Rattle.laws.specs.Valid.{Valid};
-ghost use Rattle.image.specs.Loaded.{Loaded, memberSpan};
+ghost use Rattle.image.specs.Loaded.{Loaded};
 ghost use Rattle.ac_repr.specs.Terms.{NUMBERS};
-ghost use Rattle.ac_repr.specs.Pad.{monomialAt, answerOf, Pads};
-ghost use Rattle.ac_repr.specs.Walk.{firstFrom, hasPlace, endOf, row, rows, under, acOp, pairsFrom, walks, allWalks, afterOf, Within, InRow, InOp, Stepped};
+ghost use Rattle.ac_repr.specs.Walk.{firstFrom, hasPlace, rows, under, acOp, pairsFrom, walks, allWalks, afterOf, Within, InRow, InOp, Stepped, Answered};
 ghost use Rattle.ac_repr.specs.declared.pairs.Step.the-variants.{At};
 use crate::Padded;
 use crate::of_place;
@@ -217,9 +215,7 @@ pub fn monomials(
     right: &mut [u64],
 ) -> Padded
     requires { ⌜ Loaded (now s) im × Valid (tablesOf (now s)) × (l < im .classes) × (r < im .classes) × (w .op < im .operations) × (length (now left) ≡ NUMBERS) × (length (now right) ≡ NUMBERS) ⌝ }
-    ensures { λ x. ⌜ Pads (answerOf l r (identityOf (tablesOf (now (s .entry))) (w .op)) (monomialAt (tablesOf (now (s .entry))) l (w .a)) (monomialAt (tablesOf (now (s .entry))) r (w .b)))
-        (identityOf (tablesOf (now (s .entry))) (w .op)) (monomialAt (tablesOf (now (s .entry))) l (w .a)) (monomialAt (tablesOf (now (s .entry))) r (w .b))
-        (now (left .entry)) (now (right .entry)) (now (left .exit)) (now (right .exit)) x ⌝ }
+    ensures { λ x. ⌜ Answered (tablesOf (now (s .entry))) l r w (now (left .entry)) (now (right .entry)) (now (left .exit)) (now (right .exit)) x ⌝ }
 {
     let n = of_place(s, im, l, w.a, left);
     let m = of_place(s, im, r, w.b, right);
