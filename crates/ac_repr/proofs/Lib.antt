@@ -1,0 +1,7 @@
+pub mod Buffer
+pub mod Insert
+pub mod Scans
+pub mod Children
+pub mod Padding
+pub mod Places
+pub mod Steps

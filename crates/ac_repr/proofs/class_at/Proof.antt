@@ -1,0 +1,28 @@
+use Rattle.ac_repr.specs.TermLaws.{terms-at}
+use Rattle.spec.specs.Bytes.{Two}
+use native.Mathlib.Omega.{arith}
+use mathlib.Core.Path.{ap, sym}
+use borrow.Author.Needs.{needs}
+use Rattle.ac_repr.proofs.class_at.Statement.{statement}
+use Rattle.ac_repr.proofs.class_at.Tie as tie
+
+-- src/lib.rt:15:10
+mul-result : tie.Need-mul-result
+mul-result c = search needs
+
+-- src/lib.rt:15:5
+mul-result-2 : tie.Need-mul-result-2
+mul-result-2 c = search needs
+
+-- src/lib.rt:15:5
+shared-slice-read-result : tie.Need-shared-slice-read-result
+shared-slice-read-result c = search needs
+
+-- src/lib.rt:11:1
+returns : tie.Need-returns
+returns c =
+    let a = c .before .args in
+    sym (ap (λ (t : Two). t .0) (terms-at (a .mono .now) (a .i) (omega arith)))
+
+pub class-at-spec : {M : Type 1} → statement M
+class-at-spec = tie.close (tie.spec mul-result mul-result-2 shared-slice-read-result returns)

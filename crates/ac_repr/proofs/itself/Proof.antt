@@ -1,0 +1,26 @@
+use Rattle.ac_repr.proofs.Children.{itself-made}
+use borrow.Author.Needs.{needs}
+use Rattle.ac_repr.proofs.itself.Statement.{statement}
+use Rattle.ac_repr.proofs.itself.Tie as tie
+
+-- src/lib.rt:128:23
+long-requires : tie.Need-long-requires
+long-requires c κs = search needs
+
+-- src/lib.rt:128:5
+put-term-requires : tie.Need-put-term-requires
+put-term-requires c κs = search needs
+
+-- src/lib.rt:124:1
+same-length : tie.Need-same-length
+same-length c = search needs
+
+-- src/lib.rt:124:1
+returns : tie.Need-returns
+returns c =
+    let p = c .before .before in
+    let b = p .before .before .before .before in
+    itself-made (b .args .c) (p .before .long .result) (b .args .mono .now) (p .put-term .last .0) (b .pre) (p .before .long .ensures) (p .put-term .ensures)
+
+pub itself-spec : {M : Type 1} → statement M
+itself-spec = tie.close (tie.spec long-requires put-term-requires same-length returns)

@@ -1,0 +1,8 @@
+pub mod Terms
+pub mod TermLaws
+pub mod Pad
+pub mod Walk
+pub mod WalkLaws
+pub mod Transports
+pub mod Sides
+pub mod WalkTests
