@@ -1,0 +1,4 @@
+pub mod Again
+pub mod BigLit
+pub mod Shared
+pub mod Walk

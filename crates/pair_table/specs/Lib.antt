@@ -1,0 +1,4 @@
+pub mod Enter
+pub mod Lists
+pub mod Search
+pub mod Table
