@@ -30,7 +30,7 @@ outcome-full at count len m n e h f g = rw (le-ltb at (min count len) (omega (ar
 
 -- ---- the parts of `enter`
 module _ (s : List Pair) (count : ℕ) (p : Two) where
-  length-held : length (held s count) ≡ min count (length s)
+  pub length-held : length (held s count) ≡ min count (length s)
   length-held = length-map (take count s) twoOf ∙ length-take count s
 
   -- found: before the end of what is held, and it is the pair

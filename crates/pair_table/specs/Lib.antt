@@ -1,4 +1,6 @@
+pub mod Clear
 pub mod Enter
 pub mod Lists
+pub mod Refines
 pub mod Search
 pub mod Table
