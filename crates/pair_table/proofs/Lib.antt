@@ -1,4 +1,3 @@
 pub mod Again
-pub mod BigLit
 pub mod Shared
 pub mod Walk

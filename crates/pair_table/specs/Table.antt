@@ -1,5 +1,5 @@
 -- "The pair table is a lent slice of records, searched from its start": what the functions on it give, and what they leave.
-use Prim.Native.Nat.{ℕ, zero, suc, min}
+use Prim.Native.Nat.{ℕ, zero, suc, _+_, min}
 use mathlib.Core.Bool.{Bool, true, false}
 use mathlib.Core.List.{List, map}
 use lib.Dec.{ltb}
@@ -56,4 +56,4 @@ stillNew fresh Full = false
 -- n pairs from number k on, each entered after the k before it: whether each was new there, and the table
 abbrev pub enterFrom : List ℕ → List ℕ → ℕ → ℕ → Bool → List Pair → Bool × List Pair
 enterFrom ls rs zero k fresh s = (fresh, s)
-enterFrom ls rs (suc n) k fresh s = enterFrom ls rs n (suc k) (stillNew fresh (enterOf s k (getD ls k 0, getD rs k 0))) (tableAfter s k (getD ls k 0, getD rs k 0))
+enterFrom ls rs (suc n) k fresh s = enterFrom ls rs n (k + 1) (stillNew fresh (enterOf s k (getD ls k 0, getD rs k 0))) (tableAfter s k (getD ls k 0, getD rs k 0))
