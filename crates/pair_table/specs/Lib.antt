@@ -1,5 +1,6 @@
 pub mod Clear
 pub mod Enter
+pub mod From
 pub mod Lists
 pub mod Refines
 pub mod Search
