@@ -1,0 +1,7 @@
+pub mod Clear
+pub mod Enter
+pub mod From
+pub mod Lists
+pub mod Refines
+pub mod Search
+pub mod Table

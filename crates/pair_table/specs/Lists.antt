@@ -1,0 +1,109 @@
+-- Laws of lists and numbers that the table rests on. Assumes nothing.
+use mathlib.Core.Path.{_≡_, refl, sym, ap, _∙_}
+use mathlib.Core.Bool.{Bool, true, false, not}
+use mathlib.Core.List.{List, [], _∷_, _++_}
+use Prim.Native.Nat.{ℕ, zero, suc, _≤_, _<_, min}
+use native.Mathlib.Nat.{zero-min, min-zero, suc-min-suc, not-suc-le-zero, le-of-suc-le-suc}
+use native.Mathlib.Omega.{arith}
+use lib.Dec.{T, eqb, ltb}
+use lib.ListN.{length, getD, take, drop, set}
+use borrow.Author.Tests.{eqb-true, ltb-false}
+use Rattle.spec.specs.Bytes.{any, place, Two, sameTwo}
+
+-- ---- truth values
+pub is-true : (t : Bool) → T t → t ≡ true
+is-true true _ = refl
+is-true false a = absurd a
+
+pub is-false : (t : Bool) → T (not t) → t ≡ false
+is-false true a = absurd a
+is-false false _ = refl
+
+pub not-less : (a b : ℕ) → T (not (ltb a b)) → b ≤ a
+not-less a b h = ltb-false a b (is-false (ltb a b) h)
+
+pub clash : true ≡ false → ⊥
+clash e = let y : _≡_ {A = ℕ} 0 1 = cc in omega arith
+
+-- ---- pairs of numbers
+pub same-eq : (p q : Two) → sameTwo p q ≡ true → p ≡ q
+same-eq p q e = go (eqb (p .0) (q .0)) refl (eqb (p .1) (q .1)) refl
+  where
+    go : (x : Bool) → eqb (p .0) (q .0) ≡ x → (y : Bool) → eqb (p .1) (q .1) ≡ y → p ≡ q
+    go true a true b = let c = eqb-true (p .0) (q .0) a in let d = eqb-true (p .1) (q .1) b in λ i. (c i, d i)
+    go true a false b = absurd (clash (sym (rw (a, b) at e)))
+    go false a y b = absurd (clash (sym (rw a at e)))
+
+module _ {A : Type 0} where
+  -- ---- reading, taking and setting
+  pub drop-cons : (s : List A) (i : ℕ) (d : A) → i < length s → drop i s ≡ getD s i d ∷ drop (suc i) s
+  drop-cons [] i d h = absurd (not-suc-le-zero h)
+  drop-cons (x ∷ s) zero d h = refl
+  drop-cons (x ∷ s) (suc i) d h = drop-cons s i d (le-of-suc-le-suc h)
+
+  pub take-min : (c : ℕ) (s : List A) → take (min c (length s)) s ≡ take c s
+  take-min zero s = ap (λ (k : ℕ). take k s) (zero-min (length s))
+  take-min (suc c) [] = ap (λ (k : ℕ). take {A = A} k []) (min-zero (suc c))
+  take-min (suc c) (x ∷ s) = ap (λ (k : ℕ). take k (x ∷ s)) (suc-min-suc c (length s)) ∙ ap (λ (r : List A). x ∷ r) (take-min c s)
+
+  pub getD-take : (c : ℕ) (s : List A) (k : ℕ) (d : A) → k < length (take c s) → getD (take c s) k d ≡ getD s k d
+  getD-take zero s k d h = absurd (not-suc-le-zero h)
+  getD-take (suc c) [] k d h = refl
+  getD-take (suc c) (x ∷ s) zero d h = refl
+  getD-take (suc c) (x ∷ s) (suc k) d h = getD-take c s k d (le-of-suc-le-suc h)
+
+  pub set-same : (s : List A) (i : ℕ) (d : A) → set s i (getD s i d) ≡ s
+  set-same [] i d = refl
+  set-same (x ∷ s) zero d = refl
+  set-same (x ∷ s) (suc i) d = ap (λ (r : List A). x ∷ r) (set-same s i d)
+
+  -- nothing is set past the end
+  pub set-past : (s : List A) (i : ℕ) (y : A) → length s ≤ i → set s i y ≡ s
+  set-past [] i y l = refl
+  set-past (x ∷ s) zero y l = absurd (not-suc-le-zero l)
+  set-past (x ∷ s) (suc i) y l = ap (λ (r : List A). x ∷ r) (set-past s i y (le-of-suc-le-suc l))
+
+  pub take-set : (s : List A) (i : ℕ) (y : A) → i < length s → take (suc i) (set s i y) ≡ take i s ++ (y ∷ [])
+  take-set [] i y l = absurd (not-suc-le-zero l)
+  take-set (x ∷ s) zero y l = refl
+  take-set (x ∷ s) (suc i) y l = ap (λ (r : List A). x ∷ r) (take-set s i y (le-of-suc-le-suc l))
+
+  pub take-all : (s : List A) (i : ℕ) → length s ≤ i → take i s ≡ s
+  take-all [] zero l = refl
+  take-all [] (suc i) l = refl
+  take-all (x ∷ s) zero l = absurd (not-suc-le-zero l)
+  take-all (x ∷ s) (suc i) l = ap (λ (r : List A). x ∷ r) (take-all s i (le-of-suc-le-suc l))
+
+  pub take-next : (s : List A) (i : ℕ) (d : A) → i < length s → take (suc i) s ≡ take i s ++ (getD s i d ∷ [])
+  take-next [] i d l = absurd (not-suc-le-zero l)
+  take-next (x ∷ s) zero d l = refl
+  take-next (x ∷ s) (suc i) d l = ap (λ (r : List A). x ∷ r) (take-next s i d (le-of-suc-le-suc l))
+
+  -- ---- the first entry that passes
+  module _ (f : A → Bool) where
+    pub place-some : (l : List A) → any f l ≡ true → place f l < length l
+    unfolding place any
+    place-some [] h = absurd (clash (sym h))
+    place-some (x ∷ l) h = go (f x) refl (place-some l)
+      where
+        go : (b : Bool) → f x ≡ b → (any f l ≡ true → place f l < length l) → place f (x ∷ l) < suc (length l)
+        go true e ih = rw (e, place) (omega arith)
+        go false e ih = let z : any f (x ∷ l) ≡ any f l = rw (e, any) refl in rw (e, place) (omega (arith, ih (sym z ∙ h)))
+
+    pub place-none : (l : List A) → any f l ≡ false → place f l ≡ length l
+    unfolding place any
+    place-none [] h = refl
+    place-none (x ∷ l) h = go (f x) refl (place-none l)
+      where
+        go : (b : Bool) → f x ≡ b → (any f l ≡ false → place f l ≡ length l) → place f (x ∷ l) ≡ suc (length l)
+        go true e ih = let z : any f (x ∷ l) ≡ true = rw (e, any) refl in absurd (clash (sym z ∙ h))
+        go false e ih = let z : any f (x ∷ l) ≡ any f l = rw (e, any) refl in rw (e, place) (ap suc (ih (sym z ∙ h)))
+
+    pub place-passes : (d : A) (l : List A) → any f l ≡ true → f (getD l (place f l) d) ≡ true
+    unfolding place any
+    place-passes d [] h = absurd (clash (sym h))
+    place-passes d (x ∷ l) h = go (f x) refl (place-passes d l)
+      where
+        go : (b : Bool) → f x ≡ b → (any f l ≡ true → f (getD l (place f l) d) ≡ true) → f (getD (x ∷ l) (place f (x ∷ l)) d) ≡ true
+        go true e ih = rw (e, place) e
+        go false e ih = let z : any f (x ∷ l) ≡ any f l = rw (e, any) refl in rw (e, place) (ih (sym z ∙ h))

@@ -1,0 +1,153 @@
+// The pair table: "a lent slice of records, searched from its start". What decides is on values; the functions that hold the slice only index, call and loop.
+ghost use mathlib.Core.Path.{_≡_};
+ghost use mathlib.Core.Bool.{true};
+ghost use Prim.Native.Nat.{min, _-_};
+ghost use lib.ListN.{length, getD};
+ghost use Rattle.spec.specs.Bytes.{sameTwo, workAfter};
+ghost use Rattle.spec.specs.Graph.{PAIRS};
+ghost use Rattle.pair_table.specs.Table.{none, twoOf, findOf, putIn, outcomeOf, enterOf, tableAfter, stillNew, enterFrom};
+
+#[repr(C)]
+pub struct Pair {
+    pub left: u16,
+    pub right: u16,
+}
+
+// A pair was there already, was entered, or there was no room.
+pub enum Entered {
+    At(usize),
+    New(usize),
+    Full,
+}
+
+// How many pairs there may be.
+pub const PAIRS: usize = 4096;
+
+fn is_pair(p: Pair, left: u16, right: u16) -> bool
+    ensures { λ r. ⌜ r ≡ sameTwo (left, right) (twoOf p) ⌝ }
+{
+    if left == p.left {
+        right == p.right
+    } else {
+        false
+    }
+}
+
+fn least(a: usize, b: usize) -> usize
+    ensures { λ r. ⌜ r ≡ min a b ⌝ }
+{
+    if a < b {
+        return a;
+    }
+    b
+}
+
+// How many records a table of `len` may hold.
+fn room(len: usize) -> usize
+    ensures { λ r. ⌜ r ≡ min PAIRS len ⌝ }
+{
+    least(PAIRS, len)
+}
+
+// What became of a pair that was found at `at`, with `count` records in use in a table of `len`.
+fn outcome(at: usize, count: usize, len: usize) -> Entered
+    ensures { λ r. ⌜ r ≡ outcomeOf at count len ⌝ }
+{
+    if at < least(count, len) {
+        return Entered::At(at);
+    }
+    if count < room(len) {
+        return Entered::New(count);
+    }
+    Entered::Full
+}
+
+// The length of the table.
+pub fn length_of(table: &[Pair]) -> usize
+    ensures { λ r. ⌜ r ≡ length (now (table .entry)) ⌝ }
+{
+    table.len()
+}
+
+// The place of the first of `count` records that is the pair, or `count`.
+pub fn find(table: &[Pair], count: usize, left: u16, right: u16) -> usize
+    ensures { λ r. ⌜ r ≡ findOf (now (table .entry)) count (left, right) ⌝ }
+{
+    let end = least(count, table.len());
+    let mut i = 0;
+    while i < end {
+        if is_pair(table[i], left, right) {
+            return i;
+        }
+        i = i + 1;
+    }
+    i
+}
+
+// Puts a record below the limit; nothing is written past the end. Gives the length.
+fn put_in(table: &mut [Pair], i: usize, p: Pair) -> usize
+    ensures { λ r. ⌜ (r ≡ length (now (table .entry))) × (now (table .exit) ≡ putIn (now (table .entry)) i p) ⌝ }
+{
+    let len = table.len();
+    if i < room(len) {
+        table[i] = p;
+    }
+    len
+}
+
+// Looks a pair up among `count` records, or enters it after them.
+pub fn enter(table: &mut [Pair], count: usize, left: u16, right: u16) -> Entered
+    ensures { λ r. ⌜ (r ≡ enterOf (now (table .entry)) count (left, right)) × (now (table .exit) ≡ tableAfter (now (table .entry)) count (left, right)) ⌝ }
+{
+    let at = find(table, count, left, right);
+    let len = put_in(table, at, Pair { left, right });
+    outcome(at, count, len)
+}
+
+// Every record (0, 0).
+pub fn clear_table(table: &mut [Pair])
+    ensures { λ _. ⌜ now (table .exit) ≡ workAfter none true (now (table .entry)) ⌝ }
+{
+    let mut i = 0;
+    while i < table.len() {
+        table[i] = Pair { left: 0, right: 0 };
+        i = i + 1;
+    }
+}
+
+// A number of a plain slice; 0 past the end.
+fn word_at(s: &[u16], i: usize) -> u16
+    ensures { λ r. ⌜ r ≡ getD (now (s .entry)) i 0 ⌝ }
+{
+    if i < s.len() {
+        return s[i];
+    }
+    0
+}
+
+// Whether this pair, as those before it, was new.
+fn still_new(fresh: bool, e: Entered) -> bool
+    ensures { λ r. ⌜ r ≡ stillNew fresh e ⌝ }
+{
+    match e {
+        Entered::New(i) => fresh,
+        Entered::At(i) => false,
+        Entered::Full => false,
+    }
+}
+
+// Enters the pairs numbered from..to of two plain slices, each at its own number, and answers whether each was new there.
+pub fn enter_from(table: &mut [Pair], lefts: &[u16], rights: &[u16], from: usize, to: usize) -> bool
+    ensures { λ r. ⌜ (r ≡ enterFrom (now (lefts .entry)) (now (rights .entry)) (to - from) from true (now (table .entry)) .0) × (now (table .exit) ≡ enterFrom (now (lefts .entry)) (now (rights .entry)) (to - from) from true (now (table .entry)) .1) ⌝ }
+{
+    let mut fresh = true;
+    let mut k = from;
+    while k < to {
+        let l = word_at(lefts, k);
+        let r = word_at(rights, k);
+        let e = enter(table, k, l, r);
+        fresh = still_new(fresh, e);
+        k = k + 1;
+    }
+    fresh
+}
