@@ -1,2 +1,10 @@
 pub mod Valid
 pub mod Monomials
+pub mod Entries
+pub mod AcceptedLists
+pub mod AcceptedSpans
+pub mod AcceptedRules
+pub mod AcceptedLiterals
+pub mod Accepted
+pub mod AcceptedUses
+pub mod AcceptedTurns

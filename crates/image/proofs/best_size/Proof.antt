@@ -1,0 +1,34 @@
+use Rattle.spec.specs.Image.{Class}
+use Rattle.image.proofs.Laws.{class-is}
+use mathlib.Core.Path.{ap, sym, _∙_}
+use borrow.Author.Needs.{needs}
+use Rattle.image.proofs.best_size.Statement.{statement}
+use Rattle.image.proofs.best_size.Tie as tie
+use Rattle.image.proofs.best_size.Reads as reads
+use Rattle.image.proofs.best_size.Lts as lts
+use Rattle.image.proofs.be4.Reads as be4-reads
+
+-- src/lib.rt:136:28
+mul-be4 : tie.Need-mul-be4
+mul-be4 c = search needs
+
+-- src/lib.rt:136:12
+add-be4 : tie.Need-add-be4
+add-be4 c = search needs
+
+-- src/lib.rt:136:12
+add-be4-2 : tie.Need-add-be4-2
+add-be4-2 c = search needs
+
+-- src/lib.rt:136:5
+be4-requires : tie.Need-be4-requires
+be4-requires c κs = search needs
+
+-- src/lib.rt:132:1
+returns : tie.Need-returns
+returns c =
+    let b = c .before .before .before in
+    (c .be4 .ensures .0 ∙ sym (ap (λ (x : Class). x .size) (class-is (b .args .s .now) (b .args .im) (b .pre .0) (b .args .c) (b .pre .1))), c .be4 .ensures .1)
+
+pub best-size-spec : {M : Type 1} → statement M
+best-size-spec = tie.close (tie.spec mul-be4 add-be4 add-be4-2 be4-requires returns)

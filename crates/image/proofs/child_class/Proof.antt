@@ -1,0 +1,30 @@
+use Rattle.spec.specs.Bytes.{Two}
+use Rattle.image.proofs.Laws.{child-is}
+use mathlib.Core.Path.{ap, sym, _∙_}
+use borrow.Author.Needs.{needs}
+use Rattle.image.proofs.child_class.Statement.{statement}
+use Rattle.image.proofs.child_class.Tie as tie
+use Rattle.image.proofs.child_class.Reads as reads
+use Rattle.image.proofs.child_class.Lts as lts
+use Rattle.image.proofs.be2.Reads as be2-reads
+
+-- src/lib.rt:173:29
+mul-be2 : tie.Need-mul-be2
+mul-be2 c = search needs
+
+-- src/lib.rt:173:12
+add-be2 : tie.Need-add-be2
+add-be2 c = search needs
+
+-- src/lib.rt:173:5
+be2-requires : tie.Need-be2-requires
+be2-requires c κs = search needs
+
+-- src/lib.rt:169:1
+returns : tie.Need-returns
+returns c =
+    let b = c .before .before .before in
+    (c .be2 .ensures .0 ∙ sym (ap (λ (x : Two). x .0) (child-is (b .args .s .now) (b .args .im) (b .pre .0) (b .args .k) (b .pre .1))), c .be2 .ensures .1)
+
+pub child-class-spec : {M : Type 1} → statement M
+child-class-spec = tie.close (tie.spec mul-be2 add-be2 be2-requires returns)

@@ -1,0 +1,28 @@
+use Rattle.image.proofs.Laws.{span-is}
+use native.Mathlib.Omega.{arith}
+use borrow.Author.Needs.{needs}
+use Rattle.image.proofs.children_of.Statement.{statement}
+use Rattle.image.proofs.children_of.Tie as tie
+use Rattle.image.proofs.children_of.Reads as reads
+use Rattle.image.proofs.children_of.Lts as lts
+use Rattle.image.proofs.child_count.Reads as child-count-reads
+use Rattle.image.proofs.first_child.Reads as first-child-reads
+
+-- src/lib.rt:205:9
+first-child-requires : tie.Need-first-child-requires
+first-child-requires c κs = search needs
+
+-- src/lib.rt:208:20
+child-count-requires : tie.Need-child-count-requires
+child-count-requires c κs = search needs
+
+-- src/lib.rt:208:13
+add-t6 : tie.Need-add-t6
+add-t6 c = search needs
+
+-- src/lib.rt:201:1
+returns : tie.Need-returns
+returns c = (span-is (c .before .first-child .ensures .0) (c .child-count .ensures .0), omega arith)
+
+pub children-of-spec : {M : Type 1} → statement M
+children-of-spec = tie.close (tie.spec first-child-requires child-count-requires add-t6 returns)

@@ -1,0 +1,34 @@
+use Rattle.spec.specs.Image.{Operation}
+use Rattle.image.proofs.Laws.{operation-is}
+use mathlib.Core.Path.{ap, sym, _∙_}
+use borrow.Author.Needs.{needs}
+use Rattle.image.proofs.identity.Statement.{statement}
+use Rattle.image.proofs.identity.Tie as tie
+use Rattle.image.proofs.identity.Reads as reads
+use Rattle.image.proofs.identity.Lts as lts
+use Rattle.image.proofs.be2.Reads as be2-reads
+
+-- src/lib.rt:107:28
+mul-be2 : tie.Need-mul-be2
+mul-be2 c = search needs
+
+-- src/lib.rt:107:12
+add-be2 : tie.Need-add-be2
+add-be2 c = search needs
+
+-- src/lib.rt:107:12
+add-be2-2 : tie.Need-add-be2-2
+add-be2-2 c = search needs
+
+-- src/lib.rt:107:5
+be2-requires : tie.Need-be2-requires
+be2-requires c κs = search needs
+
+-- src/lib.rt:103:1
+returns : tie.Need-returns
+returns c =
+    let b = c .before .before in
+    (c .be2 .ensures .0 ∙ sym (ap (λ (x : Operation). x .identity) (operation-is (b .args .s .now) (b .args .im) (b .pre .0) (b .args .o) (b .pre .1))), c .be2 .ensures .1)
+
+pub identity-spec : {M : Type 1} → statement M
+identity-spec = tie.close (tie.spec mul-be2 add-be2 add-be2-2 be2-requires returns)

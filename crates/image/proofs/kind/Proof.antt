@@ -1,0 +1,34 @@
+use Rattle.spec.specs.Image.{Operation}
+use Rattle.image.proofs.Laws.{operation-is}
+use mathlib.Core.Path.{ap, sym, _∙_}
+use borrow.Author.Needs.{needs}
+use Rattle.image.proofs.kind.Statement.{statement}
+use Rattle.image.proofs.kind.Tie as tie
+use Rattle.image.proofs.kind.Reads as reads
+use Rattle.image.proofs.kind.Lts as lts
+use Rattle.image.proofs.byte.Reads as byte-reads
+
+-- src/lib.rt:92:28
+mul-byte : tie.Need-mul-byte
+mul-byte c = search needs
+
+-- src/lib.rt:92:12
+add-byte : tie.Need-add-byte
+add-byte c = search needs
+
+-- src/lib.rt:92:10
+shared-slice-read-byte : tie.Need-shared-slice-read-byte
+shared-slice-read-byte c = search needs
+
+-- src/lib.rt:92:5
+byte-requires : tie.Need-byte-requires
+byte-requires c κs = search needs
+
+-- src/lib.rt:88:1
+returns : tie.Need-returns
+returns c =
+    let b = c .before .before .before in
+    (c .byte .ensures .0 ∙ sym (ap (λ (x : Operation). x .kind) (operation-is (b .args .s .now) (b .args .im) (b .pre .0) (b .args .o) (b .pre .1))), c .byte .ensures .1)
+
+pub kind-spec : {M : Type 1} → statement M
+kind-spec = tie.close (tie.spec mul-byte add-byte shared-slice-read-byte byte-requires returns)

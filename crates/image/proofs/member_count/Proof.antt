@@ -1,0 +1,34 @@
+use Rattle.spec.specs.Image.{Class}
+use Rattle.image.proofs.Laws.{class-is}
+use mathlib.Core.Path.{ap, sym, _∙_}
+use borrow.Author.Needs.{needs}
+use Rattle.image.proofs.member_count.Statement.{statement}
+use Rattle.image.proofs.member_count.Tie as tie
+use Rattle.image.proofs.member_count.Reads as reads
+use Rattle.image.proofs.member_count.Lts as lts
+use Rattle.image.proofs.be2.Reads as be2-reads
+
+-- src/lib.rt:122:28
+mul-be2 : tie.Need-mul-be2
+mul-be2 c = search needs
+
+-- src/lib.rt:122:12
+add-be2 : tie.Need-add-be2
+add-be2 c = search needs
+
+-- src/lib.rt:122:12
+add-be2-2 : tie.Need-add-be2-2
+add-be2-2 c = search needs
+
+-- src/lib.rt:122:5
+be2-requires : tie.Need-be2-requires
+be2-requires c κs = search needs
+
+-- src/lib.rt:118:1
+returns : tie.Need-returns
+returns c =
+    let b = c .before .before .before in
+    (c .be2 .ensures .0 ∙ sym (ap (λ (x : Class). x .count) (class-is (b .args .s .now) (b .args .im) (b .pre .0) (b .args .c) (b .pre .1))), c .be2 .ensures .1)
+
+pub member-count-spec : {M : Type 1} → statement M
+member-count-spec = tie.close (tie.spec mul-be2 add-be2 add-be2-2 be2-requires returns)
