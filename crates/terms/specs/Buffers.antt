@@ -56,7 +56,7 @@ abbrev pub nodeOf : ℕ → ℕ → List ℕ → Node
 nodeOf h v l = record { head = h / 64; op = h % 64; value = v; runs = map unpack l }
 
 abbrev pub lengthIn : List ℕ → ℕ → ℕ
-lengthIn terms i = firstIn terms (suc i) - firstIn terms i
+lengthIn terms i = firstIn terms (i + 1) - firstIn terms i
 
 abbrev pub partIn : List ℕ → List ℕ → ℕ → List ℕ
 partIn terms runs i = part runs (firstIn terms i) (lengthIn terms i)

@@ -40,7 +40,7 @@ pub record Holds (terms runs : List ℕ) : Type 0 where
   pub roomy : RUNS ≤ length runs
   pub few : countIn terms ≤ TERMS
   pub begins : firstIn terms 0 ≡ 0
-  pub rises : (i : ℕ) → i < countIn terms → firstIn terms i ≤ firstIn terms (suc i)
+  pub rises : (i : ℕ) → i < countIn terms → firstIn terms i ≤ firstIn terms (i + 1)
   pub ends : firstIn terms (countIn terms) ≤ RUNS
   pub chained : Chained terms runs (countIn terms)
   pub valid : PoolValid (poolOf terms runs)

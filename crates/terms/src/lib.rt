@@ -148,7 +148,15 @@ fn is_term(terms: &[u32], runs: &[u64], t: usize, list: &[u64], n: usize, h: u32
 }
 
 // the node's number plus 1, along the chain of its key; 0 where it is not there
-fn look_up(terms: &[u32], runs: &[u64], bucket: usize, list: &[u64], n: usize, h: u32, v: u32) -> usize
+fn look_up(
+    terms: &[u32],
+    runs: &[u64],
+    bucket: usize,
+    list: &[u64],
+    n: usize,
+    h: u32,
+    v: u32,
+) -> usize
     requires { ⌜ Holds (now terms) (now runs) × (n ≤ length (now list)) × (bucket ≡ keyOf h v (part (now list) 0 n)) × (bucket < 4096) ⌝ }
     ensures { λ r. ⌜ Sought (now (terms .entry)) (now (runs .entry)) (nodeOf h v (part (now (list .entry)) 0 n)) r ⌝ }
 {
@@ -191,4 +199,45 @@ fn put_chain(terms: &mut [u32], t: usize, bucket: usize)
     put(terms, t * 4 + 3, old);
     put(terms, BUCKET + bucket, short(t + 1));
     put(terms, COUNT, short(t + 1));
+}
+
+// the term after the last one, in the chain of its key
+fn enter(terms: &mut [u32], runs: &mut [u64], bucket: usize, list: &[u64], n: usize, h: u32, v: u32)
+    requires { ⌜ Holds (now terms) (now runs) × (countIn (now terms) < 16384) × (firstIn (now terms) (countIn (now terms)) + n ≤ 65536) × (n ≤ length (now list)) × (bucket < 4096) ⌝ }
+    ensures { λ _. ⌜ (now (terms .exit) ≡ enterTerm (now (terms .entry)) h v n bucket) × (now (runs .exit) ≡ enterRuns (now (terms .entry)) (now (runs .entry)) (now (list .entry)) n) ⌝ }
+{
+    let t = count(terms);
+    let from = first(terms, t);
+    copy_runs(runs, from, list, n);
+    put_term(terms, t, h, v, short(from + n));
+    put_chain(terms, t, bucket);
+}
+
+// The term with head and operation h, value v and the n runs of list: found, or entered.
+pub fn intern(
+    terms: &mut [u32],
+    runs: &mut [u64],
+    list: &[u64],
+    n: usize,
+    h: u32,
+    v: u32,
+) -> Entered
+    requires { ⌜ Holds (now terms) (now runs) × NodeValid (countIn (now terms)) (nodeOf h v (part (now list) 0 n)) × (n ≤ length (now list)) ⌝ }
+    ensures { λ r. ⌜ Interning (now (terms .entry)) (now (runs .entry)) (now (list .entry)) n h v (now (terms .exit)) (now (runs .exit)) r ⌝ }
+{
+    let bucket = key(list, n, h, v);
+    let found = look_up(terms, runs, bucket, list, n, h, v);
+    if 0 < found {
+        return Entered::Term(found - 1);
+    }
+    let t = count(terms);
+    if t >= TERMS {
+        return Entered::Full;
+    }
+    let from = first(terms, t);
+    if n > RUNS - from {
+        return Entered::Full;
+    }
+    enter(terms, runs, bucket, list, n, h, v);
+    Entered::Term(t)
 }
