@@ -6,3 +6,5 @@ pub mod PoolLaws
 pub mod ChainLaws
 pub mod EnterLaws
 pub mod InternLaws
+pub mod Joining
+pub mod JoinLaws

@@ -1,11 +1,13 @@
 // The term pool: terms over runs of (child, count), neighbours with the same child joined; a term's number is its place.
 ghost use mathlib.Core.Path.{_≡_};
-ghost use Prim.Native.Nat.{ℕ, suc, _+_, _*_, _-_, _≤_, _<_};
+ghost use Prim.Native.Nat.{ℕ, suc, _+_, _*_, _-_, _^_, _≤_, _<_};
 ghost use lib.ListN.{length, getD, set};
 ghost use lib.Seq.{paste};
 ghost use Rattle.lgg.specs.Pool.{NodeValid};
 ghost use Rattle.terms.specs.Buffers.{COUNT, NUMBERS, firstIn, headIn, valueIn, chainIn, bucketIn, countIn, part, nodeOf, nodeIn};
 ghost use Rattle.terms.specs.Chains.{mixOf, fold, keyOf, keyIn, Holds};
+ghost use Rattle.terms.specs.Joining.{appendNumber, joinedIn, Begins};
+ghost use Rattle.spec.specs.Bytes.{sum};
 ghost use Rattle.terms.specs.Interning.{Tells, Sought, putTerm, putChain, enterTerm, enterRuns, Interning};
 
 pub const TERMS: usize = 16384;
@@ -240,4 +242,45 @@ pub fn intern(
     }
     enter(terms, runs, bucket, list, n, h, v);
     Entered::Term(t)
+}
+
+// ---- joining
+fn put8(s: &mut [u64], at: usize, v: u64)
+    requires { ⌜ at < length (now s) ⌝ }
+    ensures { λ _. ⌜ now (s .exit) ≡ set (now (s .entry)) at v ⌝ }
+{
+    s[at] = v;
+}
+
+// the run x at the end of m joined runs
+fn append(list: &mut [u64], m: usize, x: u64) -> usize
+    requires { ⌜ (m < length (now list)) × (sum (part (now list) 0 m) + x < 2 ^ 64) ⌝ }
+    ensures { λ r. ⌜ Begins (appendNumber (part (now (list .entry)) 0 m) x) (now (list .entry)) (now (list .exit)) r ⌝ }
+{
+    if m == 0 {
+        put8(list, 0, x);
+        return 1;
+    }
+    let y = list[m - 1];
+    if y % 16384 == x % 16384 {
+        put8(list, m - 1, y + x / 16384 * 16384);
+        return m;
+    }
+    put8(list, m, x);
+    m + 1
+}
+
+// the first n runs of list joined in place: how many they are then
+pub fn join_runs(list: &mut [u64], n: usize) -> usize
+    requires { ⌜ (n ≤ length (now list)) × (sum (part (now list) 0 n) < 2 ^ 64) ⌝ }
+    ensures { λ r. ⌜ Begins (joinedIn (now (list .entry)) n) (now (list .entry)) (now (list .exit)) r ⌝ }
+{
+    let mut m = 0;
+    let mut i = 0;
+    while i < n {
+        let x = list[i];
+        m = append(list, m, x);
+        i += 1;
+    }
+    m
 }
