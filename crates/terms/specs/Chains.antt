@@ -1,8 +1,9 @@
 -- Chains: terms with the same key stand in one chain, which a search for a node walks.
 use mathlib.Core.Path.{_≡_}
 use mathlib.Core.List.{List, [], _∷_}
-use Prim.Native.Nat.{ℕ, zero, suc, _+_, _*_, _-_, _/_, _%_, _≤_, _<_}
+use Prim.Native.Nat.{ℕ, zero, suc, _+_, _*_, _-_, _/_, _%_, _^_, _≤_, _<_}
 use lib.ListN.{length, getD}
+use Rattle.spec.specs.Bytes.{sum}
 use Rattle.spec.specs.Pool.{TERMS, RUNS}
 use Rattle.lgg.specs.Pool.{PoolValid}
 use Rattle.terms.specs.Buffers.{BUCKETS, NUMBERS, firstIn, headIn, valueIn, chainIn, bucketIn, countIn, partIn, poolOf, part, nodesIn}
@@ -43,4 +44,6 @@ pub record Holds (terms runs : List ℕ) : Type 0 where
   pub rises : (i : ℕ) → i < countIn terms → firstIn terms i ≤ firstIn terms (i + 1)
   pub ends : firstIn terms (countIn terms) ≤ RUNS
   pub chained : Chained terms runs (countIn terms)
+  -- an expanded child list has fewer than 2^64 entries
+  pub light : (i : ℕ) → i < countIn terms → sum (partIn terms runs i) < 2 ^ 64
   pub valid : PoolValid (poolOf terms runs)

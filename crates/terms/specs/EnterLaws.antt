@@ -2,12 +2,13 @@
 use mathlib.Core.Path.{_≡_, refl, sym, ap, ap₂, _∙_}
 use mathlib.Core.Logic.{_≢_, _⊎_, inl, inr}
 use mathlib.Core.List.{List, [], _∷_, _++_, map}
-use Prim.Native.Nat.{ℕ, zero, suc, _+_, _*_, _-_, _/_, _%_, _≤_, _<_}
+use Prim.Native.Nat.{ℕ, zero, suc, _+_, _*_, _-_, _/_, _%_, _^_, _≤_, _<_}
 use native.Mathlib.Nat.{not-suc-le-zero, eq-or-lt-of-le, mod-lt}
 use native.Mathlib.Decide.{ℕ-discrete}
 use native.Mathlib.Omega.{arith}
 use lib.ListN.{length, getD, set, length-set, length-append}
 use lib.Seq.{paste, length-paste, getD-set-same, getD-set-other}
+use Rattle.spec.specs.Bytes.{sum}
 use Rattle.spec.specs.Pool.{Pool, Node, TERMS, RUNS}
 use Rattle.lgg.specs.Pool.{PoolValid}
 use Rattle.terms.specs.Buffers.{BUCKETS, BUCKET, COUNT, NUMBERS, part, nodeOf, nodeIn, nodesIn, poolOf, partIn, lengthIn, firstIn, headIn, valueIn, chainIn, bucketIn, countIn}
@@ -260,9 +261,16 @@ module _ (terms runs list : List ℕ) (h v n b : ℕ) (H : Holds terms runs) (ow
       go (inl e) = rw e (omega (arith, A .end, first-same (countIn terms) (omega arith)))
       go (inr q) = omega (arith, first-same i (omega arith), first-same (i + 1) (omega arith), H .rises i q)
 
+  light-new : sum (part list 0 n) < 2 ^ 64 → (i : ℕ) → i < countIn terms + 1 → sum (partIn terms′ runs′ i) < 2 ^ 64
+  light-new l i k = go (either-new k)
+    where
+      go : (i ≡ countIn terms) ⊎ (i < countIn terms) → sum (partIn terms′ runs′ i) < 2 ^ 64
+      go (inl e) = rw (e, part-new) l
+      go (inr q) = rw (part-same i q) (H .light i q)
+
   -- the buffers hold the longer pool
-  pub holds-new : b < BUCKETS → countIn terms < TERMS → firstIn terms (countIn terms) + n ≤ RUNS → PoolValid (poolOf terms′ runs′) → Holds terms′ runs′
-  holds-new s room fits w = record {
+  pub holds-new : b < BUCKETS → countIn terms < TERMS → firstIn terms (countIn terms) + n ≤ RUNS → sum (part list 0 n) < 2 ^ 64 → PoolValid (poolOf terms′ runs′) → Holds terms′ runs′
+  holds-new s room fits light w = record {
     long = omega (arith, A .longTerms, H .long);
     roomy = omega (arith, A .longRuns, H .roomy);
     few = omega (arith, A .count);
@@ -270,5 +278,6 @@ module _ (terms runs list : List ℕ) (h v n b : ℕ) (H : Holds terms runs) (ow
     rises = rw (A .count) rises-new;
     ends = rw (A .count) (omega (arith, A .end));
     chained = chained-new s;
+    light = rw (A .count) (light-new light);
     valid = w;
   }

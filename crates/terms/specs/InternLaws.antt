@@ -3,7 +3,7 @@ use mathlib.Core.Path.{_≡_, refl, sym, ap, ap₂, _∙_}
 use mathlib.Core.Logic.{_≢_, _⊎_, inl, inr}
 use mathlib.Core.Bool.{Bool, true, false}
 use mathlib.Core.List.{List, [], _∷_, _++_, map}
-use Prim.Native.Nat.{ℕ, zero, suc, _+_, _*_, _-_, _≤_, _<_}
+use Prim.Native.Nat.{ℕ, zero, suc, _+_, _*_, _-_, _^_, _≤_, _<_}
 use native.Mathlib.Nat.{eq-or-lt-of-le}
 use native.Mathlib.Omega.{arith}
 use lib.Dec.{ltb, leb, eqb}
@@ -109,9 +109,9 @@ module _ (terms runs list : List ℕ) (n h v : ℕ) (H : Holds terms runs) where
       let m : RUNS < runCount p + length (node .runs) = omega (arith, counted, node-runs) in
       refused-keeps (intern-new p node (absent s) ∙ rw (lt-ltb (length p) TERMS l, lt-leb (runCount p + length (node .runs)) RUNS m) refl)
 
-  pub intern-entered : Sought terms runs node 0 → countIn terms < TERMS → firstIn terms (countIn terms) + n ≤ RUNS → NodeValid (countIn terms) node → n ≤ length list → (b : ℕ) → b ≡ keyOf h v (part list 0 n) → b < BUCKETS
+  pub intern-entered : Sought terms runs node 0 → countIn terms < TERMS → firstIn terms (countIn terms) + n ≤ RUNS → sum (part list 0 n) < 2 ^ 64 → NodeValid (countIn terms) node → n ≤ length list → (b : ℕ) → b ≡ keyOf h v (part list 0 n) → b < BUCKETS
       → Interning terms runs list n h v (enterTerm terms h v n b) (enterRuns terms runs list n) (E.Term (countIn terms))
-  intern-entered s k f w long b own small =
+  intern-entered s k f light w long b own small =
       let l : length p < TERMS = omega (arith, pool-length terms runs) in
       let m : runCount p + length (node .runs) ≤ RUNS = omega (arith, counted, node-runs) in
       let q : intern p node ≡ ok (interned (p ++ (node ∷ [])) (length p)) = intern-new p node (absent s) ∙ rw (lt-ltb (length p) TERMS l, le-leb (runCount p + length (node .runs)) RUNS m) refl in
@@ -121,7 +121,7 @@ module _ (terms runs list : List ℕ) (n h v : ℕ) (H : Holds terms runs) where
       let g : ltb (length p) (length (p ++ (node ∷ []))) ≡ true = lt-ltb (length p) _ (omega (arith, length-append p (node ∷ []))) in record {
         answer = rw (q, pool-length terms runs) refl;
         pool = new ∙ sym (ap (poolAfter p) q);
-        holds = holds-new terms runs list h v n b H own (enterTerm terms h v n b) (enterRuns terms runs list n) A small k f valid;
+        holds = holds-new terms runs list h v n b H own (enterTerm terms h v n b) (enterRuns terms runs list n) A small k f light valid;
         termsAre = rw (q, g, ← own) refl;
         runsAre = rw (q, g) refl;
       }

@@ -8,3 +8,5 @@ pub mod EnterLaws
 pub mod InternLaws
 pub mod Joining
 pub mod JoinLaws
+pub mod Comparing
+pub mod CompareLaws

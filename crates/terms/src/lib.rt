@@ -1,6 +1,6 @@
 // The term pool: terms over runs of (child, count), neighbours with the same child joined; a term's number is its place.
 ghost use mathlib.Core.Path.{_≡_};
-ghost use Prim.Native.Nat.{ℕ, suc, _+_, _*_, _-_, _^_, _≤_, _<_};
+ghost use Prim.Native.Nat.{ℕ, suc, _+_, _*_, _-_, _^_, _/_, _%_, _≤_, _<_};
 ghost use lib.ListN.{length, getD, set};
 ghost use lib.Seq.{paste};
 ghost use Rattle.lgg.specs.Pool.{NodeValid};
@@ -8,6 +8,7 @@ ghost use Rattle.terms.specs.Buffers.{COUNT, NUMBERS, firstIn, headIn, v
 ghost use Rattle.terms.specs.Chains.{mixOf, fold, keyOf, keyIn, Holds};
 ghost use Rattle.terms.specs.Joining.{appendNumber, joinedIn, Begins};
 ghost use Rattle.spec.specs.Bytes.{sum};
+ghost use Rattle.terms.specs.Comparing.{timesOf, headChild, apartNumbers, diffNumbers, Differs};
 ghost use Rattle.terms.specs.Interning.{Tells, Sought, putTerm, putChain, enterTerm, enterRuns, Interning};
 
 pub const TERMS: usize = 16384;
@@ -224,7 +225,7 @@ pub fn intern(
     h: u32,
     v: u32,
 ) -> Entered
-    requires { ⌜ Holds (now terms) (now runs) × NodeValid (countIn (now terms)) (nodeOf h v (part (now list) 0 n)) × (n ≤ length (now list)) ⌝ }
+    requires { ⌜ Holds (now terms) (now runs) × NodeValid (countIn (now terms)) (nodeOf h v (part (now list) 0 n)) × (n ≤ length (now list)) × (sum (part (now list) 0 n) < 2 ^ 64) ⌝ }
     ensures { λ r. ⌜ Interning (now (terms .entry)) (now (runs .entry)) (now (list .entry)) n h v (now (terms .exit)) (now (runs .exit)) r ⌝ }
 {
     let bucket = key(list, n, h, v);
@@ -283,4 +284,101 @@ pub fn join_runs(list: &mut [u64], n: usize) -> usize
         i += 1;
     }
     m
+}
+
+// ---- the structural order
+pub enum Order {
+    Less,
+    Equal,
+    Greater,
+}
+
+// what decides between two terms: their heads, or the first children that differ
+enum Step {
+    Before,
+    After,
+    Below(usize, usize),
+}
+
+struct Children {
+    left: usize,
+    right: usize,
+}
+
+fn child(r: u64) -> usize
+    ensures { λ c. ⌜ (c ≡ r % 16384) × (c < 16384) ⌝ }
+{
+    (r % 16384) as usize
+}
+
+fn times(r: u64) -> u64
+    ensures { λ n. ⌜ n ≡ r / 16384 ⌝ }
+{
+    r / 16384
+}
+
+// how long the child list of the runs from i to before end is when it is expanded
+fn counted(runs: &[u64], from: usize, end: usize) -> u64
+    requires { ⌜ (from ≤ end) × (end ≤ length (now runs)) × (sum (part (now runs) from (end - from)) < 2 ^ 64) ⌝ }
+    ensures { λ r. ⌜ r ≡ timesOf (part (now (runs .entry)) from (end - from)) ⌝ }
+{
+    let mut i = from;
+    let mut n = 0u64;
+    while i < end {
+        n += times(runs[i]);
+        i += 1;
+    }
+    n
+}
+
+fn child_at(runs: &[u64], i: usize, end: usize) -> usize
+    requires { ⌜ end ≤ length (now runs) ⌝ }
+    ensures { λ r. ⌜ r ≡ headChild (part (now (runs .entry)) i (end - i)) ⌝ }
+{
+    if i < end {
+        return child(runs[i]);
+    }
+    0
+}
+
+// the first children that differ where the runs at i and j do
+fn apart(runs: &[u64], i: usize, m: usize, j: usize, n: usize) -> Children
+    requires { ⌜ (i < m) × (m ≤ length (now runs)) × (j < n) × (n ≤ length (now runs)) ⌝ }
+    ensures { λ r. ⌜ Differs r (apartNumbers (getD (now (runs .entry)) i 0) (part (now (runs .entry)) (i + 1) (m - (i + 1))) (getD (now (runs .entry)) j 0) (part (now (runs .entry)) (j + 1) (n - (j + 1)))) ⌝ }
+{
+    let a = child(runs[i]);
+    let b = child(runs[j]);
+    if a != b {
+        return Children { left: a, right: b };
+    }
+    if times(runs[i]) < times(runs[j]) {
+        return Children {
+            left: child_at(runs, i + 1, m),
+            right: b,
+        };
+    }
+    Children {
+        left: a,
+        right: child_at(runs, j + 1, n),
+    }
+}
+
+// the first children that differ in the runs from i0 to before m and from j0 to before n
+fn differ(runs: &[u64], i0: usize, m: usize, j0: usize, n: usize) -> Children
+    requires { ⌜ (m ≤ length (now runs)) × (n ≤ length (now runs)) ⌝ }
+    ensures { λ r. ⌜ Differs r (diffNumbers (part (now (runs .entry)) i0 (m - i0)) (part (now (runs .entry)) j0 (n - j0))) ⌝ }
+{
+    let mut i = i0;
+    let mut j = j0;
+    while i < m {
+        if j >= n {
+            return Children { left: 0, right: 0 };
+        }
+        if runs[i] != runs[j] {
+            return apart(runs, i, m, j, n);
+        }
+        i += 1;
+        j += 1;
+    }
+    Children { left: 0, right: 0 }
 }

@@ -123,7 +123,7 @@ returns-4 c =
     let t = c .before .before .before .before .before .before .before .before .before .before .before .count .ensures .0 in
     let e = first-at (a .terms .now) t (c .before .before .before .before .before .before .before .before .first .ensures .0) in
     rw (c .before .before .before .before .enter .ensures .0, c .before .before .before .before .enter .ensures .1, t)
-    (intern-entered (a .terms .now) (a .runs .now) (a .list .now) (a .n) (a .h) (a .v) (b .pre .0) s (omega (arith, c .before .before .before .before .before .before .before .before .before .before .if2 .left)) (omega (arith, c .before .before .before .before .before .before .before .if3 .left, b .pre .0 .ends)) (b .pre .1) (b .pre .2) (c .before .before .before .before .before .before .before .before .before .before .before .before .before .before .before .before .before .key .result) (c .before .before .before .before .before .before .before .before .before .before .before .before .before .before .before .before .before .key .ensures .0) (c .before .before .before .before .before .before .before .before .before .before .before .before .before .before .before .before .before .key .ensures .1))
+    (intern-entered (a .terms .now) (a .runs .now) (a .list .now) (a .n) (a .h) (a .v) (b .pre .0) s (omega (arith, c .before .before .before .before .before .before .before .before .before .before .if2 .left)) (omega (arith, c .before .before .before .before .before .before .before .if3 .left, b .pre .0 .ends)) (b .pre .3) (b .pre .1) (b .pre .2) (c .before .before .before .before .before .before .before .before .before .before .before .before .before .before .before .before .before .key .result) (c .before .before .before .before .before .before .before .before .before .before .before .before .before .before .before .before .before .key .ensures .0) (c .before .before .before .before .before .before .before .before .before .before .before .before .before .before .before .before .before .key .ensures .1))
 
 pub intern-spec : {M : Type 1} → statement M
 intern-spec =
