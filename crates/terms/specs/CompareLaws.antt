@@ -19,7 +19,7 @@ use Rattle.terms.specs.Comparing.{timesOf, headChild, apartNumbers, diff
 use Rattle.terms.specs.PartLaws.{part-cons}
 use Rattle.terms.specs.declared.Children.{Children}
 
-part-over : (l : List ℕ) (i n : ℕ) → n ≤ i → part l i (n - i) ≡ []
+pub part-over : (l : List ℕ) (i n : ℕ) → n ≤ i → part l i (n - i) ≡ []
 unfolding part
 part-over l i n h = let e : n - i ≡ 0 = omega arith in rw e refl
 

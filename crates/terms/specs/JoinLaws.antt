@@ -115,7 +115,7 @@ unfolding sum
 sum-snoc [] x = omega arith
 sum-snoc (y ∷ l) x = omega (arith, sum-snoc l x)
 
-join-sum : (list : List ℕ) (n : ℕ) → sum (joinedIn list n) ≤ sum (part list 0 n)
+pub join-sum : (list : List ℕ) (n : ℕ) → sum (joinedIn list n) ≤ sum (part list 0 n)
 unfolding part joinNumbers
 join-sum list zero = omega arith
 join-sum list (suc n) =

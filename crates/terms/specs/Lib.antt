@@ -10,3 +10,8 @@ pub mod Joining
 pub mod JoinLaws
 pub mod Comparing
 pub mod CompareLaws
+pub mod Steps
+pub mod Sorting
+pub mod SortLaws
+pub mod Results
+pub mod ResultLaws

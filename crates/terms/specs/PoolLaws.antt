@@ -3,7 +3,7 @@ use mathlib.Core.Path.{_≡_, refl, sym, ap, ap₂, _∙_}
 use mathlib.Core.Logic.{_≢_, _⊎_, inl, inr}
 use mathlib.Core.Bool.{Bool, true, false}
 use mathlib.Core.List.{List, [], _∷_, _++_, map}
-use Prim.Native.Nat.{ℕ, zero, suc, _+_, _*_, _-_, _/_, _%_, _≤_, _<_}
+use Prim.Native.Nat.{ℕ, zero, suc, _+_, _*_, _-_, _/_, _%_, _^_, _≤_, _<_}
 use native.Mathlib.Nat.{not-suc-le-zero, eq-or-lt-of-le}
 use native.Mathlib.Omega.{arith}
 use lib.ListN.{length, getD, length-append, length-map, List·getD-append}
@@ -91,6 +91,10 @@ module _ (terms runs : List ℕ) (H : Holds terms runs) where
 
   pub runs-fit : (i : ℕ) → i < countIn terms → firstIn terms i + lengthIn terms i ≤ RUNS
   runs-fit i h = omega (arith, first-fits (i + 1) (omega arith), H .rises i h)
+
+  -- the runs of term t, from i to before m
+  pub span-fits : (t i m : ℕ) → t < countIn terms → i ≡ firstIn terms t → m ≡ firstIn terms (t + 1) → (i ≤ m) × (m ≤ length runs) × (sum (part runs i (m - i)) < 2 ^ 64)
+  span-fits t i m h e f = rw (e, f) (H .rises t h, omega (arith, H .roomy, first-fits (t + 1) (omega arith)), H .light t h)
 
 pub first-at : {t f : ℕ} (terms : List ℕ) → t ≡ countIn terms → f ≡ firstIn terms t → f ≡ firstIn terms (countIn terms)
 first-at terms e g = rw (← e) g

@@ -4,12 +4,19 @@ ghost use Prim.Native.Nat.{ℕ, suc, _+_, _*_, _-_, _^_, _/_, _%_, _≤_, _<_};
 ghost use lib.ListN.{length, getD, set};
 ghost use lib.Seq.{paste};
 ghost use Rattle.lgg.specs.Pool.{NodeValid};
-ghost use Rattle.terms.specs.Buffers.{COUNT, NUMBERS, firstIn, headIn, valueIn, chainIn, bucketIn, countIn, part, nodeOf, nodeIn};
+ghost use Rattle.terms.specs.Buffers.{COUNT, NUMBERS, firstIn, headIn, valueIn, chainIn, bucketIn, countIn, part, unpack, poolOf, nodeOf, nodeIn};
 ghost use Rattle.terms.specs.Chains.{mixOf, fold, keyOf, keyIn, Holds};
-ghost use Rattle.terms.specs.Joining.{appendNumber, joinedIn, Begins};
+ghost use Rattle.terms.specs.Joining.{appendNumber, joinedIn, over, Begins};
 ghost use Rattle.spec.specs.Bytes.{sum};
-ghost use Rattle.terms.specs.Comparing.{timesOf, headChild, apartNumbers, diffNumbers, Differs};
+ghost use Rattle.terms.specs.Comparing.{timesOf, headChild, apartNumbers, diffNumbers, Differs, orderOf};
+ghost use Rattle.terms.specs.Steps.{Steps};
+ghost use Rattle.terms.specs.Sorting.{insertNumber, sortNumbers, within, orderedIn};
+ghost use mathlib.Core.List.{map};
+ghost use Rattle.lgg.specs.Pool.{Below};
+ghost use Rattle.spec.specs.Pool.{structuralCmp, isGreater};
+ghost use mathlib.Core.Logic.{_≢_};
 ghost use Rattle.terms.specs.Interning.{Tells, Sought, putTerm, putChain, enterTerm, enterRuns, Interning};
+ghost use Rattle.terms.specs.Results.{ActionResult};
 
 pub const TERMS: usize = 16384;
 
@@ -381,4 +388,147 @@ fn differ(runs: &[u64], i0: usize, m: usize, j0: usize, n: usize) -> Children
         j += 1;
     }
     Children { left: 0, right: 0 }
+}
+
+// of two different terms with the same head and value
+fn compare_runs(terms: &[u32], runs: &[u64], a: usize, b: usize) -> Step
+    requires { ⌜ Holds (now terms) (now runs) × (a < countIn (now terms)) × (b < countIn (now terms)) × (a ≢ b) × (headIn (now terms) a ≡ headIn (now terms) b) × (valueIn (now terms) a ≡ valueIn (now terms) b) ⌝ }
+    ensures { λ r. ⌜ Steps (now (terms .entry)) (now (runs .entry)) a b r ⌝ }
+{
+    let i = first(terms, a);
+    let m = first(terms, a + 1);
+    let j = first(terms, b);
+    let n = first(terms, b + 1);
+    let k = counted(runs, i, m);
+    let l = counted(runs, j, n);
+    if k < l {
+        return Step::Before;
+    }
+    if l < k {
+        return Step::After;
+    }
+    let d = differ(runs, i, m, j, n);
+    Step::Below(d.left, d.right)
+}
+
+// of two different terms
+fn compare_step(terms: &[u32], runs: &[u64], a: usize, b: usize) -> Step
+    requires { ⌜ Holds (now terms) (now runs) × (a < countIn (now terms)) × (b < countIn (now terms)) × (a ≢ b) ⌝ }
+    ensures { λ r. ⌜ Steps (now (terms .entry)) (now (runs .entry)) a b r ⌝ }
+{
+    let h = head(terms, a);
+    let g = head(terms, b);
+    if h < g {
+        return Step::Before;
+    }
+    if g < h {
+        return Step::After;
+    }
+    let v = value(terms, a);
+    let w = value(terms, b);
+    if v < w {
+        return Step::Before;
+    }
+    if w < v {
+        return Step::After;
+    }
+    compare_runs(terms, runs, a, b)
+}
+
+// "`structural_cmp` must order as it does on the expanded lists": from two terms to the first children that differ, until heads decide
+pub fn structural_cmp(terms: &[u32], runs: &[u64], x: usize, y: usize) -> Order
+    requires { ⌜ Holds (now terms) (now runs) × (x < countIn (now terms)) × (y < countIn (now terms)) ⌝ }
+    ensures { λ r. ⌜ r ≡ orderOf (structuralCmp (countIn (now (terms .entry))) (poolOf (now (terms .entry)) (now (runs .entry))) x y) ⌝ }
+{
+    if x == y {
+        return Order::Equal;
+    }
+    let mut a = x;
+    let mut b = y;
+    loop {
+        let s = compare_step(terms, runs, a, b);
+        match s {
+            Step::Before => {
+                return Order::Less;
+            }
+            Step::After => {
+                return Order::Greater;
+            }
+            Step::Below(c, d) => {
+                a = c;
+                b = d;
+            }
+        }
+    }
+}
+
+// ---- sorting
+fn is_greater(terms: &[u32], runs: &[u64], a: usize, b: usize) -> bool
+    requires { ⌜ Holds (now terms) (now runs) × (a < countIn (now terms)) × (b < countIn (now terms)) ⌝ }
+    ensures { λ r. ⌜ r ≡ isGreater (structuralCmp (length (poolOf (now (terms .entry)) (now (runs .entry)))) (poolOf (now (terms .entry)) (now (runs .entry))) a b) ⌝ }
+{
+    let o = structural_cmp(terms, runs, a, b);
+    match o {
+        Order::Less => false,
+        Order::Equal => false,
+        Order::Greater => true,
+    }
+}
+
+// the run at i moved behind the runs before n that come before it
+fn insert(terms: &[u32], runs: &[u64], list: &mut [u64], i: usize, n: usize)
+    requires { ⌜ Holds (now terms) (now runs) × (i < n) × (n ≤ length (now list)) × Below (countIn (now terms)) (map unpack (part (now list) i (n - i))) ⌝ }
+    ensures { λ _. ⌜ now (list .exit) ≡ within (now (list .entry)) i n (insertNumber (poolOf (now (terms .entry)) (now (runs .entry))) (getD (now (list .entry)) i 0) (part (now (list .entry)) (i + 1) (n - (i + 1)))) ⌝ }
+{
+    let x = list[i];
+    let mut j = i;
+    while j + 1 < n {
+        let y = list[j + 1];
+        if !is_greater(terms, runs, child(x), child(y)) {
+            put8(list, j, x);
+            return;
+        }
+        put8(list, j, y);
+        j += 1;
+    }
+    put8(list, j, x);
+}
+
+// the first n runs of list in the structural order of their children
+fn sort(terms: &[u32], runs: &[u64], list: &mut [u64], n: usize)
+    requires { ⌜ Holds (now terms) (now runs) × (n ≤ length (now list)) × Below (countIn (now terms)) (map unpack (part (now list) 0 n)) ⌝ }
+    ensures { λ _. ⌜ now (list .exit) ≡ over (sortNumbers (poolOf (now (terms .entry)) (now (runs .entry))) (part (now (list .entry)) 0 n)) (now (list .entry)) ⌝ }
+{
+    let mut i = n;
+    while 0 < i {
+        i -= 1;
+        insert(terms, runs, list, i, n);
+    }
+}
+
+// children of commutative kinds are sorted, others keep their order
+fn order_children(terms: &[u32], runs: &[u64], list: &mut [u64], n: usize, commutative: bool)
+    requires { ⌜ Holds (now terms) (now runs) × (n ≤ length (now list)) × Below (countIn (now terms)) (map unpack (part (now list) 0 n)) ⌝ }
+    ensures { λ _. ⌜ now (list .exit) ≡ over (orderedIn commutative (poolOf (now (terms .entry)) (now (runs .entry))) (now (list .entry)) n) (now (list .entry)) ⌝ }
+{
+    if commutative {
+        sort(terms, runs, list, n);
+    }
+}
+
+// The term of an action: operation op over the first n runs of list.
+pub fn intern_action_result(
+    terms: &mut [u32],
+    runs: &mut [u64],
+    list: &mut [u64],
+    n: usize,
+    op: u32,
+    commutative: bool,
+) -> Entered
+    requires { ⌜ Holds (now terms) (now runs) × (n ≤ length (now list)) × Below (countIn (now terms)) (map unpack (part (now list) 0 n)) × (sum (part (now list) 0 n) < 2 ^ 64) × (op < 64) ⌝ }
+    ensures { λ r. ⌜ ActionResult (now (terms .entry)) (now (runs .entry)) (now (list .entry)) n op commutative (now (terms .exit)) (now (runs .exit)) (now (list .exit)) r ⌝ }
+{
+    order_children(terms, runs, list, n, commutative);
+    let m = join_runs(list, n);
+    intern(terms, runs, list, m, op, 0)
 }
