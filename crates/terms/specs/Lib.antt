@@ -15,3 +15,7 @@ pub mod Sorting
 pub mod SortLaws
 pub mod Results
 pub mod ResultLaws
+pub mod BestLaws
+pub mod Bests
+pub mod BestRuns
+pub mod Building

@@ -1,4 +1,5 @@
 // The term pool: terms over runs of (child, count), neighbours with the same child joined; a term's number is its place.
+use image::Image;
 ghost use mathlib.Core.Path.{_≡_};
 ghost use Prim.Native.Nat.{ℕ, suc, _+_, _*_, _-_, _^_, _/_, _%_, _≤_, _<_};
 ghost use lib.ListN.{length, getD, set};
@@ -13,10 +14,14 @@ ghost use Rattle.terms.specs.Steps.{Steps};
 ghost use Rattle.terms.specs.Sorting.{insertNumber, sortNumbers, within, orderedIn};
 ghost use mathlib.Core.List.{map};
 ghost use Rattle.lgg.specs.Pool.{Below};
-ghost use Rattle.spec.specs.Pool.{structuralCmp, isGreater};
+ghost use Rattle.spec.specs.Pool.{structuralCmp, isGreater, intern, litNode, opNode};
 ghost use mathlib.Core.Logic.{_≢_};
 ghost use Rattle.terms.specs.Interning.{Tells, Sought, putTerm, putChain, enterTerm, enterRuns, Interning};
 ghost use Rattle.terms.specs.Results.{ActionResult};
+ghost use Rattle.terms.specs.Bests.{Gives, Kept, Built, keptRun, keptNumber, memberNode, MemberReady};
+ghost use Rattle.image.specs.Loaded.{Loaded, theChild};
+ghost use Rattle.laws.specs.Valid.{Valid};
+ghost use Rattle.spec.specs.Image.{tablesOf, theMember, childrenOf, kindOf, Lit};
 
 pub const TERMS: usize = 16384;
 
@@ -531,4 +536,101 @@ pub fn intern_action_result(
     order_children(terms, runs, list, n, commutative);
     let m = join_runs(list, n);
     intern(terms, runs, list, m, op, 0)
+}
+
+// ---- best terms
+pub const CLASSES: usize = 256;
+
+// the kind of a literal
+const LIT: usize = 9;
+
+fn num2(x: u16) -> usize
+    ensures { λ r. ⌜ (r ≡ x) × (r < 65536) ⌝ }
+{
+    x as usize
+}
+
+// the kept number of a class
+fn kept(best: &[u16], c: usize) -> usize
+    requires { ⌜ c < length (now best) ⌝ }
+    ensures { λ r. ⌜ (r ≡ getD (now (best .entry)) c 0) × (r < 65536) ⌝ }
+{
+    num2(best[c])
+}
+
+fn long(x: usize) -> u64
+    ensures { λ r. ⌜ r ≡ x ⌝ }
+{
+    x as u64
+}
+
+// child k of the image as a run over the kept term of its class
+fn kept_run(s: &[u8], im: Image, best: &[u16], k: usize) -> u64
+    requires { ⌜ Loaded (now s) im × (k < im .children) × (theChild (tablesOf (now s)) k .0 < length (now best)) × (0 < getD (now best) (theChild (tablesOf (now s)) k .0) 0) × (getD (now best) (theChild (tablesOf (now s)) k .0) 0 ≤ 16384) ⌝ }
+    ensures { λ r. ⌜ (r ≡ keptNumber (now (best .entry)) (theChild (tablesOf (now (s .entry))) k)) × (r < 2 ^ 47) ⌝ }
+{
+    let c = image::child_class(s, im, k);
+    let n = image::child_times(s, im, k);
+    n * 16384 + long(kept(best, c) - 1)
+}
+
+// the n children from child k on, as runs over the kept terms of their classes
+fn kept_runs(s: &[u8], im: Image, best: &[u16], list: &mut [u64], k: usize, n: usize)
+    requires { ⌜ Loaded (now s) im × (k < 65536) × (n ≤ length (now list)) × ((i : ℕ) → i < n → (k + i < im .children) × (theChild (tablesOf (now s)) (k + i) .0 < length (now best)) × (0 < getD (now best) (theChild (tablesOf (now s)) (k + i) .0) 0) × (getD (now best) (theChild (tablesOf (now s)) (k + i) .0) 0 ≤ 16384)) ⌝ }
+    ensures { λ _. ⌜ ((i : ℕ) → i < n → (getD (now (list .exit)) i 0 ≡ keptNumber (now (best .entry)) (theChild (tablesOf (now (s .entry))) (k + i))) × (getD (now (list .exit)) i 0 < 2 ^ 47)) ⌝ }
+{
+    let mut i = 0;
+    while i < n {
+        put8(list, i, kept_run(s, im, best, k + i));
+        i += 1;
+    }
+}
+
+fn lit_term(terms: &mut [u32], runs: &mut [u64], op: usize, v: u64) -> Entered
+    requires { ⌜ Holds (now terms) (now runs) × (op < 64) × (v < 4294967296) ⌝ }
+    ensures { λ r. ⌜ Gives (now (terms .entry)) (now (runs .entry)) (now (terms .exit)) (now (runs .exit)) (intern (poolOf (now (terms .entry)) (now (runs .entry))) (litNode op v)) r ⌝ }
+{
+    let list = [0u64; 1];
+    intern(terms, runs, &list, 0, short(64 + op), v as u32)
+}
+
+fn op_term(
+    s: &[u8],
+    im: Image,
+    terms: &mut [u32],
+    runs: &mut [u64],
+    best: &[u16],
+    m: usize,
+    op: usize,
+) -> Entered
+    requires { ⌜ Holds (now terms) (now runs) × Loaded (now s) im × (m < im .members) × (op < 64) × MemberReady (tablesOf (now s)) (now best) (countIn (now terms)) m ⌝ }
+    ensures { λ r. ⌜ Gives (now (terms .entry)) (now (runs .entry)) (now (terms .exit)) (now (runs .exit)) (intern (poolOf (now (terms .entry)) (now (runs .entry))) (opNode op (map (keptRun (now (best .entry))) (childrenOf (tablesOf (now (s .entry))) (theMember (tablesOf (now (s .entry))) m))))) r ⌝ }
+{
+    let mut list = [0u64; 64];
+    let k = image::first_child(s, im, m);
+    let n = image::child_count(s, im, m);
+    kept_runs(s, im, best, &mut list, k, n);
+    let j = join_runs(&mut list, n);
+    intern(terms, runs, &list, j, short(op), 0)
+}
+
+// the term of a member all of whose children's classes are built, "which keep stored order"
+fn best_of(
+    s: &[u8],
+    im: Image,
+    terms: &mut [u32],
+    runs: &mut [u64],
+    best: &[u16],
+    m: usize,
+) -> Entered
+    requires { ⌜ Holds (now terms) (now runs) × Loaded (now s) im × (m < im .members) × (theMember (tablesOf (now s)) m .op < im .operations) × (im .operations ≤ 64) × MemberReady (tablesOf (now s)) (now best) (countIn (now terms)) m ⌝ }
+    ensures { λ r. ⌜ Gives (now (terms .entry)) (now (runs .entry)) (now (terms .exit)) (now (runs .exit)) (intern (poolOf (now (terms .entry)) (now (runs .entry))) (memberNode (tablesOf (now (s .entry))) (now (best .entry)) (theMember (tablesOf (now (s .entry))) m))) r ⌝ }
+{
+    let op = image::member_op(s, im, m);
+    let k = image::kind(s, im, op);
+    if k == LIT {
+        let v = image::member_value(s, im, m);
+        return lit_term(terms, runs, op, v);
+    }
+    op_term(s, im, terms, runs, best, m, op)
 }
