@@ -151,28 +151,30 @@ module _ (t : Tables) (v : Valid t) where
   children-built p T [] h = refl
   children-built p T (e ∷ l) h = rw (h e here, children-built p T l (λ d i. h d (there i))) refl
 
-  -- ---- what is left to do: the class at hand, then the classes that wait for it
-  unfoldable pub onward : List ℕ → Interned → Res Interned
-  onward [] a = ok a
-  onward (c ∷ st) a = bestTerm t (a .pool) c >>= onward st
+-- ---- what is left to do: the class at hand, then the classes that wait for it
+unfoldable pub onward : Tables → List ℕ → Interned → Res Interned
+unfolding bestTermIn
+onward t [] a = ok a
+onward t (c ∷ st) a = bestTerm t (a .pool) c >>= onward t st
 
-  pub onward-end : (m : Res Interned) → (m >>= onward []) ≡ m
+module _ (t : Tables) where
+  pub onward-end : (m : Res Interned) → (m >>= onward t []) ≡ m
   unfolding onward
   onward-end (ok a) = refl
   onward-end (refused n) = refl
 
   pub onward-down : (p : Pool) (c x : ℕ) (st : List ℕ) → ((a : Interned) → bestTerm t p x ≡ ok a → bestTerm t p c ≡ bestTerm t (a .pool) c) → ((n : ℕ) → bestTerm t p x ≡ refused n → bestTerm t p c ≡ refused n)
-      → (bestTerm t p c >>= onward st) ≡ (bestTerm t p x >>= onward (c ∷ st))
+      → (bestTerm t p c >>= onward t st) ≡ (bestTerm t p x >>= onward t (c ∷ st))
   unfolding onward
   onward-down p c x st f g = go (bestTerm t p x) refl
     where
-      go : (m : Res Interned) → bestTerm t p x ≡ m → (bestTerm t p c >>= onward st) ≡ (m >>= onward (c ∷ st))
+      go : (m : Res Interned) → bestTerm t p x ≡ m → (bestTerm t p c >>= onward t st) ≡ (m >>= onward t (c ∷ st))
       go (ok a) e = rw (f a e) refl
       go (refused n) e = rw (g n e) refl
 
-  pub onward-up : (p : Pool) (c q : ℕ) (st : List ℕ) (a : Interned) → bestTerm t p c ≡ ok a → (bestTerm t p c >>= onward (q ∷ st)) ≡ (bestTerm t (a .pool) q >>= onward st)
+  pub onward-up : (p : Pool) (c q : ℕ) (st : List ℕ) (a : Interned) → bestTerm t p c ≡ ok a → (bestTerm t p c >>= onward t (q ∷ st)) ≡ (bestTerm t (a .pool) q >>= onward t st)
   unfolding onward
   onward-up p c q st a e = rw e refl
 
-  pub onward-refused : (p : Pool) (c : ℕ) (st : List ℕ) (n : ℕ) → bestTerm t p c ≡ refused n → (bestTerm t p c >>= onward st) ≡ refused n
+  pub onward-refused : (p : Pool) (c : ℕ) (st : List ℕ) (n : ℕ) → bestTerm t p c ≡ refused n → (bestTerm t p c >>= onward t st) ≡ refused n
   onward-refused p c st n e = rw e refl

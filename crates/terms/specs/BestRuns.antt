@@ -8,13 +8,13 @@ use native.Mathlib.Nat.{not-suc-le-zero, eq-or-lt-of-le, mul-le-mul-right}
 use native.Mathlib.Omega.{arith}
 use lib.Dec.{eqb}
 use borrow.Author.Tests.{eq-eqb, ne-eqb}
-use lib.ListN.{length, getD, set, take, drop, length-take, length-drop}
+use lib.ListN.{length, getD, set, take, drop, length-take, length-drop, length-set}
 use lib.Seq.{getD-set-same, getD-set-other, getD-take, getD-drop}
 use Rattle.spec.specs.Bytes.{Two, pick, sum}
 use Rattle.spec.specs.Image.{Tables, Member, Lit, kindOf, childrenOf, theMember, tablesOf}
-use Rattle.spec.specs.Pool.{Pool, Node, litNode, opNode, joinRuns, intern}
+use Rattle.spec.specs.Pool.{Pool, Node, litNode, opNode, variantsNode, joinRuns, intern}
 use Rattle.spec.specs.Meaning.{In, here, there}
-use Rattle.lgg.specs.Pool.{Below, below-nil, below-cons, NodeValid, lit-valid, op-valid}
+use Rattle.lgg.specs.Pool.{Below, below-nil, below-cons, NodeValid, lit-valid, op-valid, variants-valid}
 use Rattle.image.specs.Loaded.{Loaded, theChild, children-many}
 use Rattle.image.specs.declared.Image.{Image}
 use Rattle.terms.specs.Buffers.{part, unpack, nodesIn, poolOf, nodeOf, countIn}
@@ -153,3 +153,32 @@ member-literal t best m o v e f k = rw (e, f, eq-eqb (kindOf t (m .op)) Lit k) r
 
 pub member-operation : (t : Tables) (best : List ℕ) (m : Member) (o : ℕ) → o ≡ m .op → (kindOf t (m .op) ≡ Lit → ⊥) → opNode o (map (keptRun best) (childrenOf t m)) ≡ memberNode t best m
 member-operation t best m o e k = rw (e, ne-eqb (kindOf t (m .op)) Lit k) refl
+
+-- ---- a marked place: two runs of 1
+module _ (a b : ℕ) (ha : a < 16384) (hb : b < 16384) (l list : List ℕ) (two : length l ≡ 2) (x y : ℕ) (ex : x ≡ a) (ey : y ≡ b) (E : list ≡ set (set l 0 (16384 + x)) 1 (16384 + y)) where
+  pair : part list 0 2 ≡ (16384 + a) ∷ (16384 + b) ∷ []
+  unfolding part
+  pair = rw (E, getD-set-same (set l 0 (16384 + x)) 1 (16384 + y) 0 (simp length-set (omega arith)), getD-set-other (set l 0 (16384 + x)) 1 0 (16384 + y) 0 (λ z. omega arith), getD-set-same l 0 (16384 + x) 0 (omega arith), ex, ey) refl
+
+  pub pair-light : sum (part list 0 2) < 2 ^ 64
+  unfolding sum
+  pair-light = rw pair (omega arith)
+
+  module _ (list₂ : List ℕ) (j : ℕ) (J : Begins (joinedIn list 2) list list₂ j) where
+    pair-joined : part list₂ 0 j ≡ joinedIn list 2
+    pair-joined = rw (J .numbers) (part-front (joinedIn list 2) (drop (length (joinedIn list 2)) list) j (J .many))
+
+    pub pair-most : sum (part list₂ 0 j) < 2 ^ 64
+    pair-most = omega (arith, ap sum pair-joined, join-sum list 2, pair-light)
+
+    one : (c : ℕ) → c < 16384 → unpack (16384 + c) ≡ (c, 1)
+    one c h = let e : (16384 + c) % 16384 ≡ c = omega arith in let f : (16384 + c) / 16384 ≡ 1 = omega arith in ap₂ (λ (p q : ℕ). (p, q)) e f
+
+    runs-are : map unpack (part list₂ 0 j) ≡ joinRuns ((a, 1) ∷ (b, 1) ∷ [])
+    runs-are = ap (map unpack) pair-joined ∙ joined-runs list 2 ∙ ap (λ (m : List ℕ). joinRuns (map unpack m)) pair ∙ ap₂ (λ (p q : Two). joinRuns (p ∷ q ∷ [])) (one a ha) (one b hb)
+
+    pub pair-node : nodeOf 128 0 (part list₂ 0 j) ≡ variantsNode a b
+    pair-node = rw runs-are refl
+
+    pub pair-valid : (N : ℕ) → a < N → b < N → NodeValid N (nodeOf 128 0 (part list₂ 0 j))
+    pair-valid N h k = rw pair-node (variants-valid N a b h k)

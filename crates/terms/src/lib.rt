@@ -14,11 +14,12 @@ ghost use Rattle.terms.specs.Steps.{Steps};
 ghost use Rattle.terms.specs.Sorting.{insertNumber, sortNumbers, within, orderedIn};
 ghost use mathlib.Core.List.{map};
 ghost use Rattle.lgg.specs.Pool.{Below};
-ghost use Rattle.spec.specs.Pool.{structuralCmp, isGreater, intern, litNode, opNode};
+ghost use Rattle.spec.specs.Pool.{structuralCmp, isGreater, intern, litNode, opNode, variantsNode};
 ghost use mathlib.Core.Logic.{_≢_};
 ghost use Rattle.terms.specs.Interning.{Tells, Sought, putTerm, putChain, enterTerm, enterRuns, Interning};
 ghost use Rattle.terms.specs.Results.{ActionResult};
 ghost use Rattle.terms.specs.Bests.{Gives, Kept, Built, keptRun, keptNumber, memberNode, MemberReady};
+ghost use Rattle.terms.specs.Building.{Builds};
 ghost use Rattle.image.specs.Loaded.{Loaded, theChild};
 ghost use Rattle.laws.specs.Valid.{Valid};
 ghost use Rattle.spec.specs.Image.{tablesOf, theMember, childrenOf, kindOf, Lit};
@@ -633,4 +634,90 @@ fn best_of(
         return lit_term(terms, runs, op, v);
     }
     op_term(s, im, terms, runs, best, m, op)
+}
+
+fn put2(s: &mut [u16], at: usize, v: usize)
+    requires { ⌜ (at < length (now s)) × (v < 65536) ⌝ }
+    ensures { λ _. ⌜ now (s .exit) ≡ set (now (s .entry)) at v ⌝ }
+{
+    s[at] = v as u16;
+}
+
+// The best term of a class that is still unbuilt. A class waits for the first of its children's classes that is unbuilt; waiting: by class, the class that waits for it plus 1.
+fn build_best_term(
+    s: &[u8],
+    im: Image,
+    terms: &mut [u32],
+    runs: &mut [u64],
+    best: &mut [u16],
+    class: usize,
+) -> Entered
+    requires { ⌜ Holds (now terms) (now runs) × Loaded (now s) im × Valid (tablesOf (now s)) × (class < im .classes) × (length (now best) ≡ 256) × Kept (tablesOf (now s)) (poolOf (now terms) (now runs)) (now best) × (getD (now best) class 0 ≡ 0) ⌝ }
+    ensures { λ r. ⌜ Builds (tablesOf (now (s .entry))) (poolOf (now (terms .entry)) (now (runs .entry))) class (now (terms .exit)) (now (runs .exit)) (now (best .exit)) r ⌝ }
+{
+    let mut waiting = [0u16; 256];
+    let mut c = class;
+    'outer: loop {
+        let m = image::best_member(s, im, c);
+        let k = image::first_child(s, im, m);
+        let n = image::child_count(s, im, m);
+        let mut i = 0;
+        let t = 'inner: loop {
+            if i >= n {
+                let e = best_of(s, im, terms, runs, best, m);
+                match e {
+                    Entered::Full => {
+                        return Entered::Full;
+                    }
+                    Entered::Term(a) => {
+                        break 'inner a;
+                    }
+                }
+            }
+            let d = image::child_class(s, im, k + i);
+            if kept(best, d) == 0 {
+                put2(&mut waiting, d, c + 1);
+                c = d;
+                continue 'outer;
+            }
+            i += 1;
+        };
+        put2(best, c, t + 1);
+        let q = kept(&waiting, c);
+        if q == 0 {
+            return Entered::Term(t);
+        }
+        c = q - 1;
+    }
+}
+
+// The best term of a class, built once.
+pub fn best_term(
+    s: &[u8],
+    im: Image,
+    terms: &mut [u32],
+    runs: &mut [u64],
+    best: &mut [u16],
+    class: usize,
+) -> Entered
+    requires { ⌜ Holds (now terms) (now runs) × Loaded (now s) im × Valid (tablesOf (now s)) × (class < im .classes) × (length (now best) ≡ 256) × Kept (tablesOf (now s)) (poolOf (now terms) (now runs)) (now best) ⌝ }
+    ensures { λ r. ⌜ Builds (tablesOf (now (s .entry))) (poolOf (now (terms .entry)) (now (runs .entry))) class (now (terms .exit)) (now (runs .exit)) (now (best .exit)) r ⌝ }
+{
+    let b = kept(best, class);
+    if b == 0 {
+        return build_best_term(s, im, terms, runs, best, class);
+    }
+    Entered::Term(b - 1)
+}
+
+// the marked place of two terms
+fn variants(terms: &mut [u32], runs: &mut [u64], a: usize, b: usize) -> Entered
+    requires { ⌜ Holds (now terms) (now runs) × (a < countIn (now terms)) × (b < countIn (now terms)) ⌝ }
+    ensures { λ r. ⌜ Gives (now (terms .entry)) (now (runs .entry)) (now (terms .exit)) (now (runs .exit)) (intern (poolOf (now (terms .entry)) (now (runs .entry))) (variantsNode a b)) r ⌝ }
+{
+    let mut list = [0u64; 2];
+    put8(&mut list, 0, 16384 + long(a));
+    put8(&mut list, 1, 16384 + long(b));
+    let n = join_runs(&mut list, 2);
+    intern(terms, runs, &list, n, 128, 0)
 }
