@@ -42,7 +42,7 @@ module _ (t : Tables) (v : Valid t) where
   kept-within : (terms runs best : List ℕ) → Holds terms runs → Kept t (poolOf terms runs) best → (c : ℕ) → c < length (t .classes) → 0 < getD best c 0 → getD best c 0 ≤ countIn terms
   kept-within terms runs best H K c h z = omega (arith, best-again t v (poolOf terms runs) c _ h (H .valid) (K c h z) .within, pool-length terms runs)
 
-  kept-grows : (p q : Pool) (best : List ℕ) → PoolValid p → PoolValid q → Grown p q → Kept t p best → Kept t q best
+  pub kept-grows : (p q : Pool) (best : List ℕ) → PoolValid p → PoolValid q → Grown p q → Kept t p best → Kept t q best
   kept-grows p q best w y g K c h z = best-again t v p c _ h w (K c h z) .again q g y
 
   -- the first class that is built of a kept list
@@ -115,7 +115,7 @@ pub record Walk (t : Tables) (p : Pool) (class : ℕ) (terms runs best waiting :
 shift : (t : Tables) (c : ℕ) {x y : Pool} {a b : ℕ} → y ≡ x → b ≡ a → bestTerm t x c ≡ ok (interned x b) → bestTerm t y c ≡ ok (interned y a)
 shift t c e f h = rw (e, ← f) h
 
-grown-to : {x y z : Pool} → y ≡ z → Grown x z → Grown x y
+pub grown-to : {x y z : Pool} → y ≡ z → Grown x z → Grown x y
 grown-to e g = rw e g
 
 -- what `build_best_term` gives
@@ -125,11 +125,11 @@ pub record Builds (t : Tables) (p : Pool) (class : ℕ) (terms′ runs′ best�
   pub kept : Kept t (poolOf terms′ runs′) best′
   pub pool : (a : Interned) → bestTerm t p class ≡ ok a → poolOf terms′ runs′ ≡ a .pool
 
-full-told : (m : Res Interned) → E.Full ≡ enteredOf m → (n : ℕ) × (m ≡ refused n)
+pub full-told : (m : Res Interned) → E.Full ≡ enteredOf m → (n : ℕ) × (m ≡ refused n)
 full-told (ok r) e = let z : _≡_ {A = ℕ} 0 1 = cc in absurd (omega arith)
 full-told (refused n) e = (n, refl)
 
-term-told : (m : Res Interned) (a : ℕ) → E.Term a ≡ enteredOf m → (r : Interned) × (m ≡ ok r) × (r .term ≡ a)
+pub term-told : (m : Res Interned) (a : ℕ) → E.Term a ≡ enteredOf m → (r : Interned) × (m ≡ ok r) × (r .term ≡ a)
 term-told (ok r) a e = (r, refl, cc)
 term-told (refused n) a e = let z : _≡_ {A = ℕ} 0 1 = cc in absurd (omega arith)
 

@@ -19,3 +19,4 @@ pub mod BestLaws
 pub mod Bests
 pub mod BestRuns
 pub mod Building
+pub mod Starting

@@ -20,6 +20,7 @@ ghost use Rattle.terms.specs.Interning.{Tells, Sought, putTerm, putChain
 ghost use Rattle.terms.specs.Results.{ActionResult};
 ghost use Rattle.terms.specs.Bests.{Gives, Kept, Built, keptRun, keptNumber, memberNode, MemberReady};
 ghost use Rattle.terms.specs.Building.{Builds};
+ghost use Rattle.terms.specs.Starting.{Starts};
 ghost use Rattle.image.specs.Loaded.{Loaded, theChild};
 ghost use Rattle.laws.specs.Valid.{Valid};
 ghost use Rattle.spec.specs.Image.{tablesOf, theMember, childrenOf, kindOf, Lit};
@@ -720,4 +721,39 @@ fn variants(terms: &mut [u32], runs: &mut [u64], a: usize, b: usize) -> Entered
     put8(&mut list, 1, 16384 + long(b));
     let n = join_runs(&mut list, 2);
     intern(terms, runs, &list, n, 128, 0)
+}
+
+// The starting term of a pair of classes: the best term of one class, or the marked place of two best terms.
+pub fn evaluate_generalize_action(
+    s: &[u8],
+    im: Image,
+    terms: &mut [u32],
+    runs: &mut [u64],
+    best: &mut [u16],
+    l: usize,
+    r: usize,
+) -> Entered
+    requires { ⌜ Holds (now terms) (now runs) × Loaded (now s) im × Valid (tablesOf (now s)) × (l < im .classes) × (r < im .classes) × (length (now best) ≡ 256) × Kept (tablesOf (now s)) (poolOf (now terms) (now runs)) (now best) ⌝ }
+    ensures { λ o. ⌜ Starts (tablesOf (now (s .entry))) (poolOf (now (terms .entry)) (now (runs .entry))) (l, r) (now (terms .exit)) (now (runs .exit)) (now (best .exit)) o ⌝ }
+{
+    let x = best_term(s, im, terms, runs, best, l);
+    match x {
+        Entered::Full => {
+            return Entered::Full;
+        }
+        Entered::Term(a) => {
+            if l == r {
+                return Entered::Term(a);
+            }
+            let y = best_term(s, im, terms, runs, best, r);
+            match y {
+                Entered::Full => {
+                    return Entered::Full;
+                }
+                Entered::Term(b) => {
+                    return variants(terms, runs, a, b);
+                }
+            }
+        }
+    }
 }
