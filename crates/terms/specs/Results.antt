@@ -1,0 +1,26 @@
+-- What the steps that make terms leave in the buffers.
+use mathlib.Core.Path.{_≡_}
+use mathlib.Core.Bool.{Bool}
+use mathlib.Core.List.{List, [], map}
+use Prim.Native.Nat.{ℕ}
+use Rattle.spec.specs.Bytes.{pick}
+use Rattle.spec.specs.Pool.{opNode, sortRuns, intern}
+use Rattle.terms.specs.Buffers.{part, unpack, poolOf}
+use Rattle.terms.specs.Chains.{Holds}
+use Rattle.terms.specs.Interning.{enteredOf, poolAfter, Interning}
+use Rattle.terms.specs.Joining.{over, joinedIn, joinNumbers}
+use Rattle.terms.specs.Sorting.{orderedIn}
+use Rattle.terms.specs.declared.Entered.{Entered}
+use lib.ListN.{length}
+
+-- the list that is interned: ordered, then joined, in place
+abbrev pub actionList : Bool → List ℕ → List ℕ → List ℕ → ℕ → List ℕ
+actionList commutative terms runs list n = over (joinNumbers [] (orderedIn commutative (poolOf terms runs) list n)) (over (orderedIn commutative (poolOf terms runs) list n) list)
+
+-- `intern_action_result`: "children of commutative kinds are sorted"
+pub record ActionResult (terms runs list : List ℕ) (n op : ℕ) (commutative : Bool) (terms′ runs′ list′ : List ℕ) (r : Entered) : Type 0 where
+  pub answer : r ≡ enteredOf (intern (poolOf terms runs) (opNode op (pick commutative (sortRuns (poolOf terms runs) (map unpack (part list 0 n))) (map unpack (part list 0 n)))))
+  pub pool : poolOf terms′ runs′ ≡ poolAfter (poolOf terms runs) (intern (poolOf terms runs) (opNode op (pick commutative (sortRuns (poolOf terms runs) (map unpack (part list 0 n))) (map unpack (part list 0 n)))))
+  pub holds : Holds terms′ runs′
+  pub listIs : list′ ≡ actionList commutative terms runs list n
+  pub buffers : Interning terms runs list′ (length (joinNumbers [] (orderedIn commutative (poolOf terms runs) list n))) op 0 terms′ runs′ r
