@@ -1,0 +1,15 @@
+pub mod Bag
+pub mod BagCount
+pub mod BagPlan
+pub mod Pool
+pub mod PoolTrees
+pub mod PoolIntern
+pub mod ReadingsNode
+pub mod BestMembers
+pub mod Best
+pub mod ReadingsActions
+pub mod ReadingsWithin
+pub mod PoolSort
+pub mod ReadingsRounds
+pub mod Readings
+pub mod OrderTerms

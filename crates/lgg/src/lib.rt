@@ -1,0 +1,1 @@
+// the mathematics of the merge: see specs/

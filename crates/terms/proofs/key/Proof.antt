@@ -1,0 +1,103 @@
+use Rattle.terms.specs.PartLaws.{key-start, key-turn, key-end}
+use Rattle.terms.specs.Buffers.{part}
+use Rattle.terms.specs.Chains.{mixOf, mixAll, fold, keyOf}
+use borrow.Author.Needs.{needs}
+use borrow.Author.Tests.{lt-ltb, le-ltb, le-leb, lt-leb, eq-eqb, ne-eqb}
+use Prim.Native.Nat.{ℕ, zero, suc, _≤_, _<_, _-_, _+_, _*_, _^_}
+use native.Mathlib.Omega.{arith}
+use native.Mathlib.Numerals.{add-one}
+use mathlib.Core.Path.{_≡_, refl, ap, sym, _∙_}
+use mathlib.Core.Logic.{⊎-elim}
+use mathlib.Core.List.{List, [], _∷_, _++_, append-nil}
+use lib.ListN.{length, take, drop, getD, set, length-set, length-take, length-drop, length-append, drop-of-length-le}
+use Rattle.terms.proofs.key.Statement.{statement}
+use Rattle.terms.proofs.key.Tie as tie
+use Rattle.terms.proofs.key.Reads as reads
+use Rattle.terms.proofs.key.Lts as lts
+use Rattle.terms.proofs.folded.Reads as folded-reads
+use Rattle.terms.proofs.mix.Reads as mix-reads
+use Rattle.terms.proofs.num8.Reads as num8-reads
+
+abbrev Inv-loop : tie.InvT-loop
+Inv-loop list n h v x₀ i₀ x i = (i ≤ n) × (x < 4294967296) × (fold (mixAll x (part list i (n - i))) ≡ keyOf h v (part list 0 n))
+
+abbrev μ-loop : tie.MeasureT-loop
+μ-loop list n h v x₀ i₀ x i = n - i
+
+-- src/lib.rt:109:18
+num8-requires : tie.Need-num8-requires Inv-loop μ-loop
+num8-requires c κs = search needs
+
+-- src/lib.rt:109:18
+mul-x : tie.Need-mul-x Inv-loop μ-loop
+mul-x c = search needs
+
+-- src/lib.rt:109:35
+num8-requires-2 : tie.Need-num8-requires-2 Inv-loop μ-loop
+num8-requires-2 c κs = search needs
+
+-- src/lib.rt:109:18
+add-x : tie.Need-add-x Inv-loop μ-loop
+add-x c = search needs
+
+-- src/lib.rt:111:5
+loop-holds : tie.Need-loop-holds Inv-loop μ-loop
+loop-holds c = let a = c .before .before .before .args in (omega arith, omega arith, key-start (a .list .now) (a .n) (c .before .num8 .ensures .0) (c .num82 .ensures .0))
+
+-- src/lib.rt:112:20
+mul-mix : tie.Need-mul-mix Inv-loop μ-loop
+mul-mix c = search needs
+
+-- src/lib.rt:112:20
+shared-slice-read-mix : tie.Need-shared-slice-read-mix Inv-loop μ-loop
+shared-slice-read-mix c = search needs
+
+-- src/lib.rt:112:9
+mix-requires : tie.Need-mix-requires Inv-loop μ-loop
+mix-requires c κs = search needs
+
+-- src/lib.rt:113:9
+add-i : tie.Need-add-i Inv-loop μ-loop
+add-i c = search needs
+
+-- src/lib.rt:111:5
+loop-less : tie.Need-loop-less Inv-loop μ-loop
+loop-less c = search needs
+
+-- src/lib.rt:111:5
+loop-again : tie.Need-loop-again Inv-loop μ-loop
+loop-again c =
+    let l = c .before .before .before in
+    let a = l .before .before .before .before .args in
+    (omega arith, c .mix .ensures .1, key-turn (l .loop .x) (a .list .now) (l .loop .i) (a .n) (omega arith) (c .mix .ensures .0) (l .loop .inv .2))
+
+-- src/lib.rt:115:5
+folded-requires : tie.Need-folded-requires Inv-loop μ-loop
+folded-requires c κs = search needs
+
+-- src/lib.rt:105:1
+returns : tie.Need-returns Inv-loop μ-loop
+returns c =
+    let l = c .before .before in
+    let a = l .before .before .before .before .args in
+    (key-end (l .loop .x) (a .list .now) (l .loop .i) (a .n) (omega arith) (c .folded .ensures .0) (l .loop .inv .2), c .folded .ensures .1)
+
+pub key-spec : {M : Type 1} → statement M
+key-spec =
+    tie.close
+    (tie.spec
+    Inv-loop
+    μ-loop
+    num8-requires
+    mul-x
+    num8-requires-2
+    add-x
+    loop-holds
+    mul-mix
+    shared-slice-read-mix
+    mix-requires
+    add-i
+    loop-less
+    loop-again
+    folded-requires
+    returns)

@@ -1,0 +1,286 @@
+// The term pool: terms over runs of (child, count), neighbours with the same child joined; a term's number is its place.
+ghost use mathlib.Core.Path.{_≡_};
+ghost use Prim.Native.Nat.{ℕ, suc, _+_, _*_, _-_, _^_, _≤_, _<_};
+ghost use lib.ListN.{length, getD, set};
+ghost use lib.Seq.{paste};
+ghost use Rattle.lgg.specs.Pool.{NodeValid};
+ghost use Rattle.terms.specs.Buffers.{COUNT, NUMBERS, firstIn, headIn, valueIn, chainIn, bucketIn, countIn, part, nodeOf, nodeIn};
+ghost use Rattle.terms.specs.Chains.{mixOf, fold, keyOf, keyIn, Holds};
+ghost use Rattle.terms.specs.Joining.{appendNumber, joinedIn, Begins};
+ghost use Rattle.spec.specs.Bytes.{sum};
+ghost use Rattle.terms.specs.Interning.{Tells, Sought, putTerm, putChain, enterTerm, enterRuns, Interning};
+
+pub const TERMS: usize = 16384;
+
+pub const RUNS: usize = 65536;
+
+// the numbers of `terms`: four a term, the end of the runs, the chains' last terms, the count
+pub const BUCKET: usize = 65537;
+
+pub const COUNT: usize = 69633;
+
+pub const NUMBERS: usize = 69634;
+
+// a term that was there or was entered; or refusal 13
+pub enum Entered {
+    Term(usize),
+    Full,
+}
+
+fn put(s: &mut [u32], at: usize, v: u32)
+    requires { ⌜ at < length (now s) ⌝ }
+    ensures { λ _. ⌜ now (s .exit) ≡ set (now (s .entry)) at v ⌝ }
+{
+    s[at] = v;
+}
+
+fn num(x: u32) -> usize
+    ensures { λ r. ⌜ (r ≡ x) × (r < 4294967296) ⌝ }
+{
+    x as usize
+}
+
+fn num8(x: u32) -> u64
+    ensures { λ r. ⌜ (r ≡ x) × (r < 4294967296) ⌝ }
+{
+    x as u64
+}
+
+fn short(x: usize) -> u32
+    requires { ⌜ x < 4294967296 ⌝ }
+    ensures { λ r. ⌜ r ≡ x ⌝ }
+{
+    x as u32
+}
+
+fn number(s: &[u32], at: usize) -> usize
+    requires { ⌜ at < length (now s) ⌝ }
+    ensures { λ r. ⌜ (r ≡ getD (now (s .entry)) at 0) × (r < 4294967296) ⌝ }
+{
+    num(s[at])
+}
+
+// ---- readers
+pub fn count(terms: &[u32]) -> usize
+    requires { ⌜ NUMBERS ≤ length (now terms) ⌝ }
+    ensures { λ r. ⌜ (r ≡ countIn (now (terms .entry))) × (r < 4294967296) ⌝ }
+{
+    number(terms, COUNT)
+}
+
+pub fn first(terms: &[u32], t: usize) -> usize
+    requires { ⌜ (NUMBERS ≤ length (now terms)) × (t ≤ 16384) ⌝ }
+    ensures { λ r. ⌜ (r ≡ firstIn (now (terms .entry)) t) × (r < 4294967296) ⌝ }
+{
+    number(terms, t * 4)
+}
+
+pub fn head(terms: &[u32], t: usize) -> u32
+    requires { ⌜ (NUMBERS ≤ length (now terms)) × (t < 16384) ⌝ }
+    ensures { λ r. ⌜ r ≡ headIn (now (terms .entry)) t ⌝ }
+{
+    terms[t * 4 + 1]
+}
+
+pub fn value(terms: &[u32], t: usize) -> u32
+    requires { ⌜ (NUMBERS ≤ length (now terms)) × (t < 16384) ⌝ }
+    ensures { λ r. ⌜ r ≡ valueIn (now (terms .entry)) t ⌝ }
+{
+    terms[t * 4 + 2]
+}
+
+// ---- the key of a node
+fn mix(x: u64, r: u64) -> u64
+    requires { ⌜ x < 4294967296 ⌝ }
+    ensures { λ s. ⌜ (s ≡ mixOf x r) × (s < 4294967296) ⌝ }
+{
+    (x * 31 + r % 4294967296 + r / 4294967296) % 4294967296
+}
+
+fn folded(x: u64) -> usize
+    requires { ⌜ x < 4294967296 ⌝ }
+    ensures { λ r. ⌜ (r ≡ fold x) × (r < 4096) ⌝ }
+{
+    ((x + x / 4096 + x / 16777216) % 4096) as usize
+}
+
+fn key(list: &[u64], n: usize, h: u32, v: u32) -> usize
+    requires { ⌜ n ≤ length (now list) ⌝ }
+    ensures { λ r. ⌜ (r ≡ keyOf h v (part (now (list .entry)) 0 n)) × (r < 4096) ⌝ }
+{
+    let mut x = (num8(h) * 4096 + num8(v)) % 4294967296;
+    let mut i = 0;
+    while i < n {
+        x = mix(x, list[i]);
+        i += 1;
+    }
+    folded(x)
+}
+
+// ---- a node against an entry
+fn same_runs(runs: &[u64], from: usize, list: &[u64], n: usize) -> bool
+    requires { ⌜ (from + n ≤ length (now runs)) × (n ≤ length (now list)) ⌝ }
+    ensures { λ r. ⌜ Tells r (part (now (runs .entry)) from n ≡ part (now (list .entry)) 0 n) ⌝ }
+{
+    let mut i = 0;
+    while i < n {
+        if runs[from + i] != list[i] {
+            return false;
+        }
+        i += 1;
+    }
+    true
+}
+
+fn is_term(terms: &[u32], runs: &[u64], t: usize, list: &[u64], n: usize, h: u32, v: u32) -> bool
+    requires { ⌜ Holds (now terms) (now runs) × (t < countIn (now terms)) × (n ≤ length (now list)) ⌝ }
+    ensures { λ r. ⌜ Tells r (nodeIn (now (terms .entry)) (now (runs .entry)) t ≡ nodeOf h v (part (now (list .entry)) 0 n)) ⌝ }
+{
+    if head(terms, t) != h {
+        return false;
+    }
+    if value(terms, t) != v {
+        return false;
+    }
+    let from = first(terms, t);
+    if first(terms, t + 1) - from != n {
+        return false;
+    }
+    same_runs(runs, from, list, n)
+}
+
+// the node's number plus 1, along the chain of its key; 0 where it is not there
+fn look_up(
+    terms: &[u32],
+    runs: &[u64],
+    bucket: usize,
+    list: &[u64],
+    n: usize,
+    h: u32,
+    v: u32,
+) -> usize
+    requires { ⌜ Holds (now terms) (now runs) × (n ≤ length (now list)) × (bucket ≡ keyOf h v (part (now list) 0 n)) × (bucket < 4096) ⌝ }
+    ensures { λ r. ⌜ Sought (now (terms .entry)) (now (runs .entry)) (nodeOf h v (part (now (list .entry)) 0 n)) r ⌝ }
+{
+    let mut t = number(terms, BUCKET + bucket);
+    while 0 < t {
+        if is_term(terms, runs, t - 1, list, n, h, v) {
+            return t;
+        }
+        t = number(terms, (t - 1) * 4 + 3);
+    }
+    0
+}
+
+// ---- entering
+fn copy_runs(runs: &mut [u64], from: usize, list: &[u64], n: usize)
+    requires { ⌜ (from + n ≤ length (now runs)) × (n ≤ length (now list)) ⌝ }
+    ensures { λ _. ⌜ now (runs .exit) ≡ paste (now (runs .entry)) from (now (list .entry)) n ⌝ }
+{
+    let mut i = 0;
+    while i < n {
+        runs[from + i] = list[i];
+        i += 1;
+    }
+}
+
+fn put_term(terms: &mut [u32], t: usize, h: u32, v: u32, end: u32)
+    requires { ⌜ (NUMBERS ≤ length (now terms)) × (t < 16384) ⌝ }
+    ensures { λ _. ⌜ now (terms .exit) ≡ putTerm (now (terms .entry)) t h v end ⌝ }
+{
+    put(terms, t * 4 + 1, h);
+    put(terms, t * 4 + 2, v);
+    put(terms, t * 4 + 4, end);
+}
+
+fn put_chain(terms: &mut [u32], t: usize, bucket: usize)
+    requires { ⌜ (NUMBERS ≤ length (now terms)) × (t < 16384) × (bucket < 4096) ⌝ }
+    ensures { λ _. ⌜ now (terms .exit) ≡ putChain (now (terms .entry)) t bucket ⌝ }
+{
+    let old = terms[BUCKET + bucket];
+    put(terms, t * 4 + 3, old);
+    put(terms, BUCKET + bucket, short(t + 1));
+    put(terms, COUNT, short(t + 1));
+}
+
+// the term after the last one, in the chain of its key
+fn enter(terms: &mut [u32], runs: &mut [u64], bucket: usize, list: &[u64], n: usize, h: u32, v: u32)
+    requires { ⌜ Holds (now terms) (now runs) × (countIn (now terms) < 16384) × (firstIn (now terms) (countIn (now terms)) + n ≤ 65536) × (n ≤ length (now list)) × (bucket < 4096) ⌝ }
+    ensures { λ _. ⌜ (now (terms .exit) ≡ enterTerm (now (terms .entry)) h v n bucket) × (now (runs .exit) ≡ enterRuns (now (terms .entry)) (now (runs .entry)) (now (list .entry)) n) ⌝ }
+{
+    let t = count(terms);
+    let from = first(terms, t);
+    copy_runs(runs, from, list, n);
+    put_term(terms, t, h, v, short(from + n));
+    put_chain(terms, t, bucket);
+}
+
+// The term with head and operation h, value v and the n runs of list: found, or entered.
+pub fn intern(
+    terms: &mut [u32],
+    runs: &mut [u64],
+    list: &[u64],
+    n: usize,
+    h: u32,
+    v: u32,
+) -> Entered
+    requires { ⌜ Holds (now terms) (now runs) × NodeValid (countIn (now terms)) (nodeOf h v (part (now list) 0 n)) × (n ≤ length (now list)) ⌝ }
+    ensures { λ r. ⌜ Interning (now (terms .entry)) (now (runs .entry)) (now (list .entry)) n h v (now (terms .exit)) (now (runs .exit)) r ⌝ }
+{
+    let bucket = key(list, n, h, v);
+    let found = look_up(terms, runs, bucket, list, n, h, v);
+    if 0 < found {
+        return Entered::Term(found - 1);
+    }
+    let t = count(terms);
+    if t >= TERMS {
+        return Entered::Full;
+    }
+    let from = first(terms, t);
+    if n > RUNS - from {
+        return Entered::Full;
+    }
+    enter(terms, runs, bucket, list, n, h, v);
+    Entered::Term(t)
+}
+
+// ---- joining
+fn put8(s: &mut [u64], at: usize, v: u64)
+    requires { ⌜ at < length (now s) ⌝ }
+    ensures { λ _. ⌜ now (s .exit) ≡ set (now (s .entry)) at v ⌝ }
+{
+    s[at] = v;
+}
+
+// the run x at the end of m joined runs
+fn append(list: &mut [u64], m: usize, x: u64) -> usize
+    requires { ⌜ (m < length (now list)) × (sum (part (now list) 0 m) + x < 2 ^ 64) ⌝ }
+    ensures { λ r. ⌜ Begins (appendNumber (part (now (list .entry)) 0 m) x) (now (list .entry)) (now (list .exit)) r ⌝ }
+{
+    if m == 0 {
+        put8(list, 0, x);
+        return 1;
+    }
+    let y = list[m - 1];
+    if y % 16384 == x % 16384 {
+        put8(list, m - 1, y + x / 16384 * 16384);
+        return m;
+    }
+    put8(list, m, x);
+    m + 1
+}
+
+// the first n runs of list joined in place: how many they are then
+pub fn join_runs(list: &mut [u64], n: usize) -> usize
+    requires { ⌜ (n ≤ length (now list)) × (sum (part (now list) 0 n) < 2 ^ 64) ⌝ }
+    ensures { λ r. ⌜ Begins (joinedIn (now (list .entry)) n) (now (list .entry)) (now (list .exit)) r ⌝ }
+{
+    let mut m = 0;
+    let mut i = 0;
+    while i < n {
+        let x = list[i];
+        m = append(list, m, x);
+        i += 1;
+    }
+    m
+}
