@@ -1,60 +1,18 @@
 -- Permutations, entries of lists, and lists in which each entry stands so many times.
-use mathlib.Core.Path.{_≡_, refl, sym, ap, ap₂, _∙_}
+use mathlib.Core.Path.{_≡_, refl, sym, ap, _∙_}
 use mathlib.Core.Logic.{_⊎_, inl, inr}
 use mathlib.Core.Bool.{Bool, true, false}
 use mathlib.Core.List.{List, [], _∷_, _++_, map, append-assoc, append-nil}
-use Prim.Native.Nat.{ℕ, zero, suc, _+_, _*_, _-_, _≤_, _<_}
-use native.Mathlib.Nat.{not-suc-le-zero, suc-add, zero-add}
+use Prim.Native.Nat.{ℕ, zero, suc, _+_, _*_, _≤_, _<_}
+use native.Mathlib.Nat.{not-suc-le-zero}
 use native.Mathlib.Omega.{arith}
-use lib.Dec.{eqb}
-use lib.ListN.{length, getD, take, drop, replicate, replicate-append-replicate}
-use Rattle.spec.specs.Bytes.{pick, each, filter, sum, Two, Res, ok, refused, _>>=_}
+use lib.ListN.{length, getD, take, drop, replicate}
+use Rattle.spec.specs.Bytes.{each, filter, sum}
 use Rattle.spec.specs.Meaning.{In, here, there}
-
--- ---- results: what one that is accepted says
-pub ok-inj : {A : Type 0} {a b : A} → ok a ≡ ok b → a ≡ b
-ok-inj e = cc
-
-pub refused-ok : {A : Type 0} {n : ℕ} {a : A} → refused n ≡ ok a → ⊥
-refused-ok e = let z : _≡_ {A = ℕ} 0 1 = cc in omega arith
-
-pub bind-ok : {A B : Type 0} (m : Res A) (f : A → Res B) (b : B) → (m >>= f) ≡ ok b → (a : A) × (m ≡ ok a) × (f a ≡ ok b)
-bind-ok (ok a) f b e = (a, refl, e)
-bind-ok (refused n) f b e = absurd (refused-ok e)
-
-pub false-true : false ≡ true → ⊥
-false-true e = let z : _≡_ {A = ℕ} 0 1 = cc in omega arith
+use Rattle.lgg.specs.Lists.{in-nil, in-cons, in-append}
 
 -- ---- entries
 module _ {A : Type 0} where
-  pub in-nil : {x : A} → In x [] → ⊥
-  in-nil i = elim i [ ]
-
-  pub in-cons : {x y : A} {l : List A} → In x (y ∷ l) → (x ≡ y) ⊎ In x l
-  in-cons here = inl refl
-  in-cons (there i) = inr i
-
-  pub in-left : {x : A} {l : List A} (m : List A) → In x l → In x (l ++ m)
-  in-left m here = here
-  in-left m (there i) = there (in-left m i)
-
-  pub in-right : {x : A} (l : List A) {m : List A} → In x m → In x (l ++ m)
-  in-right [] i = i
-  in-right (y ∷ l) i = there (in-right l i)
-
-  pub in-append : {x : A} (l m : List A) → In x (l ++ m) → In x l ⊎ In x m
-  in-append [] m i = inr i
-  in-append {x} (y ∷ l) m i = go (in-cons i) (λ j. in-append l m j)
-    where
-      go : (x ≡ y) ⊎ In x (l ++ m) → (In x (l ++ m) → In x l ⊎ In x m) → In x (y ∷ l) ⊎ In x m
-      go (inl e) ih = inl (rw e here)
-      go (inr j) ih = elim (ih j) [ inl a ↦ inl (there a) | inr b ↦ inr b ]
-
-  pub in-getD : (l : List A) (i : ℕ) (d : A) → i < length l → In (getD l i d) l
-  in-getD [] i d h = absurd (not-suc-le-zero h)
-  in-getD (x ∷ l) zero d h = here
-  in-getD (x ∷ l) (suc i) d h = there (in-getD l i d (omega arith))
-
   -- an entry of a span of a table, by its number in the table
   pub in-span : (l : List A) (k n i : ℕ) (d : A) → k ≤ i → i < k + n → i < length l → In (getD l i d) (take n (drop k l))
   in-span [] k n i d a b h = absurd (not-suc-le-zero h)
@@ -77,37 +35,19 @@ module _ {A : Type 0} where
       go (inr a) ih = let (i, h, e) = ih a in (suc i, omega arith, e)
   span-in (y ∷ l) (suc k) n d j = let (i, h, e) = span-in l k n d j in (suc i, omega arith, e)
 
-module _ {A B : Type 0} where
-  pub in-map : (f : A → B) {y : B} (l : List A) → In y (map f l) → (x : A) × In x l × (y ≡ f x)
-  in-map f [] i = absurd (in-nil i)
-  in-map f {y} (x ∷ l) i = go (in-cons i) (λ j. in-map f l j)
-    where
-      go : (y ≡ f x) ⊎ In y (map f l) → (In y (map f l) → (z : A) × In z l × (y ≡ f z)) → (z : A) × In z (x ∷ l) × (y ≡ f z)
-      go (inl e) ih = (x, here, e)
-      go (inr j) ih = let (z, k, e) = ih j in (z, there k, e)
+pub each-in : {A B : Type 0} (f : A → List B) (l : List A) (y : B) → In y (each f l) → (x : A) × In x l × In y (f x)
+unfolding each
+each-in f [] y i = absurd (in-nil i)
+each-in {A} f (x ∷ l) y i = go (in-append (f x) i) (λ j. each-in f l y j)
+  where
+    go : In y (f x) ⊎ In y (each f l) → (In y (each f l) → (z : A) × In z l × In y (f z)) → (z : A) × In z (x ∷ l) × In y (f z)
+    go (inl j) ih = (x, here, j)
+    go (inr j) ih = let (z, k, e) = ih j in (z, there k, e)
 
-  pub map-in : (f : A → B) {x : A} {l : List A} → In x l → In (f x) (map f l)
-  map-in f here = here
-  map-in f (there i) = there (map-in f i)
-
-  pub in-each : (f : A → List B) {y : B} (l : List A) → In y (each f l) → (x : A) × In x l × In y (f x)
-  unfolding each
-  in-each f [] i = absurd (in-nil i)
-  in-each f {y} (x ∷ l) i = go (in-append (f x) (each f l) i) (λ j. in-each f l j)
-    where
-      go : In y (f x) ⊎ In y (each f l) → (In y (each f l) → (z : A) × In z l × In y (f z)) → (z : A) × In z (x ∷ l) × In y (f z)
-      go (inl j) ih = (x, here, j)
-      go (inr j) ih = let (z, k, e) = ih j in (z, there k, e)
-
-  pub each-in : (f : A → List B) {y : B} {x : A} {l : List A} → In x l → In y (f x) → In y (each f l)
-  unfolding each
-  each-in f {l = l} (here {l = m}) j = in-left (each f m) j
-  each-in f (there {y = z} i) j = in-right (f z) (each-in f i j)
-
-pub in-filter : {A : Type 0} (f : A → Bool) {x : A} (l : List A) → In x (filter f l) → In x l × (f x ≡ true)
+pub filter-in : {A : Type 0} (f : A → Bool) {x : A} (l : List A) → In x (filter f l) → In x l × (f x ≡ true)
 unfolding filter
-in-filter f [] i = absurd (in-nil i)
-in-filter f {x} (y ∷ l) i = go (f y) refl (λ j. in-filter f l j)
+filter-in f [] i = absurd (in-nil i)
+filter-in f {x} (y ∷ l) i = go (f y) refl (λ j. filter-in f l j)
   where
     go : (b : Bool) → f y ≡ b → (In x (filter f l) → In x l × (f x ≡ true)) → In x (y ∷ l) × (f x ≡ true)
     go false p ih = let (j, e) = ih (rw (p, filter) at i) in (there j, e)
@@ -166,12 +106,6 @@ module _ {A : Type 0} where
       go (inr j) = elim (in-cons j) [ inl e ↦ rw e here | inr k ↦ there (there k) ]
   perm-in (both p q) i = perm-in q (perm-in p i)
 
-  pub perm-length : {l m : List A} → Perm l m → length l ≡ length m
-  perm-length nil = refl
-  perm-length (skip x p) = ap suc (perm-length p)
-  perm-length (swap x y l) = refl
-  perm-length (both p q) = perm-length p ∙ perm-length q
-
 module _ {A B : Type 0} (h : A → B) where
   pub perm-map : {l m : List A} → Perm l m → Perm (map h l) (map h m)
   perm-map nil = nil
@@ -186,14 +120,6 @@ module _ {A B : Type 0} (h : A → B) where
   pub map-replicate : (k : ℕ) (x : A) → map h (replicate k x) ≡ replicate k (h x)
   map-replicate zero x = refl
   map-replicate (suc k) x = ap (λ z. h x ∷ z) (map-replicate k x)
-
-pub map-map : {A B C : Type 0} (g : B → C) (h : A → B) (l : List A) → map g (map h l) ≡ map (λ x. g (h x)) l
-map-map g h [] = refl
-map-map g h (x ∷ l) = ap (λ z. g (h x) ∷ z) (map-map g h l)
-
-pub map-cong : {A B : Type 0} {f g : A → B} (l : List A) → ((x : A) → In x l → f x ≡ g x) → map f l ≡ map g l
-map-cong [] h = refl
-map-cong {B = B} {f = f} {g = g} (x ∷ l) h = ap₂ (λ (y : B) (z : List B). y ∷ z) (h x here) (map-cong l (λ y i. h y (there i)))
 
 pub sum-append : (l m : List ℕ) → sum (l ++ m) ≡ sum l + sum m
 unfolding sum

@@ -1,18 +1,19 @@
 -- Lists with counts written out, and how often a number stands in them.
-use mathlib.Core.Path.{_≡_, refl, sym, ap, ap₂, _∙_}
+use mathlib.Core.Path.{_≡_, refl, sym, ap, _∙_}
 use mathlib.Core.Logic.{_⊎_, inl, inr}
 use mathlib.Core.Bool.{Bool, true, false}
 use mathlib.Core.List.{List, [], _∷_, _++_, map, append-assoc}
-use Prim.Native.Nat.{ℕ, zero, suc, _+_, _*_, _-_, _≤_, _<_}
+use Prim.Native.Nat.{ℕ, zero, suc, _+_, _*_, _≤_}
 use native.Mathlib.Omega.{arith}
 use lib.Dec.{ltb, eqb}
-use borrow.Author.Tests.{eqb-true, eqb-false, eq-eqb}
-use lib.ListN.{length, getD, replicate, length-append, length-replicate, replicate-append-replicate}
-use Rattle.spec.specs.Bytes.{pick, sum, sumTo, each, Two}
+use borrow.Author.Tests.{eqb-true}
+use lib.ListN.{length, replicate, length-append, length-replicate, replicate-append-replicate}
+use Rattle.spec.specs.Bytes.{pick, sum, Two}
 use Rattle.spec.specs.Monomial.{insertAdd, addAll, monomial, classes, counts}
 use Rattle.spec.specs.Pool.{joinTo, joinRuns, expandedLength}
 use Rattle.spec.specs.Meaning.{In, here, there, occurs, countIn}
-use Rattle.lgg.specs.Bag.{Perm, nil, skip, swap, both, perm-refl, perm-of-eq, perm-left, perm-past, in-nil, in-cons, in-append, in-left, in-right, map-append, map-replicate, replicate-in}
+use Rattle.lgg.specs.Bag.{Perm, nil, skip, swap, both, perm-left, perm-past, map-append, map-replicate, replicate-in}
+use Rattle.lgg.specs.Lists.{in-append, in-cons, in-nil}
 
 -- every entry as often as its count says
 unfoldable pub written : List Two → List ℕ
@@ -46,7 +47,7 @@ spread-written (r ∷ l) = ap (λ (z : List ℕ). replicate (r .1) (r .0) ++ z) 
 pub in-written : (a : ℕ) (l : List Two) → In a (written l) → (r : Two) × In r l × (a ≡ r .0) × (1 ≤ r .1)
 unfolding written
 in-written a [] i = absurd (in-nil i)
-in-written a (r ∷ l) i = go (in-append (replicate (r .1) (r .0)) (written l) i) (λ j. in-written a l j)
+in-written a (r ∷ l) i = go (in-append (replicate (r .1) (r .0)) i) (λ j. in-written a l j)
   where
     go : In a (replicate (r .1) (r .0)) ⊎ In a (written l) → (In a (written l) → (s : Two) × In s l × (a ≡ s .0) × (1 ≤ s .1)) → (s : Two) × In s (r ∷ l) × (a ≡ s .0) × (1 ≤ s .1)
     go (inl j) ih = (r, here, replicate-in (r .1) j .0, replicate-in (r .1) j .1)
@@ -114,27 +115,7 @@ unfolding written
 written-ones [] h = refl
 written-ones (r ∷ l) h = rw (h r here) (ap (λ (z : List ℕ). r .0 ∷ z) (written-ones l (λ s i. h s (there i))))
 
--- ---- monomials: "counts of one class added"
-pub insert-count : (k c n : ℕ) (m : List Two) → countIn k (insertAdd c n m) ≡ pick (eqb c k) n 0 + countIn k m
-unfolding insertAdd countIn
-insert-count k c n [] = refl
-insert-count k c n (r ∷ m) = go (ltb (r .0) c) refl (eqb (r .0) c) refl (insert-count k c n m)
-  where
-    go : (a : Bool) → ltb (r .0) c ≡ a → (b : Bool) → eqb (r .0) c ≡ b → countIn k (insertAdd c n m) ≡ pick (eqb c k) n 0 + countIn k m → countIn k (insertAdd c n (r ∷ m)) ≡ pick (eqb c k) n 0 + countIn k (r ∷ m)
-    go true p b q ih = rw (p, insertAdd) (omega (arith, ih))
-    go false p true q ih =
-        rw (p, insertAdd, q, eqb-true (r .0) c q) (omega (arith, times-pick (r .1 + n) (eqb c k), times-pick (r .1) (eqb c k), times-pick n (eqb c k)))
-    go false p false q ih = rw (p, insertAdd, q) refl
-
-addAll-count : (k : ℕ) (m l : List Two) → countIn k (addAll m l) ≡ countIn k m + countIn k l
-unfolding addAll countIn
-addAll-count k m [] = omega arith
-addAll-count k m (r ∷ l) = omega (arith, addAll-count k (insertAdd (r .0) (r .1) m) l, insert-count k (r .0) (r .1) m)
-
-pub monomial-count : (k : ℕ) (l : List Two) → countIn k (monomial l) ≡ countIn k l
-unfolding countIn
-monomial-count k l = omega (arith, addAll-count k [] l)
-
+-- ---- monomials
 -- what holds of every class holds of the monomial's
 pub insert-all : (P : ℕ → Type 0) (c n : ℕ) (m : List Two) → P c → ((r : Two) → In r m → P (r .0)) → (r : Two) → In r (insertAdd c n m) → P (r .0)
 unfolding insertAdd

@@ -1,15 +1,14 @@
--- A plan's cells written out: "row sums give the left member's children .., column sums the right's", by counting.
+-- "Row and column sums of the plan equal the margins": written out, the cells of a plan have the rows as their left classes and the columns as their right ones.
 use mathlib.Core.Path.{_≡_, refl, sym, ap, ap₂, _∙_}
-use mathlib.Core.Bool.{Bool, true, false}
 use mathlib.Core.List.{List, [], _∷_, _++_, map}
-use Prim.Native.Nat.{ℕ, zero, suc, _+_, _*_, _-_, _≤_, _<_}
+use Prim.Native.Nat.{ℕ, zero, suc, _+_, _*_, _<_}
 use native.Mathlib.Nat.{not-suc-le-zero}
 use native.Mathlib.Omega.{arith}
 use lib.Dec.{eqb}
 use lib.ListN.{length, getD, replicate, length-append, length-map}
 use Rattle.spec.specs.Bytes.{pick, sumTo, each, Two}
 use Rattle.spec.specs.Monomial.{MonomialPair, classes, counts}
-use Rattle.spec.specs.Transport.{Problem, rowsOf, colsOf, rowFlow, colFlow, supplyAt, demandAt}
+use Rattle.spec.specs.Transport.{rowsOf, colsOf, rowFlow, colFlow}
 use Rattle.spec.specs.Action.{TransportAction, cellPairs}
 use Rattle.spec.specs.Round.{problemOver}
 use Rattle.spec.specs.Meaning.{Plan, occurs, countIn}

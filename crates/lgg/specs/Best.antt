@@ -1,66 +1,69 @@
 -- Best terms and starting terms: the fuel suffices, the pool stays valid, and each term has its quality and belongs, read either way.
 use mathlib.Core.Path.{_≡_, refl, sym, ap, ap₂, _∙_}
-use mathlib.Core.Logic.{_≢_, _⊎_, inl, inr}
+use mathlib.Core.Logic.{_≢_}
 use mathlib.Core.Bool.{Bool, true, false}
-use mathlib.Core.List.{List, [], _∷_, _++_, map}
-use Prim.Native.Nat.{ℕ, zero, suc, _+_, _*_, _-_, _≤_, _<_}
-use native.Mathlib.Nat.{not-suc-le-zero}
+use mathlib.Core.List.{List, [], _∷_, map}
+use Prim.Native.Nat.{ℕ, zero, suc, _+_, _*_, _≤_, _<_}
 use native.Mathlib.Omega.{arith}
 use lib.Dec.{eqb}
-use borrow.Author.Tests.{eqb-true, eqb-false}
-use lib.ListN.{length, getD}
-use Rattle.spec.specs.Bytes.{Two, pick, sum, either, Res, ok, refused, _>>=_}
-use Rattle.spec.specs.Image.{Tables, Member, MSet, SPair, Set, Lit, arities, FREE, isAC, isCommutative, kindOf, bestSize, membersOf, childrenOf, bestMember, sizeOver}
+use borrow.Author.Tests.{eqb-true}
+use lib.ListN.{length}
+use Rattle.spec.specs.Bytes.{Two, pick, sum, Res, ok, refused, _>>=_}
+use Rattle.spec.specs.Image.{Tables, Member, MSet, Lit, arities, isCommutative, kindOf, bestSize, membersOf, childrenOf, bestMember, sizeOver}
 use Rattle.spec.specs.Monomial.{classes, counts}
 use Rattle.spec.specs.Transport.{planSize, planMass}
-use Rattle.spec.specs.Pool.{Pool, Node, nodeAt, joinRuns, opNode, litNode, variantsNode, Interned, interned, intern, Children, childTerms, bestTermIn, bestTerm, startingTerm}
+use Rattle.spec.specs.Pool.{Pool, joinRuns, opNode, litNode, variantsNode, Interned, intern, Children, childTerms, bestTermIn, bestTerm, startingTerm}
 use Rattle.spec.specs.Round.{startingQuality, cellsOver, qualityOver}
-use Rattle.spec.specs.Meaning.{In, here, there, Term, lit, node, variants, Runs, termQuality, expand, reading, runsOf, treeOf, treesAfter, treeAt, countIn, occurs, Side, member, Belongs, literal}
+use Rattle.spec.specs.Meaning.{In, here, there, Term, lit, node, variants, Runs, termQuality, expand, reading, runsOf, treesAfter, treeAt, member, Belongs, literal}
 use Rattle.laws.specs.Valid.{Valid}
-use Rattle.lgg.specs.Bag.{bind-ok, ok-inj, false-true, in-nil, map-map, perm-of-eq}
+use Rattle.lgg.specs.Bag.{perm-of-eq}
 use Rattle.lgg.specs.BagCount.{written, spread, map-spread, spread-written, occurs-written, written-ones, join-written}
-use Rattle.lgg.specs.Pool.{Below, below-nil, below-cons, below-more, PoolValid, op-valid, lit-valid, variants-valid, numbered, tree-operation, tree-literal, tree-marked}
+use Rattle.lgg.specs.Pool.{RunsBelow, runs-below-nil, runs-below-cons, PoolValid, op-valid, lit-valid, variants-valid, tree-operation, tree-literal, tree-marked}
 use Rattle.lgg.specs.PoolTrees.{expand-runs}
-use Rattle.lgg.specs.PoolIntern.{Grown, grown-refl, grown-trans, grown-within, grown-tree, Entered, intern-enters}
-use Rattle.lgg.specs.ReadingsNode.{Covers, inOrder, anyOrder, Good, AllGood, noPlace, place, good-node}
+use Rattle.lgg.specs.PoolIntern.{Extends, extends-refl, extends-trans, extends-within, extends-tree, Interns, intern-enters}
+use Rattle.lgg.specs.ReadingsNode.{Covers, inOrder, anyOrder, TermFor, TermsFor, noPlace, place, good-node}
 use Rattle.lgg.specs.BestMembers.{best-in, best-falls, child-within, child-counted, child-single, member-arity}
+use Rattle.lgg.specs.Lists.{clash, map-map}
+use Rattle.lgg.specs.Results.{bind-ok, ok-inj}
 
--- an operation's node: it means the operation over its children's trees
-pub op-means : (p : Pool) (o : ℕ) (l : List Two) (r : Interned) → Entered p (opNode o l) r
-    → (treeAt (r .pool) (r .term) ≡ node o (runsOf (treesAfter [] p) (joinRuns l))) × (expand (runsOf (treesAfter [] p) (joinRuns l)) ≡ map (treeAt p) (written l))
+-- an operation's node means the operation over its children's trees
+abbrev pub OpMeans : Pool → ℕ → List Two → Interned → Type 0
+OpMeans p o l r = (treeAt (r .pool) (r .term) ≡ node o (runsOf (treesAfter [] p) (joinRuns l))) × (expand (runsOf (treesAfter [] p) (joinRuns l)) ≡ map (treeAt p) (written l))
+
+pub op-means : (p : Pool) (o : ℕ) (l : List Two) (r : Interned) → Interns p (opNode o l) r → OpMeans p o l r
 op-means p o l r e = (e .means ∙ tree-operation (treesAfter [] p) (opNode o l) refl, expand-runs (treesAfter [] p) (joinRuns l) ∙ ap (map (treeAt p)) (join-written l))
 
 -- what a step that makes a term for a pair in pool p gives: the pool stays valid, and the term is good for the pair and the quality
 pub record Makes (t : Tables) (p : Pool) (c q : Two) (r : Interned) : Type 0 where
   pub valid : PoolValid (r .pool)
-  pub grown : Grown p (r .pool)
+  pub grown : Extends p (r .pool)
   pub within : r .term < length (r .pool)
-  pub good : Good t c q (treeAt (r .pool) (r .term))
+  pub good : TermFor t c q (treeAt (r .pool) (r .term))
 
 -- the children of a best term: their pool, their runs along the member's children, their trees
 record MakesChildren (t : Tables) (p : Pool) (l : List Two) (k : Children) : Type 0 where
   valid : PoolValid (k .pool)
-  grown : Grown p (k .pool)
-  below : Below (length (k .pool)) (k .runs)
+  grown : Extends p (k .pool)
+  below : RunsBelow (length (k .pool)) (k .runs)
   same : counts (k .runs) ≡ counts l
-  good : AllGood t (map (λ c. (c .0, c .0)) l) (map (λ c. (bestSize t (c .0), 0)) l) (map (treeAt (k .pool)) (classes (k .runs)))
+  good : TermsFor t (map (λ c. (c .0, c .0)) l) (map (λ c. (bestSize t (c .0), 0)) l) (map (treeAt (k .pool)) (classes (k .runs)))
 
 module _ (t : Tables) where
   children-made : (best : Pool → ℕ → Res Interned) (l : List Two) → ((c : Two) → In c l → (p : Pool) (r : Interned) → PoolValid p → best p (c .0) ≡ ok r → Makes t p (c .0, c .0) (bestSize t (c .0), 0) r)
       → ((c : Two) → In c l → 1 ≤ c .1) → (p : Pool) (k : Children) → PoolValid p → childTerms best p l ≡ ok k → MakesChildren t p l k
   unfolding childTerms
-  children-made best [] h n p k v e = rw (← ok-inj e) (record { valid = v; grown = grown-refl p; below = below-nil (length p); same = refl; good = noPlace })
+  children-made best [] h n p k v e = rw (← ok-inj e) (record { valid = v; grown = extends-refl p; below = runs-below-nil (length p); same = refl; good = noPlace })
   children-made best (c ∷ l) h n p k v e =
       let (a, ea, e′) = bind-ok (best p (c .0)) _ k e in
       let (m, em, e″) = bind-ok (childTerms best (a .pool) l) _ k e′ in
       let A = h c here p a v ea in
       let M = children-made best l (λ d i. h d (there i)) (λ d i. n d (there i)) (a .pool) m (A .valid) em in
-      let kept : treeAt (m .pool) (a .term) ≡ treeAt (a .pool) (a .term) = grown-tree (M .grown) (a .term) (A .within) in
-      let g : Good t (c .0, c .0) (bestSize t (c .0), 0) (treeAt (m .pool) (a .term)) = rw kept (A .good) in
+      let kept : treeAt (m .pool) (a .term) ≡ treeAt (a .pool) (a .term) = extends-tree (M .grown) (a .term) (A .within) in
+      let g : TermFor t (c .0, c .0) (bestSize t (c .0), 0) (treeAt (m .pool) (a .term)) = rw kept (A .good) in
       rw (← ok-inj e″) (record {
         valid = M .valid;
-        grown = grown-trans (A .grown) (M .grown);
-        below = below-cons {r = (a .term, c .1)} (grown-within (M .grown) (a .term) (A .within)) (n c here) (M .below);
+        grown = extends-trans (A .grown) (M .grown);
+        below = runs-below-cons {r = (a .term, c .1)} (extends-within (M .grown) (a .term) (A .within)) (n c here) (M .below);
         same = ap (λ (z : List ℕ). c .1 ∷ z) (M .same);
         good = place g (M .good);
       })
@@ -118,7 +121,7 @@ module _ (t : Tables) where
   best-mass (c ∷ l) = omega (arith, best-mass l)
 
   not-mset : (k : ℕ) → isCommutative k ≡ false → k ≢ MSet
-  not-mset k e z = false-true (sym (rw z at e))
+  not-mset k e z = clash (rw z at e)
 
   -- a member is what its class is under the member's operation
   pub member-covers : Valid t → (m : Member) (c : ℕ) → In m (membersOf t c) → Covers t (m .op) c (written (childrenOf t m))
@@ -132,7 +135,7 @@ module _ (t : Tables) where
   nil-of-length [] e = refl
   nil-of-length (c ∷ l) e = absurd (omega arith)
 
-  literal-good : Valid t → (c : ℕ) → c < length (t .classes) → kindOf t (bestMember t c .op) ≡ Lit → Good t (c, c) (bestSize t c, 0) (lit (bestMember t c .op) (bestMember t c .value))
+  literal-good : Valid t → (c : ℕ) → c < length (t .classes) → kindOf t (bestMember t c .op) ≡ Lit → TermFor t (c, c) (bestSize t c, 0) (lit (bestMember t c .op) (bestMember t c .value))
   unfolding arities sizeOver sum termQuality reading
   literal-good v c h k = record { quality = ap (λ (z : ℕ). (z, 0)) (sym one); first = belongs; second = belongs }
     where
@@ -150,13 +153,13 @@ module _ (t : Tables) where
 
   -- the best member over terms that are best for its children
   node-good : Valid t → (c : ℕ) → c < length (t .classes) → (ts : List Term) (r : Runs)
-      → AllGood t (map (λ d. (d .0, d .0)) (childrenOf t (bestMember t c))) (map (λ d. (bestSize t (d .0), 0)) (childrenOf t (bestMember t c))) ts
-      → expand r ≡ spread ts (counts (childrenOf t (bestMember t c))) → Good t (c, c) (bestSize t c, 0) (node (bestMember t c .op) r)
+      → TermsFor t (map (λ d. (d .0, d .0)) (childrenOf t (bestMember t c))) (map (λ d. (bestSize t (d .0), 0)) (childrenOf t (bestMember t c))) ts
+      → expand r ≡ spread ts (counts (childrenOf t (bestMember t c))) → TermFor t (c, c) (bestSize t c, 0) (node (bestMember t c .op) r)
   unfolding sizeOver
   node-good v c h ts r g e =
       rw (best-is) (good-node t (c, c) (m .op) (map (λ d. (d .0, d .0)) l) (map (λ d. (bestSize t (d .0), 0)) l) ts (counts l) r g (perm-of-eq (sym e)) (λ n. sym e)
-      (rw (map-map {B = Two} (λ d. d .0) (λ d. (d .0, d .0)) l, spread-written l) (member-covers v m c (best-in t v c h)))
-      (rw (map-map {B = Two} (λ d. d .1) (λ d. (d .0, d .0)) l, spread-written l) (member-covers v m c (best-in t v c h))))
+      (rw (map-map {B = Two} (λ d. (d .0, d .0)) (λ d. d .0) l, spread-written l) (member-covers v m c (best-in t v c h)))
+      (rw (map-map {B = Two} (λ d. (d .0, d .0)) (λ d. d .1) l, spread-written l) (member-covers v m c (best-in t v c h))))
     where
       m : Member
       m = bestMember t c
@@ -178,7 +181,7 @@ module _ (t : Tables) where
       l : List Two
       l = childrenOf t m
 
-      asLiteral : kindOf t (m .op) ≡ Lit → Entered p (litNode (m .op) (m .value)) r → Makes t p (c, c) (bestSize t c, 0) r
+      asLiteral : kindOf t (m .op) ≡ Lit → Interns p (litNode (m .op) (m .value)) r → Makes t p (c, c) (bestSize t c, 0) r
       asLiteral k E = record {
         valid = E .valid;
         grown = E .grown;
@@ -187,11 +190,11 @@ module _ (t : Tables) where
             (literal-good v c h k);
       }
 
-      asNode : (k : Children) → MakesChildren t p l k → Entered (k .pool) (opNode (m .op) (k .runs)) r → Makes t p (c, c) (bestSize t c, 0) r
+      asNode : (k : Children) → MakesChildren t p l k → Interns (k .pool) (opNode (m .op) (k .runs)) r → Makes t p (c, c) (bestSize t c, 0) r
       asNode k M E =
           let (means, children) = op-means (k .pool) (m .op) (k .runs) r E in record {
             valid = E .valid;
-            grown = grown-trans (M .grown) (E .grown);
+            grown = extends-trans (M .grown) (E .grown);
             within = E .within;
             good = rw means (node-good v c h (map (treeAt (k .pool)) (classes (k .runs))) _ (M .good)
                 (children ∙ ap (map (treeAt (k .pool))) (sym (spread-written (k .runs))) ∙ map-spread (treeAt (k .pool)) (classes (k .runs)) (counts (k .runs)) ∙ ap (spread (map (treeAt (k .pool)) (classes (k .runs)))) (M .same)));
@@ -211,12 +214,15 @@ module _ (t : Tables) where
   pub best-term : Valid t → (p : Pool) (c : ℕ) (r : Interned) → c < length (t .classes) → PoolValid p → bestTerm t p c ≡ ok r → Makes t p (c, c) (bestSize t c, 0) r
   best-term v p c r h w e = best-made v (bestSize t c) p c r h (omega arith) w e
 
+  pub best-quality : Valid t → (p : Pool) (c : ℕ) (r : Interned) → c < length (t .classes) → PoolValid p → bestTerm t p c ≡ ok r → termQuality (treeAt (r .pool) (r .term)) ≡ (bestSize t c, 0)
+  best-quality v p c r h w e = best-term v p c r h w e .good .quality
+
   -- ---- "Starting term: the best term of one class, mass 0; or the marked place Variants of two best terms, size and mass both their sum."
   same-classes : (p : Pool) (c : Two) (r : Interned) → c .0 ≡ c .1 → Makes t p (c .0, c .0) (bestSize t (c .0), 0) r → Makes t p c (bestSize t (c .0), 0) r
   same-classes p c r e M = record { valid = M .valid; grown = M .grown; within = M .within; good = record { quality = M .good .quality; first = M .good .first; second = rw (← e) (M .good .second) } }
 
-  marked-good : (c : Two) (a b : Term) → Good t (c .0, c .0) (bestSize t (c .0), 0) a → Good t (c .1, c .1) (bestSize t (c .1), 0) b
-      → Good t c (bestSize t (c .0) + bestSize t (c .1), bestSize t (c .0) + bestSize t (c .1)) (variants a b)
+  marked-good : (c : Two) (a b : Term) → TermFor t (c .0, c .0) (bestSize t (c .0), 0) a → TermFor t (c .1, c .1) (bestSize t (c .1), 0) b
+      → TermFor t c (bestSize t (c .0) + bestSize t (c .1), bestSize t (c .0) + bestSize t (c .1)) (variants a b)
   unfolding termQuality reading
   marked-good c a b g h = record {
     quality = ap₂ (λ (x y : Two). (x .0 + y .0, x .0 + y .0)) (g .quality) (h .quality);
@@ -237,11 +243,11 @@ module _ (t : Tables) where
           let (y, ey, e″) = bind-ok (bestTerm t (x .pool) (c .1)) _ r e′ in
           let X = best-term v p (c .0) x h w ex in
           let Y = best-term v (x .pool) (c .1) y k (X .valid) ey in
-          let l : x .term < length (y .pool) = grown-within (Y .grown) (x .term) (X .within) in
+          let l : x .term < length (y .pool) = extends-within (Y .grown) (x .term) (X .within) in
           let E = intern-enters (y .pool) (variantsNode (x .term) (y .term)) r (Y .valid) (variants-valid (length (y .pool)) (x .term) (y .term) l (Y .within)) e″ in record {
             valid = E .valid;
-            grown = grown-trans (X .grown) (grown-trans (Y .grown) (E .grown));
+            grown = extends-trans (X .grown) (extends-trans (Y .grown) (E .grown));
             within = E .within;
             good = rw (E .means ∙ tree-marked (treesAfter [] (y .pool)) (x .term) (y .term))
-                (marked-good c _ _ (rw (grown-tree (Y .grown) (x .term) (X .within)) (X .good)) (Y .good));
+                (marked-good c _ _ (rw (extends-tree (Y .grown) (x .term) (X .within)) (X .good)) (Y .good));
           }

@@ -1,14 +1,14 @@
 -- What a valid image says of a class's members, of their children, and of the best one.
-use mathlib.Core.Path.{_≡_, refl, sym, ap, ap₂, _∙_}
-use mathlib.Core.Logic.{_≢_, _⊎_, inl, inr}
-use mathlib.Core.Bool.{Bool, true, false}
-use mathlib.Core.List.{List, [], _∷_, _++_, map}
-use Prim.Native.Nat.{ℕ, zero, suc, _+_, _*_, _-_, _≤_, _<_, min}
+use mathlib.Core.Path.{ap, _≡_, _∙_}
+use mathlib.Core.Logic.{_≢_}
+use mathlib.Core.List.{List, [], _∷_, map}
+use Prim.Native.Nat.{ℕ, zero, suc, _+_, _*_, _≤_, _<_}
 use native.Mathlib.Nat.{not-suc-le-zero, mul-le-mul-right}
+use native.Mathlib.Decide.{decLt}
 use native.Mathlib.Omega.{arith}
-use lib.ListN.{length, getD, take, drop, length-map, length-take, length-drop, List·getD-map}
+use lib.ListN.{length, getD, take, drop, length-map, length-take, length-drop, List·getD-map, List·getD-eq-default}
 use Rattle.spec.specs.Bytes.{Two, sum}
-use Rattle.spec.specs.Image.{Tables, Member, SPair, MSet, Lit, arities, FREE, theClass, theMember, kindOf, bestSize, membersOf, childrenOf, bestMember, sizeOver}
+use Rattle.spec.specs.Image.{NO-IDENTITY, Operation, identityOf, Tables, Member, MSet, arities, FREE, theClass, theMember, kindOf, bestSize, membersOf, childrenOf, bestMember, sizeOver}
 use Rattle.spec.specs.Meaning.{In, here, there}
 use Rattle.laws.specs.Valid.{Valid, Follow, classSpans, memberSpans}
 use Rattle.lgg.specs.Bag.{in-span, span-in}
@@ -24,6 +24,12 @@ span-fits : (end : ℕ) (spans : List Two) → Follow end spans → (i : ℕ) �
 span-fits end spans f i h =
     let c = List·getD-map (λ s. s .1) spans i (0, 0) in
     omega (arith, f .begins i h, f .ends, take-sum (map (λ s. s .1) spans) i (omega (arith, length-map spans (λ s. s .1))))
+
+abbrev pub IsClass : Tables → ℕ → Type 0
+IsClass t c = c < length (t .classes)
+
+abbrev pub IsPair : Tables → Two → Type 0
+IsPair t p = IsClass t (p .0) × IsClass t (p .1)
 
 module _ (t : Tables) (v : Valid t) where
   class-fits : (c : ℕ) → c < length (t .classes) → theClass t c .first + theClass t c .count ≤ length (t .members)
@@ -54,9 +60,6 @@ module _ (t : Tables) (v : Valid t) where
   pub member-arity : (m : Member) (c : ℕ) → In m (membersOf t c) → getD arities (kindOf t (m .op)) FREE ≢ FREE → length (childrenOf t m) ≡ getD arities (kindOf t (m .op)) FREE
   member-arity m c i n = let (k, h, e) = member-number m c i in children-length m c i ∙ rw e (v .children .arity k h (rw e at n))
 
-  pub member-operation : (m : Member) (c : ℕ) → In m (membersOf t c) → m .op < length (t .operations)
-  member-operation m c i = let (k, h, e) = member-number m c i in rw e (v .spans .operationWithin k h)
-
   -- "best member by its number in the member table"
   pub best-in : (c : ℕ) → c < length (t .classes) → In (bestMember t c) (membersOf t c)
   best-in c h = let (a, b) = v .best .bestWithin c h in in-span (t .members) (theClass t c .first) (theClass t c .count) (theClass t c .best) _ a b (omega (arith, class-fits c h))
@@ -70,3 +73,11 @@ module _ (t : Tables) (v : Valid t) where
   pub best-falls : (c : ℕ) → c < length (t .classes) → (d : Two) → In d (childrenOf t (bestMember t c)) → bestSize t (d .0) < bestSize t c
   unfolding sizeOver
   best-falls c h d i = omega (arith, v .best .bestEquation c h, size-part (childrenOf t (bestMember t c)) d i (child-counted (bestMember t c) c (best-in c h) d i))
+
+  -- "a class of the image only for MSet and Set"
+  pub identity-class : (o : ℕ) → identityOf t o ≢ NO-IDENTITY → IsClass t (identityOf t o)
+  identity-class o n = go (decLt o (length (t .operations)))
+    where
+      go : Dec (o < length (t .operations)) → IsClass t (identityOf t o)
+      go (yes h) = v .operations .identities o h n .1
+      go (no h) = absurd (n (ap (λ (z : Operation). z .identity) (List·getD-eq-default (t .operations) (record { kind = 0; flag = 0; identity = NO-IDENTITY }) {n = o} (omega arith))))

@@ -1,16 +1,15 @@
 -- The order of terms on expanded child lists: "head's rank, operation, value, length, then the children from the left". At every fuel it can be reversed and is transitive.
 use mathlib.Core.Path.{_≡_, refl, sym, ap, ap₂, _∙_}
-use mathlib.Core.Logic.{_⊎_, inl, inr}
 use mathlib.Core.Bool.{Bool, true, false}
-use mathlib.Core.List.{List, [], _∷_, _++_, map}
-use Prim.Native.Nat.{ℕ, zero, suc, _+_, _≤_, _<_}
+use mathlib.Core.List.{List, [], _∷_, map}
+use Prim.Native.Nat.{ℕ, zero, suc, _<_}
 use native.Mathlib.Omega.{arith}
 use lib.Dec.{ltb, eqb}
 use borrow.Author.Tests.{ltb-true, ltb-false, eqb-true, eqb-false, lt-ltb, le-ltb, eq-eqb, ne-eqb}
 use lib.ListN.{length}
 use Rattle.spec.specs.Bytes.{pick}
 use Rattle.spec.specs.Pool.{OP, LIT, VARIANTS, Order, less, equal, greater, compareℕ, then}
-use Rattle.spec.specs.Meaning.{In, here, there, Term, lit, node, variants, Runs, expand}
+use Rattle.spec.specs.Meaning.{In, here, there, Term, lit, node, variants, expand}
 
 -- ---- a term's parts
 abbrev pub headOf : Term → ℕ
@@ -29,11 +28,11 @@ valueOf (node o r) = 0
 valueOf (variants a b) = 0
 
 -- the child list, every run written out
-unfoldable pub childrenOf : Term → List Term
+unfoldable pub expandedChildren : Term → List Term
 unfolding expand
-childrenOf (lit o v) = []
-childrenOf (node o r) = expand r
-childrenOf (variants a b) = a ∷ b ∷ []
+expandedChildren (lit o v) = []
+expandedChildren (node o r) = expand r
+expandedChildren (variants a b) = a ∷ b ∷ []
 
 -- from the left; a list before a longer one that it begins
 unfoldable pub lex : {A : Type 0} → (A → A → Order) → List A → List A → Order
@@ -44,13 +43,13 @@ lex cmp (x ∷ l) (y ∷ m) = then (cmp x y) (lex cmp l m)
 
 -- `structural_cmp` "as it does on the expanded lists". Fuel: above the depth.
 unfoldable pub termCmp : ℕ → Term → Term → Order
-unfolding childrenOf lex
+unfolding expandedChildren lex
 termCmp zero s t = equal
 termCmp (suc f) s t =
     then (compareℕ (headOf s) (headOf t))
     (then (compareℕ (opOf s) (opOf t))
     (then (compareℕ (valueOf s) (valueOf t))
-    (then (compareℕ (length (childrenOf s)) (length (childrenOf t))) (lex (termCmp f) (childrenOf s) (childrenOf t)))))
+    (then (compareℕ (length (expandedChildren s)) (length (expandedChildren t))) (lex (termCmp f) (expandedChildren s) (expandedChildren t)))))
 
 -- ---- reversed
 abbrev pub flip : Order → Order
@@ -180,12 +179,19 @@ module _ {A : Type 0} (cmp : A → A → Order) where
   lex-tri h (x ∷ l) (y ∷ m) [] = tri-greater (then (cmp x y) (lex cmp l m))
   lex-tri h (x ∷ l) (y ∷ m) (z ∷ k) = tri-then (cmp x y) (cmp y z) (cmp x z) _ _ _ (h x y z) (lex-tri h l m k)
 
-pub lex-cong : {A B : Type 0} (cmp : A → A → Order) (other : B → B → Order) (f : B → A) (l m : List B) → ((x y : B) → In x l → In y m → cmp (f x) (f y) ≡ other x y) → lex cmp (map f l) (map f m) ≡ lex other l m
+pub lex-map : {A B : Type 0} (cmp : A → A → Order) (f : B → A) (l m : List B) → lex cmp (map f l) (map f m) ≡ lex (λ x y. cmp (f x) (f y)) l m
 unfolding lex
-lex-cong cmp other f [] [] h = refl
-lex-cong cmp other f [] (y ∷ m) h = refl
-lex-cong cmp other f (x ∷ l) [] h = refl
-lex-cong cmp other f (x ∷ l) (y ∷ m) h = ap₂ then (h x y here here) (lex-cong cmp other f l m (λ a b i j. h a b (there i) (there j)))
+lex-map cmp f [] [] = refl
+lex-map cmp f [] (y ∷ m) = refl
+lex-map cmp f (x ∷ l) [] = refl
+lex-map cmp f (x ∷ l) (y ∷ m) = ap (then (cmp (f x) (f y))) (lex-map cmp f l m)
+
+pub lex-agree : {A : Type 0} (cmp other : A → A → Order) (l m : List A) → ((x y : A) → In x l → In y m → cmp x y ≡ other x y) → lex cmp l m ≡ lex other l m
+unfolding lex
+lex-agree cmp other [] [] h = refl
+lex-agree cmp other [] (y ∷ m) h = refl
+lex-agree cmp other (x ∷ l) [] h = refl
+lex-agree cmp other (x ∷ l) (y ∷ m) h = ap₂ then (h x y here here) (lex-agree cmp other l m (λ a b i j. h a b (there i) (there j)))
 
 pub then-equal : (a b : Order) → then a b ≡ equal → (a ≡ equal) × (b ≡ equal)
 then-equal less b e = (e, let z : less ≡ equal = e in cc)
@@ -210,8 +216,8 @@ term-flip (suc f) s t =
     turn (compareℕ (headOf s) (headOf t)) _ _ _ (compare-flip (headOf s) (headOf t))
     (turn (compareℕ (opOf s) (opOf t)) _ _ _ (compare-flip (opOf s) (opOf t))
     (turn (compareℕ (valueOf s) (valueOf t)) _ _ _ (compare-flip (valueOf s) (valueOf t))
-    (turn (compareℕ (length (childrenOf s)) (length (childrenOf t))) _ _ _ (compare-flip (length (childrenOf s)) (length (childrenOf t)))
-    (lex-flip (termCmp f) (λ a b. term-flip f a b) (childrenOf s) (childrenOf t)))))
+    (turn (compareℕ (length (expandedChildren s)) (length (expandedChildren t))) _ _ _ (compare-flip (length (expandedChildren s)) (length (expandedChildren t)))
+    (lex-flip (termCmp f) (λ a b. term-flip f a b) (expandedChildren s) (expandedChildren t)))))
   where
     turn : (x y x′ y′ : Order) → x′ ≡ flip x → y′ ≡ flip y → then x′ y′ ≡ flip (then x y)
     turn x y x′ y′ e k = ap₂ then e k ∙ sym (flip-then x y)
@@ -223,8 +229,8 @@ term-tri (suc f) s t u =
     tri-then (compareℕ (headOf s) (headOf t)) (compareℕ (headOf t) (headOf u)) (compareℕ (headOf s) (headOf u)) _ _ _ (compare-tri (headOf s) (headOf t) (headOf u))
     (tri-then (compareℕ (opOf s) (opOf t)) (compareℕ (opOf t) (opOf u)) (compareℕ (opOf s) (opOf u)) _ _ _ (compare-tri (opOf s) (opOf t) (opOf u))
     (tri-then (compareℕ (valueOf s) (valueOf t)) (compareℕ (valueOf t) (valueOf u)) (compareℕ (valueOf s) (valueOf u)) _ _ _ (compare-tri (valueOf s) (valueOf t) (valueOf u))
-    (tri-then (compareℕ (length (childrenOf s)) (length (childrenOf t))) (compareℕ (length (childrenOf t)) (length (childrenOf u))) (compareℕ (length (childrenOf s)) (length (childrenOf u))) _ _ _ (compare-tri (length (childrenOf s)) (length (childrenOf t)) (length (childrenOf u)))
-    (lex-tri (termCmp f) (λ a b c. term-tri f a b c) (childrenOf s) (childrenOf t) (childrenOf u)))))
+    (tri-then (compareℕ (length (expandedChildren s)) (length (expandedChildren t))) (compareℕ (length (expandedChildren t)) (length (expandedChildren u))) (compareℕ (length (expandedChildren s)) (length (expandedChildren u))) _ _ _ (compare-tri (length (expandedChildren s)) (length (expandedChildren t)) (length (expandedChildren u)))
+    (lex-tri (termCmp f) (λ a b c. term-tri f a b c) (expandedChildren s) (expandedChildren t) (expandedChildren u)))))
 
 pub term-refl : (f : ℕ) (s : Term) → termCmp f s s ≡ equal
 term-refl f s = go (termCmp f s s) (term-flip f s s)

@@ -1,18 +1,18 @@
--- The pool: what keeps its entries in order, what its numbers mean as trees, and what interning does.
-use mathlib.Core.Path.{_≡_, refl, sym, ap, ap₂, _∙_}
-use mathlib.Core.Logic.{_≢_, _⊎_, inl, inr}
+-- The pool: what keeps its entries in order, and what its numbers mean as trees.
+use mathlib.Core.Path.{_≡_, refl, sym, _∙_}
+use mathlib.Core.Logic.{_≢_, inl, inr}
 use mathlib.Core.Bool.{Bool, true, false}
-use mathlib.Core.List.{List, [], _∷_, _++_, map, append-assoc, append-nil}
-use Prim.Native.Nat.{ℕ, zero, suc, _+_, _*_, _-_, _≤_, _<_}
+use mathlib.Core.List.{List, [], _∷_, _++_}
+use Prim.Native.Nat.{ℕ, _+_, _≤_, _<_}
 use native.Mathlib.Nat.{not-suc-le-zero}
 use native.Mathlib.Omega.{arith}
-use lib.Dec.{ltb, leb, eqb}
-use borrow.Author.Tests.{eqb-true, eqb-false, eq-eqb, ne-eqb, ltb-true, ltb-false, lt-ltb}
+use lib.Dec.{eqb}
+use borrow.Author.Tests.{eqb-true, eqb-false}
 use lib.ListN.{length, getD, length-append, List·getD-append}
-use Rattle.spec.specs.Bytes.{pick, both, place, Two, sameTwo, sameTwos, Res, ok, refused}
-use Rattle.spec.specs.Pool.{Node, Pool, nodeAt, OP, LIT, VARIANTS, joinTo, joinRuns, opNode, litNode, variantsNode, TERMS, RUNS, sameNode, runCount, Interned, interned, intern}
-use Rattle.spec.specs.Meaning.{In, here, there, Term, lit, node, variants, Runs, done, run, runsOf, firstBranch, secondBranch, treeOf, treesAfter, treeAt}
-use Rattle.lgg.specs.Bag.{ok-inj, refused-ok, false-true, in-nil, in-cons, in-getD}
+use Rattle.spec.specs.Bytes.{pick, Two}
+use Rattle.spec.specs.Pool.{Node, Pool, nodeAt, OP, LIT, joinTo, joinRuns, opNode, litNode, variantsNode}
+use Rattle.spec.specs.Meaning.{In, here, there, Term, lit, node, variants, runsOf, firstBranch, secondBranch, treeOf, treesAfter, treeAt}
+use Rattle.lgg.specs.Lists.{in-cons, in-nil}
 
 -- ---- "runs of (child, count), neighbours with the same child joined"
 pub data Joined : List Two → Type 0 where
@@ -21,7 +21,7 @@ pub data Joined : List Two → Type 0 where
   more : {r s : Two} {l : List Two} → r .0 ≢ s .0 → Joined (s ∷ l) → Joined (r ∷ s ∷ l)
 
 -- every run names a number below i, so many times and at least once
-pub record Below (i : ℕ) (l : List Two) : Type 0 where
+pub record RunsBelow (i : ℕ) (l : List Two) : Type 0 where
   pub earlier : (r : Two) → In r l → r .0 < i
   pub counted : (r : Two) → In r l → 1 ≤ r .1
 
@@ -34,7 +34,7 @@ pub data Formed (n : Node) : Type 0 where
 -- an entry over entries before number i
 pub record NodeValid (i : ℕ) (n : Node) : Type 0 where
   pub formed : Formed n
-  pub below : Below i (n .runs)
+  pub below : RunsBelow i (n .runs)
   pub joined : Joined (n .runs)
 
 -- "The pool: terms, each over earlier ones, no two alike."
@@ -46,11 +46,11 @@ pub empty-valid : PoolValid []
 empty-valid = record { nodes = λ i h. absurd (not-suc-le-zero h); apart = λ i j h k e. absurd (not-suc-le-zero h) }
 
 -- ---- joining keeps runs below and joins them
-joinTo-below : (i : ℕ) (r : Two) (l : List Two) → r .0 < i → 1 ≤ r .1 → Below i l → Below i (joinTo r l)
+joinTo-below : (i : ℕ) (r : Two) (l : List Two) → r .0 < i → 1 ≤ r .1 → RunsBelow i l → RunsBelow i (joinTo r l)
 joinTo-below i r [] h k b = record { earlier = λ s j. elim (in-cons j) [ inl e ↦ rw e h | inr z ↦ absurd (in-nil z) ]; counted = λ s j. elim (in-cons j) [ inl e ↦ rw e k | inr z ↦ absurd (in-nil z) ] }
 joinTo-below i r (s ∷ l) h k b = go (eqb (r .0) (s .0))
   where
-    go : (t : Bool) → Below i (pick t ((r .0, r .1 + s .1) ∷ l) (r ∷ s ∷ l))
+    go : (t : Bool) → RunsBelow i (pick t ((r .0, r .1 + s .1) ∷ l) (r ∷ s ∷ l))
     go true = record {
       earlier = λ z j. elim (in-cons j) [ inl e ↦ rw e h | inr y ↦ b .earlier z (there y) ];
       counted = λ z j. elim (in-cons j) [ inl e ↦ rw e (omega arith) | inr y ↦ b .counted z (there y) ];
@@ -60,25 +60,22 @@ joinTo-below i r (s ∷ l) h k b = go (eqb (r .0) (s .0))
       counted = λ z j. elim (in-cons j) [ inl e ↦ rw e k | inr y ↦ b .counted z y ];
     }
 
-pub below-tail : {i : ℕ} {r : Two} {l : List Two} → Below i (r ∷ l) → Below i l
-below-tail b = record { earlier = λ s j. b .earlier s (there j); counted = λ s j. b .counted s (there j) }
+pub runs-below-tail : {i : ℕ} {r : Two} {l : List Two} → RunsBelow i (r ∷ l) → RunsBelow i l
+runs-below-tail b = record { earlier = λ s j. b .earlier s (there j); counted = λ s j. b .counted s (there j) }
 
-pub below-cons : {i : ℕ} {r : Two} {l : List Two} → r .0 < i → 1 ≤ r .1 → Below i l → Below i (r ∷ l)
-below-cons h k b = record {
+pub runs-below-cons : {i : ℕ} {r : Two} {l : List Two} → r .0 < i → 1 ≤ r .1 → RunsBelow i l → RunsBelow i (r ∷ l)
+runs-below-cons h k b = record {
   earlier = λ z j. elim (in-cons j) [ inl e ↦ rw e h | inr y ↦ b .earlier z y ];
   counted = λ z j. elim (in-cons j) [ inl e ↦ rw e k | inr y ↦ b .counted z y ];
 }
 
-pub below-nil : (i : ℕ) → Below i []
-below-nil i = record { earlier = λ r j. absurd (in-nil j); counted = λ r j. absurd (in-nil j) }
+pub runs-below-nil : (i : ℕ) → RunsBelow i []
+runs-below-nil i = record { earlier = λ r j. absurd (in-nil j); counted = λ r j. absurd (in-nil j) }
 
-pub below-more : {i j : ℕ} {l : List Two} → i ≤ j → Below i l → Below j l
-below-more h b = record { earlier = λ r k. let z = b .earlier r k in omega arith; counted = λ r k. b .counted r k }
-
-pub join-below : (i : ℕ) (l : List Two) → Below i l → Below i (joinRuns l)
+pub join-below : (i : ℕ) (l : List Two) → RunsBelow i l → RunsBelow i (joinRuns l)
 unfolding joinRuns
 join-below i [] b = b
-join-below i (r ∷ l) b = joinTo-below i r (joinRuns l) (b .earlier r here) (b .counted r here) (join-below i l (below-tail b))
+join-below i (r ∷ l) b = joinTo-below i r (joinRuns l) (b .earlier r here) (b .counted r here) (join-below i l (runs-below-tail b))
 
 joined-tail : {r : Two} {l : List Two} → Joined (r ∷ l) → Joined l
 joined-tail one = none
@@ -103,16 +100,16 @@ join-joined [] = none
 join-joined (r ∷ l) = joinTo-joined r (joinRuns l) (join-joined l)
 
 -- ---- the nodes that the steps enter
-pub op-valid : (i o : ℕ) (l : List Two) → Below i l → NodeValid i (opNode o l)
+pub op-valid : (i o : ℕ) (l : List Two) → RunsBelow i l → NodeValid i (opNode o l)
 op-valid i o l b = record { formed = operation refl refl; below = join-below i l b; joined = join-joined l }
 
 pub lit-valid : (i o v : ℕ) → NodeValid i (litNode o v)
-lit-valid i o v = record { formed = literal refl refl; below = below-nil i; joined = none }
+lit-valid i o v = record { formed = literal refl refl; below = runs-below-nil i; joined = none }
 
 pub variants-valid : (i a b : ℕ) → a < i → b < i → NodeValid i (variantsNode a b)
 variants-valid i a b h k = record {
   formed = marked a b refl;
-  below = join-below i ((a, 1) ∷ (b, 1) ∷ []) (below-cons h (omega arith) (below-cons k (omega arith) (below-nil i)));
+  below = join-below i ((a, 1) ∷ (b, 1) ∷ []) (runs-below-cons h (omega arith) (runs-below-cons k (omega arith) (runs-below-nil i)));
   joined = join-joined ((a, 1) ∷ (b, 1) ∷ []);
 }
 

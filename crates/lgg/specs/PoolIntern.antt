@@ -1,47 +1,42 @@
 -- Interning: a node that is there keeps its number; a new one is entered at the end.
 use mathlib.Core.Path.{_≡_, refl, sym, ap, ap₂, _∙_}
-use mathlib.Core.Logic.{_≢_, _⊎_, inl, inr}
+use mathlib.Core.Logic.{_⊎_, inl, inr}
 use mathlib.Core.Bool.{Bool, true, false}
-use mathlib.Core.List.{List, [], _∷_, _++_, map, append-nil, append-assoc}
+use mathlib.Core.List.{List, [], _∷_, _++_, append-nil, append-assoc}
 use Prim.Native.Nat.{ℕ, zero, suc, _+_, _≤_, _<_}
 use native.Mathlib.Nat.{not-suc-le-zero, eq-or-lt-of-le}
 use native.Mathlib.Omega.{arith}
 use lib.Dec.{ltb, leb, eqb}
 use borrow.Author.Tests.{eqb-true, eq-eqb, ltb-true, ltb-false, lt-ltb}
 use lib.ListN.{length, getD, length-append, List·getD-append}
-use Rattle.spec.specs.Bytes.{pick, both, place, Two, sameTwo, sameTwos, Res, ok, refused}
+use Rattle.spec.specs.Bytes.{pick, both, place, Two, sameTwo, sameTwos, ok, refused}
 use Rattle.spec.specs.Pool.{Node, Pool, nodeAt, TERMS, RUNS, sameNode, runCount, Interned, interned, intern}
-use Rattle.spec.specs.Meaning.{Term, treeOf, treesAfter, treeAt}
-use Rattle.lgg.specs.Bag.{ok-inj, refused-ok, false-true}
+use Rattle.spec.specs.Meaning.{treeOf, treesAfter, treeAt}
 use Rattle.lgg.specs.Pool.{NodeValid, PoolValid, getD-last, tree-last, tree-grows}
 use Rattle.lgg.specs.PoolTrees.{node-ext, tree-is}
+use Rattle.lgg.specs.Lists.{clash, same-eq, same-refl}
+use Rattle.lgg.specs.Results.{ok-inj, refused-ok}
 
 -- ---- tests
 pub both-true : (a b : Bool) → both a b ≡ true → (a ≡ true) × (b ≡ true)
 both-true true b e = (refl, e)
-both-true false b e = absurd (false-true e)
-
-pub same-two : (p q : Two) → sameTwo p q ≡ true → p ≡ q
-same-two p q e = let (a, b) = both-true (eqb (p .0) (q .0)) (eqb (p .1) (q .1)) e in ap₂ (λ (x y : ℕ). (x, y)) (eqb-true (p .0) (q .0) a) (eqb-true (p .1) (q .1) b)
-
-pub two-same : (p : Two) → sameTwo p p ≡ true
-two-same p = rw (eq-eqb (p .0) (p .0) refl, eq-eqb (p .1) (p .1) refl) refl
+both-true false b e = absurd (clash (sym e))
 
 pub same-twos : (l m : List Two) → sameTwos l m ≡ true → l ≡ m
 unfolding sameTwos
 same-twos [] [] e = refl
-same-twos [] (q ∷ m) e = absurd (false-true e)
-same-twos (p ∷ l) [] e = absurd (false-true e)
+same-twos [] (q ∷ m) e = absurd (clash (sym e))
+same-twos (p ∷ l) [] e = absurd (clash (sym e))
 same-twos (p ∷ l) (q ∷ m) e = go (sameTwo p q) refl (λ z. same-twos l m z)
   where
     go : (b : Bool) → sameTwo p q ≡ b → (sameTwos l m ≡ true → l ≡ m) → p ∷ l ≡ q ∷ m
-    go false x ih = absurd (false-true (rw (x, sameTwos) at e))
-    go true x ih = ap₂ (λ (a : Two) (b : List Two). a ∷ b) (same-two p q x) (ih (rw (x, sameTwos) at e))
+    go false x ih = absurd (clash (sym (rw (x, sameTwos) at e)))
+    go true x ih = ap₂ (λ (a : Two) (b : List Two). a ∷ b) (same-eq p q x) (ih (rw (x, sameTwos) at e))
 
 twos-same : (l : List Two) → sameTwos l l ≡ true
 unfolding sameTwos
 twos-same [] = refl
-twos-same (p ∷ l) = rw (two-same p, sameTwos) (twos-same l)
+twos-same (p ∷ l) = rw (same-refl p, sameTwos) (twos-same l)
 
 same-node : (x y : Node) → sameNode x y ≡ true → x ≡ y
 same-node x y e =
@@ -72,33 +67,33 @@ module _ {A : Type 0} (f : A → Bool) (d : A) where
     where
       go : (b : Bool) → f x ≡ b → (i : ℕ) → i < suc (length l) → f (getD (x ∷ l) i d) ≡ true → ((j : ℕ) → j < length l → f (getD l j d) ≡ true → place f l ≤ j) → place f (x ∷ l) ≤ i
       go true p i h e ih = rw (p, place) (omega arith)
-      go false p zero h e ih = absurd (false-true (sym p ∙ e))
+      go false p zero h e ih = absurd (clash (sym e ∙ p))
       go false p (suc i) h e ih = rw (p, place) (omega (arith, ih i (omega arith) e))
 
 -- ---- the pool grows at its end only
-pub record Grown (p q : Pool) : Type 0 where
+pub record Extends (p q : Pool) : Type 0 where
   pub later : Pool
   pub is : q ≡ p ++ later
 
-pub grown-refl : (p : Pool) → Grown p p
-grown-refl p = record { later = []; is = sym (append-nil p) }
+pub extends-refl : (p : Pool) → Extends p p
+extends-refl p = record { later = []; is = sym (append-nil p) }
 
-pub grown-trans : {p q r : Pool} → Grown p q → Grown q r → Grown p r
-grown-trans {p} g h = record { later = g .later ++ h .later; is = h .is ∙ ap (λ (z : Pool). z ++ h .later) (g .is) ∙ append-assoc p (g .later) (h .later) }
+pub extends-trans : {p q r : Pool} → Extends p q → Extends q r → Extends p r
+extends-trans {p} g h = record { later = g .later ++ h .later; is = h .is ∙ ap (λ (z : Pool). z ++ h .later) (g .is) ∙ append-assoc p (g .later) (h .later) }
 
-pub grown-length : {p q : Pool} → Grown p q → length p ≤ length q
-grown-length {p} g = rw (g .is) (omega (arith, length-append p (g .later)))
+pub extends-length : {p q : Pool} → Extends p q → length p ≤ length q
+extends-length {p} g = rw (g .is) (omega (arith, length-append p (g .later)))
 
-pub grown-within : {p q : Pool} → Grown p q → (a : ℕ) → a < length p → a < length q
-grown-within g a h = let z = grown-length g in omega arith
+pub extends-within : {p q : Pool} → Extends p q → (a : ℕ) → a < length p → a < length q
+extends-within g a h = let z = extends-length g in omega arith
 
-pub grown-tree : {p q : Pool} → Grown p q → (a : ℕ) → a < length p → treeAt q a ≡ treeAt p a
-grown-tree {p} g a h = rw (g .is) (tree-grows p (g .later) a h)
+pub extends-tree : {p q : Pool} → Extends p q → (a : ℕ) → a < length p → treeAt q a ≡ treeAt p a
+extends-tree {p} g a h = rw (g .is) (tree-grows p (g .later) a h)
 
 -- what interning node n in pool p gives
-pub record Entered (p : Pool) (n : Node) (r : Interned) : Type 0 where
+pub record Interns (p : Pool) (n : Node) (r : Interned) : Type 0 where
   pub valid : PoolValid (r .pool)
-  pub grown : Grown p (r .pool)
+  pub grown : Extends p (r .pool)
   pub within : r .term < length (r .pool)
   pub entry : nodeAt (r .pool) (r .term) ≡ n
   pub means : treeAt (r .pool) (r .term) ≡ treeOf (treesAfter [] p) n
@@ -107,7 +102,7 @@ abbrev noNode : Node
 noNode = record { head = 0; op = 0; value = 0; runs = [] }
 
 -- a node that is not there makes the pool longer by one
-added : (p : Pool) (n : Node) → PoolValid p → NodeValid (length p) n → ((i : ℕ) → i < length p → nodeAt p i ≡ n → ⊥) → Entered p n (interned (p ++ (n ∷ [])) (length p))
+added : (p : Pool) (n : Node) → PoolValid p → NodeValid (length p) n → ((i : ℕ) → i < length p → nodeAt p i ≡ n → ⊥) → Interns p n (interned (p ++ (n ∷ [])) (length p))
 added p n v w new = record {
   valid = record { nodes = nodes; apart = apart };
   grown = record { later = n ∷ []; is = refl };
@@ -142,15 +137,15 @@ added p n v w new = record {
         go (inr a) (inr b) = v .apart i j a b (sym (old i a) ∙ e ∙ old j b)
 
 -- Interning keeps the pool valid and gives a number that means the node.
-pub intern-enters : (p : Pool) (n : Node) (r : Interned) → PoolValid p → NodeValid (length p) n → intern p n ≡ ok r → Entered p n r
+pub intern-enters : (p : Pool) (n : Node) (r : Interned) → PoolValid p → NodeValid (length p) n → intern p n ≡ ok r → Interns p n r
 unfolding intern
 intern-enters p n r v w e = go (ltb (place (sameNode n) p) (length p)) refl (both (ltb (length p) TERMS) (leb (runCount p + length (n .runs)) RUNS)) e
   where
-    go : (a : Bool) → ltb (place (sameNode n) p) (length p) ≡ a → (b : Bool) → pick a (ok (interned p (place (sameNode n) p))) (pick b (ok (interned (p ++ (n ∷ [])) (length p))) (refused 13)) ≡ ok r → Entered p n r
+    go : (a : Bool) → ltb (place (sameNode n) p) (length p) ≡ a → (b : Bool) → pick a (ok (interned p (place (sameNode n) p))) (pick b (ok (interned (p ++ (n ∷ [])) (length p))) (refused 13)) ≡ ok r → Interns p n r
     go true h b e =
         let l = ltb-true _ _ h in
         let same : nodeAt p (place (sameNode n) p) ≡ n = sym (same-node n _ (place-passes (sameNode n) noNode p l)) in
-        rw (← ok-inj e) (record { valid = v; grown = grown-refl p; within = l; entry = same; means = tree-is p v (place (sameNode n) p) l ∙ ap (treeOf (treesAfter [] p)) same })
+        rw (← ok-inj e) (record { valid = v; grown = extends-refl p; within = l; entry = same; means = tree-is p v (place (sameNode n) p) l ∙ ap (treeOf (treesAfter [] p)) same })
     go false h true e = rw (← ok-inj e) (added p n v w (λ i l q. let f = place-first (sameNode n) noNode p i l (rw q (node-same n)) in let g = ltb-false (place (sameNode n) p) (length p) h in omega arith))
     go false h false e = absurd (refused-ok e)
 

@@ -1,6 +1,5 @@
 -- The numbers of a valid pool mean trees over the trees of earlier numbers, and different numbers mean different trees.
 use mathlib.Core.Path.{_≡_, refl, sym, ap, ap₂, _∙_}
-use mathlib.Core.Logic.{_≢_, _⊎_, inl, inr}
 use mathlib.Core.Bool.{Bool, true, false}
 use mathlib.Core.List.{List, [], _∷_, _++_, map}
 use Prim.Native.Nat.{ℕ, zero, suc, _+_, _≤_, _<_}
@@ -8,26 +7,27 @@ use native.Mathlib.Nat.{not-suc-le-zero}
 use native.Mathlib.Omega.{arith}
 use lib.Dec.{eqb}
 use borrow.Author.Tests.{eqb-true}
-use lib.ListN.{length, getD, length-append, replicate}
+use lib.ListN.{length, length-append, replicate}
 use Rattle.spec.specs.Bytes.{pick, Two}
-use Rattle.spec.specs.Pool.{Node, Pool, nodeAt, OP, LIT, VARIANTS, joinRuns, variantsNode}
-use Rattle.spec.specs.Meaning.{In, here, there, Term, lit, node, variants, Runs, done, run, expand, runsOf, treeOf, treesAfter, treeAt}
+use Rattle.spec.specs.Pool.{Node, Pool, nodeAt, joinRuns, variantsNode}
+use Rattle.spec.specs.Meaning.{here, there, Term, lit, node, variants, Runs, run, expand, runsOf, treeOf, treesAfter, treeAt}
 use Rattle.lgg.specs.Bag.{map-append, map-replicate}
 use Rattle.lgg.specs.BagCount.{written}
-use Rattle.lgg.specs.Pool.{Below, below-tail, Formed, operation, literal, marked, NodeValid, PoolValid, numbered, trees-length, trees-keep, getD-last, tree-operation, tree-literal, tree-marked}
+use Rattle.lgg.specs.Pool.{RunsBelow, runs-below-tail, Formed, operation, literal, marked, NodeValid, PoolValid, numbered, trees-keep, getD-last, tree-operation, tree-literal, tree-marked}
+use Rattle.lgg.specs.Lists.{clash}
 
 -- ---- a node's tree depends on its children's alone
-runs-cong : (ts us : List Term) (i : ℕ) (l : List Two) → Below i l → ((a : ℕ) → a < i → numbered ts a ≡ numbered us a) → runsOf ts l ≡ runsOf us l
+runs-cong : (ts us : List Term) (i : ℕ) (l : List Two) → RunsBelow i l → ((a : ℕ) → a < i → numbered ts a ≡ numbered us a) → runsOf ts l ≡ runsOf us l
 unfolding runsOf
 runs-cong ts us i [] b h = refl
-runs-cong ts us i (r ∷ l) b h = ap₂ (λ (t : Term) (s : Runs). run t (r .1) s) (h (r .0) (b .earlier r here)) (runs-cong ts us i l (below-tail b) h)
+runs-cong ts us i (r ∷ l) b h = ap₂ (λ (t : Term) (s : Runs). run t (r .1) s) (h (r .0) (b .earlier r here)) (runs-cong ts us i l (runs-below-tail b) h)
 
 -- the branches of a marked place stand among its runs
-pub branches-below : (i a b : ℕ) → Below i (variantsNode a b .runs) → (a < i) × (b < i)
+pub branches-below : (i a b : ℕ) → RunsBelow i (variantsNode a b .runs) → (a < i) × (b < i)
 unfolding joinRuns
 branches-below i a b h = go (eqb a b) refl h
   where
-    go : (t : Bool) → eqb a b ≡ t → Below i (pick t ((a, 1 + 1) ∷ []) ((a, 1) ∷ (b, 1) ∷ [])) → (a < i) × (b < i)
+    go : (t : Bool) → eqb a b ≡ t → RunsBelow i (pick t ((a, 1 + 1) ∷ []) ((a, 1) ∷ (b, 1) ∷ [])) → (a < i) × (b < i)
     go true e k = (k .earlier (a, 1 + 1) here, omega (arith, k .earlier (a, 1 + 1) here, eqb-true a b e))
     go false e k = (k .earlier (a, 1) here, k .earlier (b, 1) (there here))
 
@@ -67,14 +67,14 @@ expand-runs ts [] = refl
 expand-runs ts (r ∷ l) = rw (expand-runs ts l, map-append (numbered ts) (replicate (r .1) (r .0)) (written l), map-replicate (numbered ts) (r .1) (r .0)) refl
 
 -- ---- a node can be read off its tree, where the children's trees are apart
-runs-inj : (ts : List Term) (i : ℕ) (l m : List Two) → Below i l → Below i m → ((a b : ℕ) → a < i → b < i → numbered ts a ≡ numbered ts b → a ≡ b) → runsOf ts l ≡ runsOf ts m → l ≡ m
+runs-inj : (ts : List Term) (i : ℕ) (l m : List Two) → RunsBelow i l → RunsBelow i m → ((a b : ℕ) → a < i → b < i → numbered ts a ≡ numbered ts b → a ≡ b) → runsOf ts l ≡ runsOf ts m → l ≡ m
 unfolding runsOf
 runs-inj ts i [] [] b c h e = refl
 runs-inj ts i [] (s ∷ m) b c h e = cc
 runs-inj ts i (r ∷ l) [] b c h e = cc
 runs-inj ts i (r ∷ l) (s ∷ m) b c h e =
     let (x, y, z) = parts e in
-    ap₂ (λ (u : Two) (w : List Two). u ∷ w) (ap₂ (λ (u w : ℕ). (u, w)) (h (r .0) (s .0) (b .earlier r here) (c .earlier s here) x) y) (runs-inj ts i l m (below-tail b) (below-tail c) h z)
+    ap₂ (λ (u : Two) (w : List Two). u ∷ w) (ap₂ (λ (u w : ℕ). (u, w)) (h (r .0) (s .0) (b .earlier r here) (c .earlier s here) x) y) (runs-inj ts i l m (runs-below-tail b) (runs-below-tail c) h z)
   where
     parts : run (numbered ts (r .0)) (r .1) (runsOf ts l) ≡ run (numbered ts (s .0)) (s .1) (runsOf ts m) → (numbered ts (r .0) ≡ numbered ts (s .0)) × (r .1 ≡ s .1) × (runsOf ts l ≡ runsOf ts m)
     parts e = (cc, cc, cc)

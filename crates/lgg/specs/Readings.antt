@@ -1,90 +1,77 @@
 -- Demand 2, of a run: the term that the steps build has the reported quality, belongs to the left class read by the first branch at every marked place, and to the right class read by the second.
-use mathlib.Core.Path.{_≡_, refl, sym, ap, ap₂, _∙_}
+use mathlib.Core.Path.{_≡_}
 use mathlib.Core.Bool.{Bool, true, false}
-use mathlib.Core.Option.{some}
-use mathlib.Core.List.{List, [], _∷_, _++_, map}
-use Prim.Native.Nat.{ℕ, zero, suc, _+_, _≤_, _<_}
+use mathlib.Core.List.{List, [], _∷_, map}
+use Prim.Native.Nat.{ℕ, zero, suc, _<_}
 use native.Mathlib.Omega.{arith}
 use lib.ListN.{length, getD}
-use Rattle.spec.specs.Bytes.{Two, any, Res, ok, refused, _>>=_, Checked, passed, cutShort}
+use Rattle.spec.specs.Bytes.{Two, any, ok, Checked, passed, cutShort}
 use Rattle.spec.specs.Image.{Tables}
-use Rattle.spec.specs.Transport.{Problem, solveCells}
-use Rattle.spec.specs.Action.{joins}
 use Rattle.spec.specs.Graph.{build}
 use Rattle.spec.specs.Pool.{Pool, Interned, startingTerm}
-use Rattle.spec.specs.Round.{startingQuality, lookUp, Turn, changes, turnOf, turnsOf, Terms, prepend}
+use Rattle.spec.specs.Round.{startingQuality, lookUp, changes, turnsOf, Terms}
 use Rattle.spec.specs.Run.{Outcome, startingTerms, State, outcome, roundTerms, afterRound, roundsFrom, started, afterStarting, afterBuilding, runOf}
-use Rattle.spec.specs.Meaning.{In, here, there, Term, termQuality, readFirst, readSecond, treeAt, Belongs, Plan, Reachable, queried, joined}
+use Rattle.spec.specs.Meaning.{In, here, there, termQuality, readFirst, readSecond, treeAt, Belongs, Reachable, queried, joined}
 use Rattle.laws.specs.Valid.{Valid}
-use Rattle.lgg.specs.Bag.{ok-inj, bind-ok}
+use Rattle.lgg.specs.Turn.{TransportTheorems}
+use Rattle.lgg.specs.Enter.{Starts}
+use Rattle.lgg.specs.Graph.{Whole, build-whole, build-first}
 use Rattle.lgg.specs.Pool.{PoolValid, empty-valid}
-use Rattle.lgg.specs.PoolIntern.{Grown, grown-refl, grown-trans}
-use Rattle.lgg.specs.ReadingsNode.{Good}
-use Rattle.lgg.specs.ReadingsWithin.{IsPair, joins-within}
+use Rattle.lgg.specs.ReadingsNode.{TermFor}
+use Rattle.lgg.specs.BestMembers.{IsPair}
+use Rattle.lgg.specs.ReadingsWithin.{joins-within}
 use Rattle.lgg.specs.Best.{Makes, starting-made}
-use Rattle.lgg.specs.ReadingsRounds.{Holds, noPair, pair, GoodAt, holds-look, Done, prepend-passed, done-cons, turns-done}
-
--- "No unit is lost: row and column sums of the plan equal the margins."
-abbrev pub Margins : Type 0
-Margins = (p : Problem) (x : List ℕ) → solveCells p ≡ some x → Plan p x
-
--- "Built in full, it holds the queried pair and, with each pair, every pair of classes that an action of it joins", and no other; the queried pair stands first
-pub record Built (t : Tables) (root : Two) (ps : List Two) : Type 0 where
-  pub rest : List Two
-  pub first : ps ≡ root ∷ rest
-  pub only : (q : Two) → In q ps → Reachable t root q
-  pub all : (q : Two) → Reachable t root q → In q ps
+use Rattle.lgg.specs.ReadingsRounds.{Holds, pair, holds-look, Done, done-nil, done-step, turns-done}
+use Rattle.lgg.specs.Results.{bind-ok, ok-inj}
 
 -- what is shown of a run: its pool is valid, and its root is a term of the pool that is good for the queried pair and the reported quality
 pub record RunGood (t : Tables) (p : Two) (o : Outcome) : Type 0 where
   pub valid : PoolValid (o .pool)
   pub within : o .root < length (o .pool)
-  pub good : Good t p (o .quality) (treeAt (o .pool) (o .root))
+  pub good : TermFor t p (o .quality) (treeAt (o .pool) (o .root))
 
 reach-within : (t : Tables) → Valid t → (p q : Two) → IsPair t p → Reachable t p q → IsPair t q
 reach-within t v p q h (queried e) = rw e h
 reach-within t v p q h (joined {p = r} k i) = joins-within t v r (reach-within t v p r h k) q i
 
-module _ (margins : Margins) (t : Tables) (v : Valid t) (p : Two) (h : IsPair t p) (graph : (b c : ℕ) (ps : List Two) → build t p b ≡ ok (passed ps c) → Built t p ps) where
+module _ (T : TransportTheorems) (t : Tables) (v : Valid t) (p : Two) (h : IsPair t p) where
+  -- the pairs of the graph: the reachable ones, the queried one first
+  record Pairs (pairs : List Two) : Type 0 where
+    whole : Whole t p pairs
+    first : Starts (p ∷ []) pairs
+
   -- ---- starting terms
   starting-done : (cs : List Two) (b : ℕ) (pool : Pool) (r : Terms) (left : ℕ) → PoolValid pool → ((c : Two) → In c cs → IsPair t c) → startingTerms t cs b pool ≡ ok (passed r left)
       → Done t pool cs (map (startingQuality t) cs) r
   unfolding startingTerms
-  starting-done [] b pool r left u k e = nothing e
-    where
-      same : ok (passed (record { pool = pool; terms = [] }) b) ≡ ok (passed r left) → record { pool = pool; terms = [] } ≡ r
-      same e = cc
-
-      nothing : ok (passed (record { pool = pool; terms = [] }) b) ≡ ok (passed r left) → Done t pool [] [] r
-      nothing e = rw (← same e) (record { valid = u; grown = grown-refl pool; holds = noPair })
+  starting-done [] b pool r left u k e = done-nil pool b r left u e
   starting-done (c ∷ cs) zero pool r left u k e = let z : _≡_ {A = ℕ} 0 1 = cc in absurd (omega arith)
   starting-done (c ∷ cs) (suc b) pool r left u k e =
-      let (a, ea, e′) = bind-ok (startingTerm t pool c) _ (passed r left) e in
-      let (s, es, e″) = bind-ok (startingTerms t cs b (a .pool)) _ (passed r left) e′ in
-      let (m, em, f) = prepend-passed (a .term) s r left (ok-inj e″) in
-      let A = starting-made t v pool c a (k c here .0) (k c here .1) u ea in
-      rw f (done-cons pool c (startingQuality t c) cs _ a m A (starting-done cs b (a .pool) m left (A .valid) (λ d i. k d (there i)) (es ∙ ap ok em)))
+      done-step pool c (startingQuality t c) cs (map (startingQuality t) cs) (startingTerm t pool c) (λ next. startingTerms t cs b next) r left
+      (λ a m. starting-made t v pool c a (k c here .0) (k c here .1) u m)
+      (λ a s A m. starting-done cs b (a .pool) s left (A .valid) (λ d i. k d (there i)) m)
+      e
 
   -- ---- rounds
   record StateGood (pairs : List Two) (s : State) : Type 0 where
     valid : PoolValid (s .pool)
     holds : Holds t (s .pool) pairs (s .qualities) (s .terms)
 
-  outcome-good : (pairs : List Two) → Built t p pairs → (s : State) → StateGood pairs s → (complete : Bool) → RunGood t p (outcome complete pairs s)
-  outcome-good pairs B s G complete = go (rw (B .first) at (G .holds))
+  outcome-good : (pairs : List Two) → Pairs pairs → (s : State) → StateGood pairs s → (complete : Bool) → RunGood t p (outcome complete pairs s)
+  outcome-good pairs B s G complete = go (rw (B .first .1) at (G .holds))
     where
-      go : {qs : List Two} {l : List ℕ} → Holds t (s .pool) (p ∷ B .rest) qs l → RunGood t p (record { complete = complete; pairs = length pairs; rounds = s .rounds; quality = getD qs 0 (0, 0); pool = s .pool; root = getD l 0 0 })
+      go : {qs : List Two} {l : List ℕ} → Holds t (s .pool) (p ∷ B .first .0) qs l → RunGood t p (record { complete = complete; pairs = length pairs; rounds = s .rounds; quality = getD qs 0 (0, 0); pool = s .pool; root = getD l 0 0 })
       go (pair a g hs) = record { valid = G .valid; within = a; good = g }
 
-  round-good : (pairs : List Two) → Built t p pairs → (s : State) → StateGood pairs s → (b : ℕ) (r : Terms) (left : ℕ) → roundTerms t pairs s (turnsOf t pairs (s .qualities)) b ≡ ok (passed r left)
+  round-good : (pairs : List Two) → Pairs pairs → (s : State) → StateGood pairs s → (b : ℕ) (r : Terms) (left : ℕ) → roundTerms t pairs s (turnsOf t pairs (s .qualities)) b ≡ ok (passed r left)
       → Done t (s .pool) pairs (map (λ w. w .quality) (turnsOf t pairs (s .qualities))) r
   unfolding roundTerms turnsOf
   round-good pairs B s G zero r left e = let z : _≡_ {A = ℕ} 0 1 = cc in absurd (omega arith)
   round-good pairs B s G (suc b) r left e =
-      turns-done t v margins (lookUp (0, 0) pairs (s .qualities)) (lookUp 0 pairs (s .terms)) pairs b (s .pool) r left (G .valid)
-      (λ c i. (holds-look (G .holds) c i, λ d j. holds-look (G .holds) d (B .all d (joined (B .only c i) j)))) e
+      turns-done t v (T .margins) (lookUp (0, 0) pairs (s .qualities)) (lookUp 0 pairs (s .terms)) pairs b (s .pool) r left (G .valid)
+      (λ c i. (holds-look (G .holds) c i, λ d j. holds-look (G .holds) d (B .whole .exactly d .1 (joined (B .whole .exactly c .0 i) j)))) e
 
-  rounds-good : (f : ℕ) (pairs : List Two) → Built t p pairs → (s : State) → StateGood pairs s → (o : Outcome) → roundsFrom f t pairs s ≡ ok o → RunGood t p o
+  rounds-good : (f : ℕ) (pairs : List Two) → Pairs pairs → (s : State) → StateGood pairs s → (o : Outcome) → roundsFrom f t pairs s ≡ ok o → RunGood t p o
   unfolding roundsFrom afterRound
   rounds-good zero pairs B s G o e = rw (← ok-inj e) (outcome-good pairs B s G false)
   rounds-good (suc f) pairs B s G o e =
@@ -115,17 +102,17 @@ module _ (margins : Margins) (t : Tables) (v : Valid t) (p : Two) (h : IsPair t 
       let (g, eg, e″) = bind-ok (build t p b) _ o e′ in
       building root (starting-made t v [] p root (h .0) (h .1) empty-valid er) g eg e″
     where
-      starting : (root : Interned) → Makes t [] p (startingQuality t p) root → (pairs : List Two) → Built t p pairs → (left : ℕ) (r : Checked Terms) → startingTerms t pairs left (root .pool) ≡ ok r
+      starting : (root : Interned) → Makes t [] p (startingQuality t p) root → (pairs : List Two) → Pairs pairs → (left : ℕ) (r : Checked Terms) → startingTerms t pairs left (root .pool) ≡ ok r
           → afterStarting t p root pairs r ≡ ok o → RunGood t p o
       starting root R pairs B left (passed r c) es e =
-          let D = starting-done pairs left (root .pool) r c (R .valid) (λ q i. reach-within t v p q h (B .only q i)) es in
+          let D = starting-done pairs left (root .pool) r c (R .valid) (λ q i. reach-within t v p q h (B .whole .exactly q .0 i)) es in
           rounds-good c pairs B _ (record { valid = D .valid; holds = D .holds }) o e
       starting root R pairs B left cutShort es e = rw (← ok-inj e) (root-good root R (length pairs))
 
       building : (root : Interned) → Makes t [] p (startingQuality t p) root → (g : Checked (List Two)) → build t p b ≡ ok g → afterBuilding t p root g ≡ ok o → RunGood t p o
       building root R (passed pairs c) eg e =
           let (r, er, e′) = bind-ok (startingTerms t pairs c (root .pool)) _ o e in
-          starting root R pairs (graph b c pairs eg) c r er e′
+          starting root R pairs (record { whole = build-whole t p b c pairs eg; first = build-first t p b c pairs eg }) c r er e′
       building root R cutShort eg e = rw (← ok-inj e) (root-good root R 1)
 
   -- ---- the sentences

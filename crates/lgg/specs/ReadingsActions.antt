@@ -1,27 +1,29 @@
 -- What the actions of a pair join covers both classes: by position, SPair both ways, and by the rows and columns of a plan.
-use mathlib.Core.Path.{_≡_, refl, sym, ap, ap₂, _∙_}
+use mathlib.Core.Path.{_≡_, refl, sym, ap, _∙_}
 use mathlib.Core.Logic.{_≢_, _⊎_, inl, inr}
 use mathlib.Core.Bool.{Bool, true, false}
 use mathlib.Core.List.{List, [], _∷_, _++_, map}
-use Prim.Native.Nat.{ℕ, zero, suc, _+_, _*_, _-_, _≤_, _<_}
+use Prim.Native.Nat.{ℕ}
 use native.Mathlib.Omega.{arith}
-use lib.Dec.{eqb, ltb}
+use lib.Dec.{eqb}
 use borrow.Author.Tests.{eqb-true, eqb-false}
 use lib.ListN.{length, getD, length-map}
 use Rattle.spec.specs.Bytes.{Two, pick, both, either, each, filter, any, upFrom}
-use Rattle.spec.specs.Image.{Tables, Member, SPair, MSet, Lit, NO-IDENTITY, arities, FREE, isAC, isCommutative, kindOf, identityOf, membersOf, childrenOf}
-use Rattle.spec.specs.Monomial.{Monomial, MonomialPair, pairOf, classes, counts, total, insertAdd, monomial, itself, monomialsOf, padPair, bothItself, representationPairs, narrow, narrowPairs}
+use Rattle.spec.specs.Image.{Tables, Member, SPair, Lit, NO-IDENTITY, arities, isAC, isCommutative, kindOf, identityOf, membersOf, childrenOf}
+use Rattle.spec.specs.Monomial.{Monomial, MonomialPair, classes, insertAdd, monomial, itself, monomialsOf, padPair, bothItself, representationPairs, narrow, narrowPairs}
 use Rattle.spec.specs.Action.{Action, TransportAction, zip, byPosition, straightAndCrossed, alignments, alignMembers, structural, acOps, transports, cellPairs, joins}
 use Rattle.spec.specs.Round.{ones, problemOver}
-use Rattle.spec.specs.Meaning.{In, here, there, occurs, countIn, Side, member, padded, Plan}
+use Rattle.spec.specs.Meaning.{In, occurs, countIn, Side, member, Plan}
 use Rattle.spec.specs.Meaning as M
 use Rattle.laws.specs.Valid.{Valid}
-use Rattle.lgg.specs.Bag.{false-true, in-nil, in-cons, in-left, in-right, in-append, in-map, in-each, each-in, in-filter}
-use Rattle.lgg.specs.BagCount.{written, spread, spread-ones, occurs-written, written-ones, insert-count, monomial-count, insert-all, monomial-all}
+use Rattle.laws.specs.Monomials.{count-insert, monomial-counts, Padded, level, left, right, padded}
+use Rattle.lgg.specs.Bag.{each-in, each-in, filter-in}
+use Rattle.lgg.specs.BagCount.{insert-all, monomial-all, spread, spread-ones, occurs-written, written-ones}
 use Rattle.lgg.specs.BagPlan.{plan-rows, plan-columns}
+use Rattle.lgg.specs.PoolIntern.{both-true}
 use Rattle.lgg.specs.ReadingsNode.{Covers, inOrder, anyOrder}
-use Rattle.lgg.specs.BestMembers.{child-single, child-within, member-arity, member-operation}
-use Rattle.lgg.specs.Best.{member-covers}
+use Rattle.lgg.specs.BestMembers.{IsClass, identity-class, child-within, child-single, member-arity}
+use Rattle.lgg.specs.Lists.{map-in, in-append, in-cons, in-each, in-left, in-nil, in-right}
 
 -- operation o over the places ps, with counts x, is an action of pair p: its left classes cover the left class, its right ones the right, and it joins the places
 pub record Legal (t : Tables) (p : Two) (o : ℕ) (ps : List Two) (x : List ℕ) : Type 0 where
@@ -157,67 +159,67 @@ module _ (t : Tables) (v : Valid t) where
       go : (b : Bool) → In a (elim b [ true ↦ [] | false ↦ each (λ m. each (alignMembers t m) (membersOf t (p .1))) (membersOf t (p .0)) ]) → Aligned (p .0) (p .1) a
       go true h = absurd (in-nil h)
       go false h =
-          let (m, i, h′) = in-each (λ m. each (alignMembers t m) (membersOf t (p .1))) (membersOf t (p .0)) h in
-          let (n, j, h″) = in-each (alignMembers t m) (membersOf t (p .1)) h′ in
+          let (m, i, h′) = each-in (λ m. each (alignMembers t m) (membersOf t (p .1))) (membersOf t (p .0)) a h in
+          let (n, j, h″) = each-in (alignMembers t m) (membersOf t (p .1)) a h′ in
           member-aligned m n (p .0) (p .1) i j a h″
 
       legal : Aligned (p .0) (p .1) a → Legal t p (a .op) (a .pairs) (ones (a .pairs))
       legal A = record {
         left = rw (once (a .pairs) (λ c. c .0)) (A .left);
         right = rw (once (a .pairs) (λ c. c .1)) (A .right);
-        joined = λ c i. in-left (each (λ b. cellPairs (b .sides)) (transports t (p .0) (p .1))) (each-in (λ b. b .pairs) h i);
+        joined = λ c i. in-left (each (λ b. cellPairs (b .sides)) (transports t (p .0) (p .1))) (in-each (λ b. b .pairs) (structural t (p .0) (p .1)) a c h i);
       }
 
   -- ---- transports
+  -- every class of a monomial is a class of the image
+  abbrev pub AllClasses : Monomial → Type 0
+  AllClasses m = (r : Two) → In r m → IsClass t (r .0)
+
   -- monomial m is what class c is under operation o
-  record Stands (c o : ℕ) (m : Monomial) : Type 0 where
-    of : List Two
-    side : Side t c o of
-    count : (k : ℕ) → countIn k m ≡ countIn k of
+  pub record Stands (c o : ℕ) (m : Monomial) : Type 0 where
+    pub of : List Two
+    pub side : Side t c o of
+    pub count : (k : ℕ) → countIn k m ≡ countIn k of
+    pub within : IsClass t c → AllClasses m
 
   monomial-stands : (c o : ℕ) (m : Monomial) → In m (monomialsOf t c o) → Stands c o m
   unfolding monomialsOf
-  monomial-stands c o m h = go (in-append (map (λ n. monomial (childrenOf t n)) (filter (λ n. eqb (n .op) o) (membersOf t c))) _ h)
+  monomial-stands c o m h = go (in-append (map (λ n. monomial (childrenOf t n)) (filter (λ n. eqb (n .op) o) (membersOf t c))) h)
     where
       its : (b : Bool) → eqb (identityOf t o) NO-IDENTITY ≡ b → In m (pick b [] (itself c ∷ [])) → Stands c o m
       its true z h = absurd (in-nil h)
-      its false z h = elim (in-cons h) [ inl e ↦ rw e (record { of = itself c; side = M.itself (eqb-false _ _ z); count = λ k. refl }) | inr j ↦ absurd (in-nil j) ]
+      its false z h = elim (in-cons h) [
+        | inl e ↦ rw e (record { of = itself c; side = M.itself (eqb-false _ _ z); count = λ k. refl; within = λ k r j. elim (in-cons j) [ inl x ↦ rw x k | inr y ↦ absurd (in-nil y) ] })
+        | inr j ↦ absurd (in-nil j)
+      ]
 
       go : In m (map (λ n. monomial (childrenOf t n)) (filter (λ n. eqb (n .op) o) (membersOf t c))) ⊎ In m (pick (eqb (identityOf t o) NO-IDENTITY) [] (itself c ∷ [])) → Stands c o m
       go (inl h) =
-          let (n, i, e) = in-map (λ n. monomial (childrenOf t n)) (filter (λ n. eqb (n .op) o) (membersOf t c)) h in
-          let (j, f) = in-filter (λ n. eqb (n .op) o) (membersOf t c) i in
-          record { of = childrenOf t n; side = member n j (eqb-true _ _ f) refl; count = λ k. ap (countIn k) e ∙ monomial-count k (childrenOf t n) }
+          let (n, i, e) = map-in (λ n. monomial (childrenOf t n)) (filter (λ n. eqb (n .op) o) (membersOf t c)) m h in
+          let (j, f) = filter-in (λ n. eqb (n .op) o) (membersOf t c) i in
+          rw (← e) (record { of = childrenOf t n; side = member n j (eqb-true _ _ f) refl; count = λ k. monomial-counts k (childrenOf t n); within = λ k. monomial-all (IsClass t) (childrenOf t n) (child-within t v n c j) })
       go (inr h) = its (eqb (identityOf t o) NO-IDENTITY) refl h
 
   -- "identity children may be added"
   padded-stands : (c o n : ℕ) (m : Monomial) → identityOf t o ≢ NO-IDENTITY → Stands c o m → Stands c o (insertAdd (identityOf t o) n m)
   unfolding countIn
-  padded-stands c o n m h s = record { of = (identityOf t o, n) ∷ s .of; side = padded n h refl (s .side); count = λ k. omega (arith, insert-count k (identityOf t o) n m, s .count k) }
+  padded-stands c o n m h s = record {
+    of = (identityOf t o, n) ∷ s .of;
+    side = M.padded n h refl (s .side);
+    count = λ k. omega (arith, count-insert k (identityOf t o) n m, s .count k);
+    within = λ k. insert-all (IsClass t) (identityOf t o) n m (identity-class t v o h) (s .within k);
+  }
 
-  pair-stands : (l r o : ℕ) (a b : Monomial) → Stands l o a → Stands r o b → (m : MonomialPair) → In m (padPair (identityOf t o) a b) → Stands l o (m .rows) × Stands r o (m .cols)
-  unfolding padPair
-  pair-stands l r o a b A B m h = go (eqb (total a) (total b)) (eqb (identityOf t o) NO-IDENTITY) refl (ltb (total a) (total b)) h
-    where
-      e : ℕ
-      e = identityOf t o
-
-      only : (n : MonomialPair) → In m (n ∷ []) → Stands l o (n .rows) × Stands r o (n .cols) → Stands l o (m .rows) × Stands r o (m .cols)
-      only n h s = elim (in-cons h) [ inl q ↦ rw q s | inr j ↦ absurd (in-nil j) ]
-
-      go : (x y : Bool) → eqb e NO-IDENTITY ≡ y → (z : Bool)
-          → In m (pick x (pairOf a b ∷ []) (pick y [] (pick z (pairOf (insertAdd e (total b - total a) a) b ∷ []) (pairOf a (insertAdd e (total a - total b) b) ∷ []))))
-          → Stands l o (m .rows) × Stands r o (m .cols)
-      go true y q z h = only (pairOf a b) h (A, B)
-      go false true q z h = absurd (in-nil h)
-      go false false q true h = only (pairOf (insertAdd e (total b - total a) a) b) h (padded-stands l o (total b - total a) a (eqb-false _ _ q) A, B)
-      go false false q false h = only (pairOf a (insertAdd e (total a - total b) b)) h (A, padded-stands r o (total a - total b) b (eqb-false _ _ q) B)
+  pair-stands : (l r o : ℕ) (a b : Monomial) → Stands l o a → Stands r o b → (m : MonomialPair) → Padded (identityOf t o) a b m → Stands l o (m .rows) × Stands r o (m .cols)
+  pair-stands l r o a b A B m (level h e) = rw e (A, B)
+  pair-stands l r o a b A B m (left k n h e) = rw e (padded-stands l o k a n A, B)
+  pair-stands l r o a b A B m (right k n h e) = rw e (A, padded-stands r o k b n B)
 
   sides-stand : (l r o : ℕ) (m : MonomialPair) → In m (representationPairs t l r o) → Stands l o (m .rows) × Stands r o (m .cols)
   unfolding representationPairs
   sides-stand l r o m h =
-      let (a, i, h′) = in-each (λ a. each (λ b. pairs a b) (monomialsOf t r o)) (monomialsOf t l o) h in
-      let (b, j, h″) = in-each (λ b. pairs a b) (monomialsOf t r o) h′ in
+      let (a, i, h′) = each-in (λ a. each (λ b. pairs a b) (monomialsOf t r o)) (monomialsOf t l o) m h in
+      let (b, j, h″) = each-in (λ b. pairs a b) (monomialsOf t r o) m h′ in
       go a b (bothItself l r a b) (monomial-stands l o a i) (monomial-stands r o b j) h″
     where
       by : Bool → Monomial → Monomial → List MonomialPair
@@ -228,24 +230,29 @@ module _ (t : Tables) (v : Valid t) where
 
       go : (a b : Monomial) (x : Bool) → Stands l o a → Stands r o b → In m (by x a b) → Stands l o (m .rows) × Stands r o (m .cols)
       go a b true A B h = absurd (in-nil h)
-      go a b false A B h = pair-stands l r o a b A B m h
+      go a b false A B h = pair-stands l r o a b A B m (padded (identityOf t o) a b m h)
 
   either-right : (a b : Bool) → b ≡ true → either a b ≡ true
   either-right true b e = refl
   either-right false b e = e
 
-  both-left : (a b : Bool) → both a b ≡ true → a ≡ true
-  both-left true b e = refl
-  both-left false b e = e
+  free-operation : (l r o : ℕ) → In o (acOps t l r) → isCommutative (kindOf t o) ≡ true
+  unfolding acOps
+  free-operation l r o i =
+      either-right (eqb (kindOf t o) SPair) (isAC (kindOf t o))
+      (both-true (isAC (kindOf t o)) (used o) (filter-in (λ z. both (isAC (kindOf t z)) (used z)) (upFrom 0 (length (t .operations))) i .1) .0)
+    where
+      used : ℕ → Bool
+      used z = any (λ n. eqb (n .op) z) (membersOf t l ++ membersOf t r)
 
   -- A transport of a pair: of an operation whose order is free, over what the two classes are under it.
-  record Carries (l r : ℕ) (a : TransportAction) : Type 0 where
-    free : isCommutative (kindOf t (a .op)) ≡ true
-    rows : Stands l (a .op) (a .sides .rows)
-    cols : Stands r (a .op) (a .sides .cols)
+  pub record Carries (l r : ℕ) (a : TransportAction) : Type 0 where
+    pub free : isCommutative (kindOf t (a .op)) ≡ true
+    pub rows : Stands l (a .op) (a .sides .rows)
+    pub cols : Stands r (a .op) (a .sides .cols)
 
-  transport-carries : (l r : ℕ) (a : TransportAction) → In a (transports t l r) → Carries l r a
-  unfolding transports acOps narrowPairs
+  pub transport-carries : (l r : ℕ) (a : TransportAction) → In a (transports t l r) → Carries l r a
+  unfolding transports narrowPairs
   transport-carries l r a h = go (eqb l r) h
     where
       pairsOf : ℕ → List TransportAction
@@ -254,12 +261,10 @@ module _ (t : Tables) (v : Valid t) where
       go : (b : Bool) → In a (elim b [ true ↦ [] | false ↦ each pairsOf (acOps t l r) ]) → Carries l r a
       go true h = absurd (in-nil h)
       go false h =
-          let (o, i, h′) = in-each pairsOf (acOps t l r) h in
-          let (m, j, e) = in-map (λ m. record { op = o; sides = m }) (narrowPairs (representationPairs t l r o)) h′ in
-          let (k, w) = in-filter (λ p. both (narrow (p .rows)) (narrow (p .cols))) (representationPairs t l r o) j in
-          let (u, f) = in-filter (λ z. both (isAC (kindOf t z)) (any (λ n. eqb (n .op) z) (membersOf t l ++ membersOf t r))) (upFrom 0 (length (t .operations))) i in
-          let (x, y) = sides-stand l r o m k in
-          rw e (record { free = either-right (eqb (kindOf t o) SPair) (isAC (kindOf t o)) (both-left (isAC (kindOf t o)) _ f); rows = x; cols = y })
+          let (o, i, h′) = each-in pairsOf (acOps t l r) a h in
+          let (m, j, e) = map-in (λ m. record { op = o; sides = m }) (narrowPairs (representationPairs t l r o)) a h′ in
+          let (x, y) = sides-stand l r o m (filter-in (λ p. both (narrow (p .rows)) (narrow (p .cols))) (representationPairs t l r o) j .0) in
+          rw (← e) (record { free = free-operation l r o i; rows = x; cols = y })
 
   -- A transport of a pair by a plan.
   pub transport-legal : (p : Two) (a : TransportAction) → In a (transports t (p .0) (p .1)) → (qs : List Two) (x : List ℕ) → Plan (problemOver a qs) x → Legal t p (a .op) (cellPairs (a .sides)) x
@@ -270,5 +275,5 @@ module _ (t : Tables) (v : Valid t) where
       legal C = record {
         left = anyOrder (C .rows .of) (C .rows .side) (C .free) (λ k. plan-rows a qs x plan k ∙ C .rows .count k);
         right = anyOrder (C .cols .of) (C .cols .side) (C .free) (λ k. plan-columns a qs x plan k ∙ C .cols .count k);
-        joined = λ c i. in-right (each (λ b. b .pairs) (structural t (p .0) (p .1))) (each-in (λ b. cellPairs (b .sides)) h i);
+        joined = λ c i. in-right (each (λ b. b .pairs) (structural t (p .0) (p .1))) (in-each (λ b. cellPairs (b .sides)) (transports t (p .0) (p .1)) a c h i);
       }

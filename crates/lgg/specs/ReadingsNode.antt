@@ -1,19 +1,18 @@
 -- A node over the terms of places: its quality, and what it belongs to when it is read.
 use mathlib.Core.Path.{_≡_, refl, sym, ap, ap₂, _∙_}
-use mathlib.Core.Logic.{_⊎_, inl, inr}
 use mathlib.Core.Bool.{Bool, true, false}
 use mathlib.Core.List.{List, [], _∷_, _++_, map}
-use Prim.Native.Nat.{ℕ, zero, suc, _+_, _*_, _≤_, _<_}
+use Prim.Native.Nat.{ℕ, zero, suc, _+_, _*_}
 use native.Mathlib.Omega.{arith}
-use lib.ListN.{length, replicate}
-use Rattle.spec.specs.Bytes.{pick, sum, Two}
+use lib.ListN.{replicate}
+use Rattle.spec.specs.Bytes.{sum, Two}
 use Rattle.spec.specs.Image.{Tables, Member, kindOf, isCommutative, membersOf, childrenOf}
 use Rattle.spec.specs.Monomial.{classes}
 use Rattle.spec.specs.Transport.{planSize, planMass}
 use Rattle.spec.specs.Round.{cellsOver, qualityOver}
-use Rattle.spec.specs.Meaning.{In, Term, lit, node, variants, Runs, done, run, termQuality, runsQuality, expand, reading, readingRuns, readFirst, readSecond, occurs, countIn, Side, Belongs, literal, ordered, unordered, AllBelong, noMore, andThen}
+use Rattle.spec.specs.Meaning.{In, Term, node, Runs, done, run, termQuality, runsQuality, expand, reading, readingRuns, readFirst, readSecond, occurs, countIn, Side, Belongs, ordered, unordered, AllBelong, noMore, andThen}
 use Rattle.lgg.specs.Bag.{Perm, nil, skip, swap, both, perm-map, map-append, map-replicate, sum-append, sum-perm, sum-replicate}
-use Rattle.lgg.specs.BagCount.{spread, map-spread}
+use Rattle.lgg.specs.BagCount.{spread}
 
 -- ---- qualities
 abbrev pub size : Term → ℕ
@@ -69,35 +68,35 @@ module _ (t : Tables) where
   covers-belongs o c cs ts r (anyOrder l s n h) p q b = let (ds, d, e) = belong-perm p b in unordered {r = r} l ds s n d (λ k. e k ∙ h k)
 
   -- ---- a term for pair p with quality q: it has the quality, and belongs to the left class read by the first branches, to the right one read by the second
-  pub record Good (p q : Two) (a : Term) : Type 0 where
+  pub record TermFor (p q : Two) (a : Term) : Type 0 where
     pub quality : termQuality a ≡ q
     pub first : Belongs t (readFirst a) (p .0)
     pub second : Belongs t (readSecond a) (p .1)
 
-  pub data AllGood : List Two → List Two → List Term → Type 0 where
-    noPlace : AllGood [] [] []
-    place : {p q : Two} {a : Term} {ps qs : List Two} {ts : List Term} → Good p q a → AllGood ps qs ts → AllGood (p ∷ ps) (q ∷ qs) (a ∷ ts)
+  pub data TermsFor : List Two → List Two → List Term → Type 0 where
+    noPlace : TermsFor [] [] []
+    place : {p q : Two} {a : Term} {ps qs : List Two} {ts : List Term} → TermFor p q a → TermsFor ps qs ts → TermsFor (p ∷ ps) (q ∷ qs) (a ∷ ts)
 
-  firsts : {ps qs : List Two} {ts : List Term} (x : List ℕ) → AllGood ps qs ts → AllBelong t (map readFirst (spread ts x)) (spread (map (λ p. p .0) ps) x)
+  firsts : {ps qs : List Two} {ts : List Term} (x : List ℕ) → TermsFor ps qs ts → AllBelong t (map readFirst (spread ts x)) (spread (map (λ p. p .0) ps) x)
   unfolding spread
   firsts x noPlace = noMore
   firsts [] (place g gs) = noMore
   firsts (n ∷ x) (place {a = a} {ts = ts} g gs) = rw (map-append readFirst (replicate n a) (spread ts x), map-replicate readFirst n a) (belong-replicate n (g .first) (firsts x gs))
 
-  seconds : {ps qs : List Two} {ts : List Term} (x : List ℕ) → AllGood ps qs ts → AllBelong t (map readSecond (spread ts x)) (spread (map (λ p. p .1) ps) x)
+  seconds : {ps qs : List Two} {ts : List Term} (x : List ℕ) → TermsFor ps qs ts → AllBelong t (map readSecond (spread ts x)) (spread (map (λ p. p .1) ps) x)
   unfolding spread
   seconds x noPlace = noMore
   seconds [] (place g gs) = noMore
   seconds (n ∷ x) (place {a = a} {ts = ts} g gs) = rw (map-append readSecond (replicate n a) (spread ts x), map-replicate readSecond n a) (belong-replicate n (g .second) (seconds x gs))
 
-  sizes : {ps qs : List Two} {ts : List Term} (x : List ℕ) → AllGood ps qs ts → sum (map size (spread ts x)) ≡ planSize x (cellsOver qs)
+  sizes : {ps qs : List Two} {ts : List Term} (x : List ℕ) → TermsFor ps qs ts → sum (map size (spread ts x)) ≡ planSize x (cellsOver qs)
   unfolding spread sum planSize
   sizes [] noPlace = refl
   sizes (n ∷ x) noPlace = refl
   sizes [] (place g gs) = refl
   sizes (n ∷ x) (place {a = a} {ts = ts} g gs) = omega (arith, sum-spread size a n (spread ts x), sizes x gs, ap (λ (z : Two). n * z .0) (g .quality))
 
-  masses : {ps qs : List Two} {ts : List Term} (x : List ℕ) → AllGood ps qs ts → sum (map mass (spread ts x)) ≡ planMass x (cellsOver qs)
+  masses : {ps qs : List Two} {ts : List Term} (x : List ℕ) → TermsFor ps qs ts → sum (map mass (spread ts x)) ≡ planMass x (cellsOver qs)
   unfolding spread sum planMass
   masses [] noPlace = refl
   masses (n ∷ x) noPlace = refl
@@ -105,10 +104,10 @@ module _ (t : Tables) where
   masses (n ∷ x) (place {a = a} {ts = ts} g gs) = omega (arith, sum-spread mass a n (spread ts x), masses x gs, ap (λ (z : Two). n * z .1) (g .quality))
 
   -- An operation over places with counts x: "1 plus the sum of count × size, and the sum of count × mass", and it belongs, read either way.
-  pub good-node : (p : Two) (o : ℕ) (ps qs : List Two) (ts : List Term) (x : List ℕ) (r : Runs) → AllGood ps qs ts
+  pub good-node : (p : Two) (o : ℕ) (ps qs : List Two) (ts : List Term) (x : List ℕ) (r : Runs) → TermsFor ps qs ts
       → Perm (spread ts x) (expand r) → (isCommutative (kindOf t o) ≡ false → spread ts x ≡ expand r)
       → Covers o (p .0) (spread (map (λ c. c .0) ps) x) → Covers o (p .1) (spread (map (λ c. c .1) ps) x)
-      → Good p (qualityOver x qs) (node o r)
+      → TermFor p (qualityOver x qs) (node o r)
   unfolding termQuality reading
   good-node p o ps qs ts x r g perm same left right = record {
     quality = ap₂ (λ (a b : ℕ). (1 + a, b)) (runs-size r ∙ sym (sum-perm (perm-map size perm)) ∙ sizes x g) (runs-mass r ∙ sym (sum-perm (perm-map mass perm)) ∙ masses x g);
