@@ -74,6 +74,9 @@ module _ (m : ℕ) (w l : List ℕ) (N : Numbered m w l) where
       go true e = absurd (omega (arith, number-of a (is-seen a l e)))
       go false e = e
 
+  pub few-listed : length l ≤ m
+  few-listed = few-below m l (N .once) (N .below)
+
   -- there is a number for one more term
   pub one-more : (t : ℕ) → t < m → (In t l → ⊥) → length l < m
   one-more t h n =
