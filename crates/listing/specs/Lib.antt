@@ -8,3 +8,5 @@ pub mod DecimalLaws
 pub mod WriteLaws
 pub mod LineLaws
 pub mod PieceLaws
+pub mod LineWriting
+pub mod Lists

@@ -9,6 +9,7 @@ ghost use Rattle.terms.specs.Buffers.{countIn, poolOf};
 ghost use Rattle.terms.specs.Chains.{Holds};
 ghost use Rattle.listing.specs.Numbering.{orderIn, settle, cleared, numbersOf, Numbered, Walk, Listed};
 ghost use Rattle.listing.specs.Lines.{runIn, runsIn, headBytes, lineIn, linesIn, statusBytes, firstBytes, outcomeOf, Named, Ready};
+ghost use Rattle.listing.specs.Lists.{Lists};
 ghost use Rattle.listing.specs.Writing.{Wrote};
 
 // the work buffer: a term's number plus 1 at the term's place, the terms in the order of their numbers from ORDER on
@@ -21,6 +22,12 @@ pub struct Report {
     pub rounds: u64,
     pub size: u64,
     pub mass: u64,
+}
+
+// the listing's length; or that it exceeds the output (refusal 14)
+pub enum Written {
+    Bytes(usize),
+    Full,
 }
 
 // ---- numbering
@@ -380,4 +387,25 @@ pub fn write(
 {
     let at = write_first(out, f);
     write_lines(out, at, terms, runs, marks, n);
+}
+
+// The listing of a run whose pool the buffers hold: written, or refused with the output as it was.
+pub fn list(
+    terms: &[u32],
+    runs: &[u64],
+    marks: &mut [u16],
+    out: &mut [u8],
+    root: usize,
+    f: Report,
+) -> Written
+    requires { ⌜ Holds (now terms) (now runs) × (root < countIn (now terms)) × (32768 ≤ length (now marks)) ⌝ }
+    ensures { λ r. ⌜ Lists (now (terms .entry)) (now (runs .entry)) root f (now (marks .entry)) (now (out .entry)) (now (marks .exit)) (now (out .exit)) r ⌝ }
+{
+    let n = number_all(terms, runs, marks, root);
+    let size = measure(terms, runs, marks, root, n, f);
+    if size > out.len() {
+        return Written::Full;
+    }
+    write(out, terms, runs, marks, root, n, f);
+    Written::Bytes(size)
 }
