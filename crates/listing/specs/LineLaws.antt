@@ -2,25 +2,24 @@
 use mathlib.Core.Path.{_≡_, refl, sym, ap, ap₂, _∙_}
 use mathlib.Core.Bool.{Bool, true, false}
 use mathlib.Core.List.{List, [], _∷_, _++_, map, append-assoc, append-nil}
-use Prim.Native.Nat.{ℕ, zero, suc, _+_, _*_, _-_, _/_, _%_, _≤_, _<_}
-use native.Mathlib.Nat.{not-suc-le-zero}
+use Prim.Native.Nat.{ℕ, zero, suc, _+_, _-_, _/_, _%_, _<_}
 use native.Mathlib.Omega.{arith}
 use lib.Dec.{eqb}
-use lib.ListN.{length, getD, drop, length-append}
+use lib.ListN.{length, getD, drop}
 use lib.Seq.{drop-cons, drop-length}
-use Rattle.spec.specs.Bytes.{pick, each, place, Two, text, decimal, digits}
-use Rattle.spec.specs.Pool.{Pool, Node, nodeAt, LIT, VARIANTS}
-use Rattle.spec.specs.Listing.{line, firstLine, runField, headFields, termLine, listingOf, visitTerm, subterms}
+use Rattle.spec.specs.Bytes.{pick, each, place, text, decimal}
+use Rattle.spec.specs.Pool.{Node, nodeAt, LIT, VARIANTS}
+use Rattle.spec.specs.Listing.{line, firstLine, runField, headFields, termLine, listingOf, subterms}
 use Rattle.spec.specs.Meaning.{In, here, there}
-use Rattle.lgg.specs.Lists.{in-nil, in-cons, in-map}
-use Rattle.terms.specs.Buffers.{part, unpack, firstIn, headIn, valueIn, lengthIn, partIn, nodeOf, nodeIn, nodesIn, poolOf, countIn}
+use Rattle.lgg.specs.Lists.{in-map}
+use Rattle.terms.specs.Buffers.{unpack, headIn, valueIn, partIn, nodeOf, nodeIn, poolOf, countIn}
 use Rattle.terms.specs.Chains.{Holds}
 use Rattle.terms.specs.PoolLaws.{pool-length, pool-at}
-use Rattle.listing.specs.Numbering.{ORDER, Numbered, Listed}
+use Rattle.listing.specs.Numbering.{Numbered, Listed}
 use Rattle.listing.specs.WalkLaws.{Closed, subterms-closed}
 use Rattle.listing.specs.NumberLaws.{at-in, number-of, place-at, few-listed}
 use Rattle.listing.specs.VisitLaws.{run-in}
-use Rattle.listing.specs.Lines.{runIn, runsIn, headBytes, termIn, lineIn, linesIn, outcomeOf, firstBytes, Named, Ready}
+use Rattle.listing.specs.Lines.{runIn, runsIn, headBytes, termIn, lineIn, linesIn, outcomeOf, firstBytes, Ready}
 use Rattle.listing.specs.declared.Report.{Report}
 
 abbrev spaced : List ℕ → List ℕ

@@ -1,12 +1,12 @@
 -- A line, piece by piece: its number, its head, its runs, a line feed.
 use mathlib.Core.Path.{_≡_, refl, sym, ap, _∙_}
 use mathlib.Core.List.{List, [], _∷_, _++_}
-use Prim.Native.Nat.{ℕ, zero, suc, _+_, _*_, _-_, _≤_, _<_}
+use Prim.Native.Nat.{ℕ, _+_, _-_, _≤_, _<_}
 use native.Mathlib.Omega.{arith}
-use lib.ListN.{length, getD, drop, length-append}
-use Rattle.spec.specs.Bytes.{decimal, digits}
+use lib.ListN.{length, drop, length-append}
+use Rattle.spec.specs.Bytes.{decimal}
 use Rattle.spec.specs.Listing.{listingOf}
-use Rattle.terms.specs.Buffers.{firstIn, headIn, valueIn, countIn, poolOf}
+use Rattle.terms.specs.Buffers.{firstIn, headIn, valueIn, countIn}
 use Rattle.terms.specs.Chains.{Holds}
 use Rattle.terms.specs.PoolLaws.{first-fits}
 use Rattle.listing.specs.Numbering.{Listed}

@@ -1,14 +1,13 @@
 -- The bytes of the listing, read from the buffers.
 use mathlib.Core.Bool.{Bool}
 use mathlib.Core.List.{List, [], _∷_, _++_}
-use Prim.Native.Nat.{ℕ, zero, suc, _+_, _*_, _-_, _/_, _%_, _≤_, _<_}
+use Prim.Native.Nat.{ℕ, zero, suc, _+_, _-_, _/_, _%_, _≤_, _<_}
 use lib.Dec.{eqb}
-use lib.ListN.{length, getD, drop}
+use lib.ListN.{length, getD}
 use Rattle.spec.specs.Bytes.{pick, each, text, decimal, digits}
 use Rattle.spec.specs.Pool.{LIT, VARIANTS}
 use Rattle.spec.specs.Run.{Outcome}
-use Rattle.spec.specs.Listing.{firstLine, listingOf}
-use Rattle.terms.specs.Buffers.{part, nodesIn, firstIn, headIn, valueIn, partIn, poolOf, countIn}
+use Rattle.terms.specs.Buffers.{part, firstIn, headIn, valueIn, poolOf, countIn}
 use Rattle.listing.specs.Numbering.{ORDER}
 use Rattle.listing.specs.declared.Report.{Report}
 

@@ -1,9 +1,8 @@
 -- The listing's work buffer: a term's number plus 1 at the term's place (0: it has none), the terms in the order of their numbers from place ORDER on.
 use mathlib.Core.Path.{_≡_}
 use mathlib.Core.List.{List, [], _∷_, _++_}
-use Prim.Native.Nat.{ℕ, zero, suc, _+_, _≤_, _<_}
+use Prim.Native.Nat.{ℕ, suc, _+_, _≤_, _<_}
 use lib.ListN.{length, getD, set, drop, replicate}
-use Rattle.spec.specs.Pool.{Pool}
 use Rattle.spec.specs.Listing.{visitTerm, subterms}
 use Rattle.spec.specs.Meaning.{In}
 use Rattle.lgg.specs.Lists.{Distinct}

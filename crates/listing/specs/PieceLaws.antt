@@ -1,17 +1,15 @@
 -- The pieces of a line: their lengths, and how they are written.
-use mathlib.Core.Path.{_≡_, refl, sym, ap, ap₂, _∙_}
+use mathlib.Core.Path.{_≡_, refl, sym, ap, _∙_}
 use mathlib.Core.Bool.{Bool, true, false}
 use mathlib.Core.List.{List, [], _∷_, _++_}
-use Prim.Native.Nat.{ℕ, zero, suc, _+_, _*_, _-_, _/_, _%_, _≤_, _<_}
+use Prim.Native.Nat.{ℕ, suc, _+_, _-_, _/_, _%_, _≤_, _<_}
 use native.Mathlib.Omega.{arith}
-use lib.Dec.{eqb}
 use lib.ListN.{length, getD, length-append}
 use borrow.Author.Tests.{eq-eqb, ne-eqb}
-use Rattle.spec.specs.Bytes.{pick, each, text, decimal, digits}
+use Rattle.spec.specs.Bytes.{each, text, decimal}
 use Rattle.spec.specs.Pool.{LIT, VARIANTS}
-use Rattle.terms.specs.Buffers.{part, firstIn, headIn, valueIn}
 use Rattle.terms.specs.PartLaws.{part-cons}
-use Rattle.listing.specs.Lines.{runIn, runsIn, headBytes, termIn, lineIn, linesIn, statusBytes, firstBytes}
+use Rattle.listing.specs.Lines.{runIn, runsIn, headBytes, lineIn, linesIn, statusBytes, firstBytes}
 use Rattle.listing.specs.Writing.{Wrote}
 use Rattle.listing.specs.WriteLaws.{room-first, room-second, wrote-both}
 use Rattle.listing.specs.declared.Report.{Report}

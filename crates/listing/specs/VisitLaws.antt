@@ -1,18 +1,18 @@
 -- The walk over the buffers: a term's children from the left, then the term.
 use mathlib.Core.Path.{_≡_, refl, sym, ap, _∙_}
 use mathlib.Core.Bool.{false}
-use mathlib.Core.List.{List, [], _∷_, _++_, map, append-nil}
-use Prim.Native.Nat.{ℕ, zero, suc, _+_, _*_, _-_, _%_, _≤_, _<_}
+use mathlib.Core.List.{List, [], _∷_, _++_, map}
+use Prim.Native.Nat.{ℕ, zero, suc, _+_, _-_, _%_, _≤_, _<_}
 use native.Mathlib.Nat.{not-suc-le-zero}
 use native.Mathlib.Omega.{arith}
 use lib.Dec.{eqb}
 use lib.ListN.{length, getD, length-append}
-use Rattle.spec.specs.Bytes.{Two, any}
-use Rattle.spec.specs.Pool.{Pool, Node, nodeAt}
+use Rattle.spec.specs.Bytes.{any}
+use Rattle.spec.specs.Pool.{Node, nodeAt}
 use Rattle.spec.specs.Listing.{visitRuns, visitTerm, subterms}
 use Rattle.spec.specs.Meaning.{In, here, there}
 use Rattle.lgg.specs.Lists.{in-map}
-use Rattle.terms.specs.Buffers.{part, unpack, firstIn, lengthIn, partIn, nodeIn, nodesIn, poolOf, countIn}
+use Rattle.terms.specs.Buffers.{part, unpack, firstIn, lengthIn, partIn, poolOf, countIn}
 use Rattle.terms.specs.Chains.{Holds}
 use Rattle.terms.specs.PartLaws.{part-length, part-cons}
 use Rattle.terms.specs.PoolLaws.{pool-length, pool-at, runs-fit}

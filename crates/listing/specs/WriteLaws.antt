@@ -1,10 +1,10 @@
 -- Writing piece by piece.
 use mathlib.Core.Path.{_≡_, refl, sym, ap, _∙_}
-use mathlib.Core.List.{List, [], _∷_, _++_, append-assoc, append-nil}
-use Prim.Native.Nat.{ℕ, zero, suc, _+_, _*_, _-_, _/_, _%_, _≤_, _<_}
+use mathlib.Core.List.{List, [], _∷_, _++_, append-assoc}
+use Prim.Native.Nat.{ℕ, suc, _+_, _/_, _%_, _≤_, _<_}
 use native.Mathlib.Omega.{arith}
-use lib.ListN.{length, getD, take, drop, set, length-append, length-take, length-drop, take-append-drop}
-use lib.Seq.{paste, take-length, take-at, drop-at, drop-drop, length-take-le, take-append-le, drop-append-add, set-split}
+use lib.ListN.{length, take, drop, set, length-append, length-drop, take-append-drop}
+use lib.Seq.{paste, take-length, take-at, drop-at, drop-drop, length-take-le, set-split}
 use Rattle.spec.specs.Bytes.{decimal, digits}
 use Rattle.listing.specs.DecimalLaws.{decimal-one, decimal-more, decimal-length-one, decimal-length-more}
 use Rattle.listing.specs.Writing.{putAt, Wrote}

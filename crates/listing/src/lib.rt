@@ -1,8 +1,8 @@
 // The listing: the root's subterms numbered, its bytes measured, then written.
 ghost use mathlib.Core.Path.{_≡_};
-ghost use mathlib.Core.List.{List, [], _∷_, _++_};
-ghost use Prim.Native.Nat.{ℕ, suc, _+_, _*_, _-_, _^_, _≤_, _<_, _/_, _%_};
-ghost use lib.ListN.{length, getD, set, drop, replicate};
+ghost use mathlib.Core.List.{_++_};
+ghost use Prim.Native.Nat.{suc, _+_, _*_, _-_, _%_, _≤_, _<_};
+ghost use lib.ListN.{length, getD, set, drop};
 ghost use Rattle.spec.specs.Bytes.{decimal};
 ghost use Rattle.spec.specs.Listing.{visitTerm, listingOf};
 ghost use Rattle.terms.specs.Buffers.{countIn, poolOf};

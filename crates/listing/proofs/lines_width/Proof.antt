@@ -1,14 +1,10 @@
 use Rattle.listing.specs.PieceLaws.{lines-nil, lines-length}
-use Rattle.listing.specs.Lines.{lineIn, linesIn}
+use Rattle.listing.specs.Lines.{linesIn}
 use borrow.Author.Needs.{needs}
-use borrow.Author.Tests.{lt-ltb, le-ltb, le-leb, lt-leb, eq-eqb, ne-eqb}
-use Prim.Native.Nat.{ℕ, zero, suc, _≤_, _<_, _-_, _+_, _*_, _^_}
+use Prim.Native.Nat.{_≤_, _-_, _+_, _*_}
 use native.Mathlib.Omega.{arith}
-use native.Mathlib.Numerals.{add-one}
-use mathlib.Core.Path.{_≡_, refl, ap, sym, _∙_}
-use mathlib.Core.Logic.{⊎-elim}
-use mathlib.Core.List.{List, [], _∷_, _++_, append-nil}
-use lib.ListN.{length, take, drop, getD, set, length-set, length-take, length-drop, length-append, drop-of-length-le}
+use mathlib.Core.Path.{_≡_, ap}
+use lib.ListN.{length}
 use Rattle.listing.proofs.lines_width.Statement.{statement}
 use Rattle.listing.proofs.lines_width.Tie as tie
 use Rattle.listing.proofs.lines_width.Reads as reads

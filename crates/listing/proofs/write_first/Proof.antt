@@ -1,13 +1,5 @@
-use Rattle.spec.specs.Bytes.{text, decimal}
+use Rattle.spec.specs.Bytes.{text}
 use Rattle.listing.specs.PieceLaws.{status-room, pairs-room, rounds-room, size-room, mass-room, end-room, first-wrote}
-use borrow.Author.Tests.{lt-ltb, le-ltb, le-leb, lt-leb, eq-eqb, ne-eqb}
-use Prim.Native.Nat.{ℕ, zero, suc, _≤_, _<_, _-_, _+_, _*_, _^_}
-use native.Mathlib.Omega.{arith}
-use native.Mathlib.Numerals.{add-one}
-use mathlib.Core.Path.{_≡_, refl, ap, sym, _∙_}
-use mathlib.Core.Logic.{⊎-elim}
-use mathlib.Core.List.{List, [], _∷_, _++_, append-nil}
-use lib.ListN.{length, take, drop, getD, set, length-set, length-take, length-drop, length-append, drop-of-length-le}
 use borrow.Author.Needs.{needs}
 use Rattle.listing.proofs.write_first.Statement.{statement}
 use Rattle.listing.proofs.write_first.Tie as tie

@@ -1,13 +1,6 @@
 use Rattle.spec.specs.Bytes.{text, decimal}
-use Rattle.listing.specs.LineWriting.{line-term, line-few, line-rises, line-ends, line-within, line-named, number-room, head-room, runs-room, feed-room, line-wrote}
-use borrow.Author.Tests.{lt-ltb, le-ltb, le-leb, lt-leb, eq-eqb, ne-eqb}
-use Prim.Native.Nat.{ℕ, zero, suc, _≤_, _<_, _-_, _+_, _*_, _^_}
+use Rattle.listing.specs.LineWriting.{line-few, line-rises, line-within, line-named, number-room, head-room, runs-room, feed-room, line-wrote}
 use native.Mathlib.Omega.{arith}
-use native.Mathlib.Numerals.{add-one}
-use mathlib.Core.Path.{_≡_, refl, ap, sym, _∙_}
-use mathlib.Core.Logic.{⊎-elim}
-use mathlib.Core.List.{List, [], _∷_, _++_, append-nil}
-use lib.ListN.{length, take, drop, getD, set, length-set, length-take, length-drop, length-append, drop-of-length-le}
 use borrow.Author.Needs.{needs}
 use Rattle.listing.proofs.write_line.Statement.{statement}
 use Rattle.listing.proofs.write_line.Tie as tie
