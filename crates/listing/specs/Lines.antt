@@ -11,7 +11,7 @@ use Rattle.terms.specs.Buffers.{part, firstIn, headIn, valueIn, poolOf, countIn
 use Rattle.listing.specs.Numbering.{ORDER}
 use Rattle.listing.specs.declared.Report.{Report}
 
--- a field of a line after the first: a space, then "child:count", a child by its number
+-- "child:count runs", with the space before; a run is one number, a child stands by its number in the order
 abbrev pub runIn : List ℕ → ℕ → List ℕ
 runIn w r = (text " " ++ decimal (getD w (r % 16384) 0 - 1)) ++ (text ":" ++ decimal (r / 16384))
 
