@@ -1,0 +1,98 @@
+use Rattle.listing.specs.LineWriting.{line-few, line-rises, line-ends, line-within, line-named, line-length}
+use native.Mathlib.Omega.{arith}
+use borrow.Author.Needs.{needs}
+use Rattle.listing.proofs.line_width.Statement.{statement}
+use Rattle.listing.proofs.line_width.Tie as tie
+use Rattle.listing.proofs.line_width.Reads as reads
+use Rattle.listing.proofs.line_width.Lts as lts
+use Rattle.listing.proofs.digits.Reads as digits-reads
+use Rattle.listing.proofs.head_width.Reads as head-width-reads
+use Rattle.listing.proofs.runs_width.Reads as runs-width-reads
+use Rattle.listing.proofs.term_at.Reads as term-at-reads
+use Rattle.terms.proofs.first.Reads as first-reads
+use Rattle.terms.proofs.head.Reads as head-reads
+use Rattle.terms.proofs.value.Reads as value-reads
+
+-- src/lib.rt:164:9
+term-at-requires : tie.Need-term-at-requires
+term-at-requires c κs = search needs
+
+-- src/lib.rt:165:9
+first-requires : tie.Need-first-requires
+first-requires c κs =
+    let s = c .before .before .before .before in
+    (s .pre .0 .long, omega (arith, line-few (s .args .terms .now) (s .args .runs .now) (s .args .marks .now) (s .args .n) (s .args .k) (s .pre .0) (s .pre .1) (s .pre .2) (c .term-at .ensures)))
+
+-- src/lib.rt:166:34
+add-first : tie.Need-add-first
+add-first c =
+    let s = c .before .before .before .before .before in
+    omega (arith, line-few (s .args .terms .now) (s .args .runs .now) (s .args .marks .now) (s .args .n) (s .args .k) (s .pre .0) (s .pre .1) (s .pre .2) (c .before .term-at .ensures))
+
+-- src/lib.rt:166:9
+first-requires-2 : tie.Need-first-requires-2
+first-requires-2 c κs =
+    let s = c .before .before .before .before .before in
+    (s .pre .0 .long, omega (arith, line-few (s .args .terms .now) (s .args .runs .now) (s .args .marks .now) (s .args .n) (s .args .k) (s .pre .0) (s .pre .1) (s .pre .2) (c .before .term-at .ensures)))
+
+-- src/lib.rt:167:9
+digits-requires : tie.Need-digits-requires
+digits-requires c κs = search needs
+
+-- src/lib.rt:168:24
+head-requires : tie.Need-head-requires
+head-requires c κs =
+    let s = c .before .before .before .before .before .before .before in
+    (s .pre .0 .long, line-few (s .args .terms .now) (s .args .runs .now) (s .args .marks .now) (s .args .n) (s .args .k) (s .pre .0) (s .pre .1) (s .pre .2) (c .before .before .before .term-at .ensures))
+
+-- src/lib.rt:168:47
+value-requires : tie.Need-value-requires
+value-requires c κs =
+    let s = c .before .before .before .before .before .before .before .before in
+    (s .pre .0 .long, line-few (s .args .terms .now) (s .args .runs .now) (s .args .marks .now) (s .args .n) (s .args .k) (s .pre .0) (s .pre .1) (s .pre .2) (c .before .before .before .before .term-at .ensures))
+
+-- src/lib.rt:168:9
+head-width-requires : tie.Need-head-width-requires
+head-width-requires c κs = search needs
+
+-- src/lib.rt:169:5
+add-result : tie.Need-add-result
+add-result c = search needs
+
+-- src/lib.rt:169:13
+runs-width-requires : tie.Need-runs-width-requires
+runs-width-requires c κs =
+    let s = c .before .before .before .before .before .before .before .before .before .before in
+    (s .pre .1 .room, line-rises (s .args .terms .now) (s .args .runs .now) (s .args .marks .now) (s .args .n) (s .args .k) (s .pre .0) (s .pre .1) (s .pre .2) (c .before .before .before .before .before .before .term-at .ensures) (c .before .before .before .before .before .first .ensures .0) (c .before .before .before .before .first2 .ensures .0), line-ends (s .args .terms .now) (s .args .runs .now) (s .args .marks .now) (s .args .n) (s .args .k) (s .pre .0) (s .pre .1) (s .pre .2) (c .before .before .before .before .before .before .term-at .ensures) (c .before .before .before .before .before .first .ensures .0) (c .before .before .before .before .first2 .ensures .0), line-within (s .args .terms .now) (s .args .runs .now) (s .args .marks .now) (s .args .n) (s .args .k) (s .pre .0) (s .pre .1) (s .pre .2) (c .before .before .before .before .before .before .term-at .ensures) (c .before .before .before .before .before .first .ensures .0) (c .before .before .before .before .first2 .ensures .0), line-named (s .args .terms .now) (s .args .runs .now) (s .args .marks .now) (s .args .n) (s .args .k) (s .pre .0) (s .pre .1) (s .pre .2) (c .before .before .before .before .before .before .term-at .ensures) (c .before .before .before .before .before .first .ensures .0) (c .before .before .before .before .first2 .ensures .0))
+
+-- src/lib.rt:169:5
+add-result-2 : tie.Need-add-result-2
+add-result-2 c = search needs
+
+-- src/lib.rt:169:5
+add-result-3 : tie.Need-add-result-3
+add-result-3 c = search needs
+
+-- src/lib.rt:160:1
+returns : tie.Need-returns
+returns c =
+    let s = c .before .before .before .before .before .before .before .before .before .before .before in
+    omega (arith, line-length (s .args .terms .now) (s .args .runs .now) (s .args .marks .now) (s .args .n) (s .args .k) (s .pre .0) (s .pre .1) (s .pre .2) (c .before .before .before .before .before .before .before .term-at .ensures) (c .before .before .before .before .before .before .first .ensures .0) (c .before .before .before .before .before .first2 .ensures .0) (c .before .before .before .head .ensures) (c .before .before .value .ensures), c .before .before .before .before .digits .ensures, c .before .head-width .ensures, c .runs-width .ensures)
+
+pub line-width-spec : {M : Type 1} → statement M
+line-width-spec =
+    tie.close
+    (tie.spec
+    term-at-requires
+    first-requires
+    add-first
+    first-requires-2
+    digits-requires
+    head-requires
+    value-requires
+    head-width-requires
+    add-result
+    runs-width-requires
+    add-result-2
+    add-result-3
+    returns)

@@ -1,0 +1,59 @@
+use Rattle.listing.specs.PieceLaws.{run-length}
+use native.Mathlib.Omega.{arith}
+use borrow.Author.Needs.{needs}
+use Rattle.listing.proofs.run_width.Statement.{statement}
+use Rattle.listing.proofs.run_width.Tie as tie
+use Rattle.listing.proofs.run_width.Reads as reads
+use Rattle.listing.proofs.run_width.Lts as lts
+use Rattle.listing.proofs.child.Reads as child-reads
+use Rattle.listing.proofs.digits.Reads as digits-reads
+use Rattle.listing.proofs.number_of.Reads as number-of-reads
+
+-- src/lib.rt:123:37
+child-requires : tie.Need-child-requires
+child-requires c κs = search needs
+
+-- src/lib.rt:123:20
+number-of-requires : tie.Need-number-of-requires
+number-of-requires c κs =
+    let s = c .before .before in
+    (omega (arith, s .pre .0, c .child .ensures .1), rw (c .child .ensures .0) (s .pre .1))
+
+-- src/lib.rt:123:9
+digits-requires : tie.Need-digits-requires
+digits-requires c κs = search needs
+
+-- src/lib.rt:124:5
+add-result : tie.Need-add-result
+add-result c = search needs
+
+-- src/lib.rt:124:5
+add-result-2 : tie.Need-add-result-2
+add-result-2 c = search needs
+
+-- src/lib.rt:124:17
+digits-requires-2 : tie.Need-digits-requires-2
+digits-requires-2 c κs = search needs
+
+-- src/lib.rt:124:5
+add-result-3 : tie.Need-add-result-3
+add-result-3 c = search needs
+
+-- src/lib.rt:119:1
+returns : tie.Need-returns
+returns c =
+    let s = c .before .before .before .before .before in
+    omega (arith, run-length (s .args .marks .now) (s .args .r) (c .before .before .before .child .ensures .0) (c .before .before .number-of .ensures), c .before .digits .ensures, c .digits2 .ensures)
+
+pub run-width-spec : {M : Type 1} → statement M
+run-width-spec =
+    tie.close
+    (tie.spec
+    child-requires
+    number-of-requires
+    digits-requires
+    add-result
+    add-result-2
+    digits-requires-2
+    add-result-3
+    returns)

@@ -1,0 +1,67 @@
+use Rattle.spec.specs.Bytes.{text}
+use Rattle.listing.specs.PieceLaws.{run-first, run-second, run-wrote}
+use native.Mathlib.Omega.{arith}
+use borrow.Author.Needs.{needs}
+use Rattle.listing.proofs.write_run.Statement.{statement}
+use Rattle.listing.proofs.write_run.Tie as tie
+use Rattle.listing.proofs.write_run.Reads as reads
+use Rattle.listing.proofs.write_run.Lts as lts
+use Rattle.listing.proofs.child.Reads as child-reads
+use Rattle.listing.proofs.labelled.Reads as labelled-reads
+use Rattle.listing.proofs.number_of.Reads as number-of-reads
+
+-- src/lib.rt:260:31
+slice-aggregate-labelled : tie.Need-slice-aggregate-labelled
+slice-aggregate-labelled c = search needs
+
+-- src/lib.rt:260:54
+child-requires : tie.Need-child-requires
+child-requires c κs = search needs
+
+-- src/lib.rt:260:37
+number-of-requires : tie.Need-number-of-requires
+number-of-requires c κs =
+    let s = c .before .before .before .before .before in
+    (omega (arith, s .pre .0, c .child .ensures .1), rw (c .child .ensures .0) (s .pre .1))
+
+-- src/lib.rt:260:9
+labelled-requires : tie.Need-labelled-requires
+unfolding text
+labelled-requires c κs =
+    let s = c .before .before .before .before .before .before in
+    run-first (s .args .marks .now) (s .args .r) (c .before .child .ensures .0) (c .number-of .ensures) (s .args .out .now) (s .args .at) (s .pre .2)
+
+-- src/lib.rt:261:22
+slice-aggregate-labelled-2 : tie.Need-slice-aggregate-labelled-2
+slice-aggregate-labelled-2 c = search needs
+
+-- src/lib.rt:261:5
+labelled-requires-2 : tie.Need-labelled-requires-2
+unfolding text
+labelled-requires-2 c κs =
+    let s = c .before .before .before .before .before .before .before .before .before .before .before in
+    run-second (s .args .marks .now) (s .args .r) (c .before .before .before .before .before .before .child .ensures .0) (c .before .before .before .before .before .number-of .ensures) (s .args .out .now) (s .args .at) (s .pre .2) (c .before .before .before .before .labelled .ensures)
+
+-- src/lib.rt:256:1
+same-length : tie.Need-same-length
+same-length c = search needs
+
+-- src/lib.rt:256:1
+returns : tie.Need-returns
+unfolding text
+returns c =
+    let s = c .before .before .before .before .before .before .before .before .before .before .before .before .before .before in
+    run-wrote (s .args .marks .now) (s .args .r) (c .before .before .before .before .before .before .before .before .before .child .ensures .0) (c .before .before .before .before .before .before .before .before .number-of .ensures) (s .args .out .now) (s .args .at) (s .pre .2) (c .before .before .before .before .before .before .before .labelled .ensures) (c .before .before .labelled2 .ensures)
+
+pub write-run-spec : {M : Type 1} → statement M
+write-run-spec =
+    tie.close
+    (tie.spec
+    slice-aggregate-labelled
+    child-requires
+    number-of-requires
+    labelled-requires
+    slice-aggregate-labelled-2
+    labelled-requires-2
+    same-length
+    returns)

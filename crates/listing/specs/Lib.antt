@@ -1,0 +1,12 @@
+pub mod Numbering
+pub mod WalkLaws
+pub mod NumberLaws
+pub mod VisitLaws
+pub mod Lines
+pub mod Writing
+pub mod DecimalLaws
+pub mod WriteLaws
+pub mod LineLaws
+pub mod PieceLaws
+pub mod LineWriting
+pub mod Lists
