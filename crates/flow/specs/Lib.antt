@@ -1,0 +1,15 @@
+pub mod Sums
+pub mod Update
+pub mod Signed
+pub mod Flat
+pub mod Certificate
+pub mod Lexicographic
+pub mod Cut
+pub mod Network
+pub mod Queue
+pub mod Search
+pub mod SearchEnds
+pub mod AugmentingPath
+pub mod Augmentation
+pub mod Solver
+pub mod Optimal

@@ -1,0 +1,1 @@
+// theorems about the transport definitions: see specs/
