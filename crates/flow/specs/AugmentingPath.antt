@@ -12,7 +12,7 @@ use lib.IntN.{ℤ, pos}
 use Rattle.spec.specs.Bytes.{Two}
 use Rattle.spec.specs.Transport.{Problem, sink, nodeCount, nodeOf, residual, Search, walkBack, bottleneck}
 use Rattle.flow.specs.Search.{same-label, none-some, labelAt, predAt, NodeLabel, residualOf, priceOf, Potential, status, below, Settled, AtRest, unseen, root, edge}
-use Rattle.flow.specs.SearchEnds.{dearest, price-le}
+use Rattle.flow.specs.SearchEnds.{dearest, dear}
 use Rattle.flow.specs.Signed.{posPart, negPart}
 use Rattle.flow.specs.Update.{pigeon}
 
@@ -29,9 +29,9 @@ module _ (p : Problem) (w : ℕ) (x : List ℕ) where
         → π a + posPart (priceOf p w x a b) ≡ π b + negPart (priceOf p w x a b) → TightPath π h b path → TightPath π h a ((a, b) ∷ path)
 
   module _ (π : ℕ → ℕ) (pot : Potential p w x π) (s : Search)
-      (rest : AtRest p w x π pot (dearest p w x) (λ a b. price-le p w x (nodeOf p a) (nodeOf p b)) s) where
+      (rest : AtRest p w x π pot (dearest p w) (dear p w) s) where
     abbrev pub beyond : ℕ
-    beyond = nodeCount p * dearest p w x + 1
+    beyond = nodeCount p * dearest p w + 1
 
     abbrev pub next : ℕ → ℕ
     next v = nextPot beyond (labelAt s v) (π v)
@@ -39,20 +39,17 @@ module _ (p : Problem) (w : ℕ) (x : List ℕ) where
     next-seen : (v k : ℕ) → labelAt s v ≡ some (pos k) → next v ≡ k
     next-seen v k e = ap (λ (o : Option ℤ). nextPot beyond o (π v)) e
 
-    abbrev dear : (a b : ℕ) → posPart (priceOf p w x a b) ≤ dearest p w x + negPart (priceOf p w x a b)
-    dear a b = price-le p w x (nodeOf p a) (nodeOf p b)
-
     next-le : (v : ℕ) → next v ≤ π v + beyond
-    next-le v = go (status p w x π pot (dearest p w x) dear s (rest .hops) (rest .good) v)
+    next-le v = go (status p w x π pot (dearest p w) (dear p w) s (rest .hops) (rest .good) v)
       where
         go : (labelAt s v ≡ none) ⊎ ((k : ℕ) × (labelAt s v ≡ some (pos k)) × (π v ≤ k)) → next v ≤ π v + beyond
         go (inl e) = rw e (le-refl _)
-        go (inr (k, e, q)) = omega (arith, next-seen v k e, below p w x π pot (dearest p w x) dear s (rest .hops) (rest .good) v k e)
+        go (inr (k, e, q)) = omega (arith, next-seen v k e, below p w x π pot (dearest p w) (dear p w) s (rest .hops) (rest .good) v k e)
 
     -- the labels are potentials for the same plan
     pub next-potential : Potential p w x next
     unfolding Settled
-    next-potential = record { at0 = next-seen 0 0 (rest .good .sourceZero); slope = λ a b ha hb r. go a b ha hb r (status p w x π pot (dearest p w x) dear s (rest .hops) (rest .good) a) }
+    next-potential = record { at0 = next-seen 0 0 (rest .good .sourceZero); slope = λ a b ha hb r. go a b ha hb r (status p w x π pot (dearest p w) (dear p w) s (rest .hops) (rest .good) a) }
       where
         go : (a b : ℕ) → a < nodeCount p → b < nodeCount p → 0 < residualOf p w x a b → (labelAt s a ≡ none) ⊎ ((k : ℕ) × (labelAt s a ≡ some (pos k)) × (π a ≤ k)) → next b + negPart (priceOf p w x a b) ≤ next a + posPart (priceOf p w x a b)
         go a b ha hb r (inl e) = let q : next a ≡ π a + beyond = ap (λ (o : Option ℤ). nextPot beyond o (π a)) e in omega (arith, next-le b, pot .slope a b ha hb r)

@@ -16,7 +16,6 @@ pub record Cut (m n : ℕ) (a b : ℕ → ℕ) (cap x : ℕ → ℕ → ℕ) (ρ
   pub cols : (j : ℕ) → j < n → (γ j ≡ 0) ⊎ (γ j ≡ 1)
   pub full : (i j : ℕ) → i < m → j < n → ρ i ≡ 1 → γ j ≡ 0 → x i j ≡ cap i j
   pub empty : (i j : ℕ) → i < m → j < n → ρ i ≡ 0 → γ j ≡ 1 → x i j ≡ 0
-  pub no-more : (i : ℕ) → i < m → sumTo n (λ j. x i j) ≤ a i
   pub met : (j : ℕ) → j < n → γ j ≡ 1 → sumTo m (λ i. x i j) ≡ b j
   pub short : sumTo m (λ i. ρ i * sumTo n (λ j. x i j)) < sumTo m (λ i. ρ i * a i)
 
@@ -74,7 +73,6 @@ module _ (m n : ℕ) (a b : ℕ → ℕ) (cap x : ℕ → ℕ → ℕ) (seenR se
     cols = λ j hj. bit-01 (seenC j);
     full = λ i j hi hj p q. full i j hi hj (decLt (x i j) (cap i j)) p q;
     empty = λ i j hi hj p q. empty i j hi hj (decLt 0 (x i j)) p q;
-    no-more = C .rows;
     met = λ j hj q. C .met j hj (bit-1 (seenC j) q);
     short = sum-lt m s hs (λ i hi. mul-le-mul-left (bit (seenR i)) (C .rows i hi)) (rw seen (omega arith));
   })

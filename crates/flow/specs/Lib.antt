@@ -13,3 +13,5 @@ pub mod AugmentingPath
 pub mod Augmentation
 pub mod Solver
 pub mod Optimal
+pub mod Magnitude
+pub mod Theorems

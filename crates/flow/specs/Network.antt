@@ -77,52 +77,43 @@ largest-ge f (x ∷ l) (suc k) d e = omega (arith, largest-ge f l k d e)
 
 -- ---- numbers of nodes
 module _ (p : Problem) where
-  abbrev pub rowAt : ℕ → ℕ
-  rowAt i = 1 + i
-
-  abbrev pub columnAt : ℕ → ℕ
-  columnAt j = 1 + rowsOf p + j
-
-  pub node-source : nodeOf p 0 ≡ source
-  node-source = refl
-
   pub node-row : (i : ℕ) → i < rowsOf p → nodeOf p (1 + i) ≡ row i
   node-row i h =
-      rw (is-no (eqb (1 + i) 0) (λ t. zap (eqb→eq (1 + i) 0 t)), is-yes (leb (1 + i) (rowsOf p)) (le→leb (1 + i) (rowsOf p) (omega arith))) (ap row (omega arith))
+      rw (is-no (eqb (1 + i) 0) (λ t. not-source (eqb→eq (1 + i) 0 t)), is-yes (leb (1 + i) (rowsOf p)) (le→leb (1 + i) (rowsOf p) (omega arith))) (ap row (omega arith))
     where
-      zap : 1 + i ≡ 0 → ⊥
-      zap e = omega arith
+      not-source : 1 + i ≡ 0 → ⊥
+      not-source e = omega arith
 
   pub node-column : (j : ℕ) → j < colsOf p → nodeOf p (1 + rowsOf p + j) ≡ column j
   node-column j h =
       rw (
-        is-no (eqb (1 + rowsOf p + j) 0) (λ t. zap (eqb→eq (1 + rowsOf p + j) 0 t)),
-        is-no (leb (1 + rowsOf p + j) (rowsOf p)) (λ t. zip (leb→le (1 + rowsOf p + j) (rowsOf p) t)),
+        is-no (eqb (1 + rowsOf p + j) 0) (λ t. not-source (eqb→eq (1 + rowsOf p + j) 0 t)),
+        is-no (leb (1 + rowsOf p + j) (rowsOf p)) (λ t. not-row (leb→le (1 + rowsOf p + j) (rowsOf p) t)),
         is-yes (ltb (1 + rowsOf p + j) (sink p)) (lt→ltb (1 + rowsOf p + j) (sink p) (omega arith)),
       ) (ap column (omega arith))
     where
-      zap : 1 + rowsOf p + j ≡ 0 → ⊥
-      zap e = omega arith
+      not-source : 1 + rowsOf p + j ≡ 0 → ⊥
+      not-source e = omega arith
 
-      zip : 1 + rowsOf p + j ≤ rowsOf p → ⊥
-      zip e = omega arith
+      not-row : 1 + rowsOf p + j ≤ rowsOf p → ⊥
+      not-row e = omega arith
 
   pub node-sink : nodeOf p (sink p) ≡ target
   node-sink =
       rw (
-        is-no (eqb (sink p) 0) (λ t. zap (eqb→eq (sink p) 0 t)),
-        is-no (leb (sink p) (rowsOf p)) (λ t. zip (leb→le (sink p) (rowsOf p) t)),
-        is-no (ltb (sink p) (sink p)) (λ t. zop (ltb→lt (sink p) (sink p) t)),
+        is-no (eqb (sink p) 0) (λ t. not-source (eqb→eq (sink p) 0 t)),
+        is-no (leb (sink p) (rowsOf p)) (λ t. not-row (leb→le (sink p) (rowsOf p) t)),
+        is-no (ltb (sink p) (sink p)) (λ t. not-column (ltb→lt (sink p) (sink p) t)),
       ) refl
     where
-      zap : sink p ≡ 0 → ⊥
-      zap e = omega arith
+      not-source : sink p ≡ 0 → ⊥
+      not-source e = omega arith
 
-      zip : sink p ≤ rowsOf p → ⊥
-      zip e = omega arith
+      not-row : sink p ≤ rowsOf p → ⊥
+      not-row e = omega arith
 
-      zop : sink p < sink p → ⊥
-      zop e = omega arith
+      not-column : sink p < sink p → ⊥
+      not-column e = omega arith
 
   -- what a number below the count is
   pub data NodeIs (u : ℕ) : Type 0 where

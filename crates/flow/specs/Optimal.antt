@@ -11,14 +11,14 @@ use lib.Dec.{ltb, ltb→lt, nltb→le}
 use lib.IntN.{pos}
 use Rattle.spec.specs.Bytes.{pick, sumTo, sum}
 use Rattle.spec.specs.Meaning.{Plan, _⊑_}
-use Rattle.spec.specs.Transport.{forbidden, Problem, allowed, sizeOf, massOf, largest, weight, rowsOf, colsOf, cellAt, supplyAt, demandAt, capacity, moved, row, column, sink, nodeCount, nodeOf, planSize, planMass, residual, price, Search, searched, found, solveCells}
+use Rattle.spec.specs.Transport.{forbidden, Problem, allowed, sizeOf, massOf, largest, weight, rowsOf, colsOf, cellAt, supplyAt, demandAt, capacity, moved, row, column, sink, nodeCount, planSize, planMass, residual, price, Search, searched, found, solveCells}
 use Rattle.flow.specs.Augmentation.{rowSum, colSum, costAt, price-fwd, price-back, forward, Partial}
 use Rattle.flow.specs.Certificate.{Meets, Duals, optimal}
 use Rattle.flow.specs.Cut.{Closed, stuck, find}
 use Rattle.flow.specs.Lexicographic.{lexicographic}
 use Rattle.flow.specs.Network.{rowFlow-is, colFlow-is, planSize-sum2, planMass-sum2, largest-ge, node-row, node-column, node-sink}
 use Rattle.flow.specs.Search.{true-false, labelAt, residualOf, status, Settled, AtRest}
-use Rattle.flow.specs.SearchEnds.{dearest, price-le, searched-rests}
+use Rattle.flow.specs.SearchEnds.{dearest, dear, searched-rests}
 use Rattle.flow.specs.Signed.{posPart, negPart}
 use Rattle.flow.specs.Solver.{solved, Outcome, total-of, placed, full, halted, refusedAtOnce, ran}
 use Rattle.flow.specs.Sums.{sum-cong, sum-mono, sum-swap, sum-term, sum-eq-of-le, listSum-is}
@@ -123,13 +123,13 @@ module _ (p : Problem) (w : ℕ) (x : List ℕ) (I : Partial p w x) (lt : placed
   abbrev s : Search
   s = searched p w x
 
-  abbrev rest : AtRest p w x (I .π) (I .pot) (dearest p w x) (λ a b. price-le p w x (nodeOf p a) (nodeOf p b)) s
+  abbrev rest : AtRest p w x (I .π) (I .pot) (dearest p w) (dear p w) s
   rest = searched-rests p w x (I .π) (I .pot)
 
   -- what a node that was reached leads to was reached
   spread : (a b : ℕ) → a < nodeCount p → b < nodeCount p → 0 < residualOf p w x a b → found (labelAt s a) ≡ true → found (labelAt s b) ≡ true
   unfolding Settled
-  spread a b ha hb r e = go (status p w x (I .π) (I .pot) (dearest p w x) (λ a b. price-le p w x (nodeOf p a) (nodeOf p b)) s (rest .hops) (rest .good) a)
+  spread a b ha hb r e = go (status p w x (I .π) (I .pot) (dearest p w) (dear p w) s (rest .hops) (rest .good) a)
     where
       go : (labelAt s a ≡ none) ⊎ ((k : ℕ) × (labelAt s a ≡ some (pos k)) × (I .π a ≤ k)) → found (labelAt s b) ≡ true
       go (inl q) = absurd (true-false (sym e ∙ ap found q))

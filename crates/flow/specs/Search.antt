@@ -106,8 +106,8 @@ module _ (p : Problem) (w : ℕ) (x : List ℕ) where
   abbrev pub reachedCount : Search → ℕ
   reachedCount s = sumTo (nodeCount p) (λ z. bit (found (labelAt s z)))
 
-  pub cnt-le : (s : Search) → reachedCount s ≤ nodeCount p
-  cnt-le s = omega (arith, sum-mono (nodeCount p) {f = λ z. bit (found (labelAt s z))} {g = λ z. 1} (λ z hz. one (found (labelAt s z))), sum-const (nodeCount p) 1)
+  pub reachedCount-le : (s : Search) → reachedCount s ≤ nodeCount p
+  reachedCount-le s = omega (arith, sum-mono (nodeCount p) {f = λ z. bit (found (labelAt s z))} {g = λ z. 1} (λ z hz. one (found (labelAt s z))), sum-const (nodeCount p) 1)
     where
       one : (b : Bool) → bit b ≤ 1
       one true = omega arith
@@ -126,7 +126,7 @@ module _ (p : Problem) (w : ℕ) (x : List ℕ) where
         go (edge k₁ l₁ z0 Lk ab hp Lp rr le hh) = inr (k₁, Lk, ab)
 
     pub below : (s : Search) (h : ℕ → ℕ) → Labelled π K s h → (v k : ℕ) → labelAt s v ≡ some (pos k) → k < nodeCount p * K + 1
-    below s h G v k e = omega (arith, G .small v k e, mul-le-mul-right K (cnt-le s))
+    below s h G v k e = omega (arith, G .small v k e, mul-le-mul-right K (reachedCount-le s))
 
     -- every label lies between 0 and one dearest edge for each other node, at every moment of the search
     pub label-range : (s : Search) (h : ℕ → ℕ) → Labelled π K s h → (v : ℕ) (z : ℤ) → labelAt s v ≡ some z → (k : ℕ) × (z ≡ pos k) × (k + K ≤ nodeCount p * K)
@@ -134,7 +134,7 @@ module _ (p : Problem) (w : ℕ) (x : List ℕ) where
       where
         go : (labelAt s v ≡ none) ⊎ ((k : ℕ) × (labelAt s v ≡ some (pos k)) × (π v ≤ k)) → (k : ℕ) × (z ≡ pos k) × (k + K ≤ nodeCount p * K)
         go (inl q) = absurd (none-some q e)
-        go (inr (k, q, _)) = (k, ap labelOr0 (sym e ∙ q), omega (arith, G .small v k q, mul-le-mul-right K (cnt-le s)))
+        go (inr (k, q, _)) = (k, ap labelOr0 (sym e ∙ q), omega (arith, G .small v k q, mul-le-mul-right K (reachedCount-le s)))
 
     -- so does every offer, whether it is taken or not
     pub offer-range : (s : Search) (h : ℕ → ℕ) → Labelled π K s h → (u v l : ℕ) → u < nodeCount p → v < nodeCount p → labelAt s u ≡ some (pos l) → 0 < residualOf u v
@@ -145,7 +145,7 @@ module _ (p : Problem) (w : ℕ) (x : List ℕ) where
         go (inl q) = absurd (none-some q Lu)
         go (inr (k, q, ab)) =
             let e : (l + posPart (priceOf u v) - negPart (priceOf u v)) + negPart (priceOf u v) ≡ l + posPart (priceOf u v) = omega (arith, pot .slope u v hu hv r, same-label q Lu) in
-            (l + posPart (priceOf u v) - negPart (priceOf u v), plus l (l + posPart (priceOf u v) - negPart (priceOf u v)) (priceOf u v) e, omega (arith, e, dear u v, G .small u l Lu, mul-le-mul-right K (cnt-le s)))
+            (l + posPart (priceOf u v) - negPart (priceOf u v), plus l (l + posPart (priceOf u v) - negPart (priceOf u v)) (priceOf u v) e, omega (arith, e, dear u v, G .small u l Lu, mul-le-mul-right K (reachedCount-le s)))
 
     module _ (s : Search) (h : ℕ → ℕ) (G : Labelled π K s h) (u v l k : ℕ) (hu : u < nodeCount p) (hv : v < nodeCount p) (Lu : labelAt s u ≡ some (pos l))
         (left : 0 < residualOf u v) (new : k + negPart (priceOf u v) ≡ l + posPart (priceOf u v)) (lower : (k₀ : ℕ) → labelAt s v ≡ some (pos k₀) → k < k₀) where

@@ -24,7 +24,8 @@ getD-same zero v d = refl
 getD-same (suc n) zero d = refl
 getD-same (suc n) (suc v) d = getD-same n v d
 
-module _ (p : Problem) (w : ℕ) (x : List ℕ) where
+-- ---- the dearest cell bounds every price
+module _ (p : Problem) (w : ℕ) where
   abbrev pub dearest : ℕ
   dearest = largest (map (cellCost w) (p .cells))
 
@@ -44,6 +45,10 @@ module _ (p : Problem) (w : ℕ) (x : List ℕ) where
   price-le source n = omega arith
   price-le target n = omega arith
 
+  abbrev pub dear : (a b : ℕ) → posPart (price p w (nodeOf p a) (nodeOf p b)) ≤ dearest + negPart (price p w (nodeOf p a) (nodeOf p b))
+  dear a b = price-le (nodeOf p a) (nodeOf p b)
+
+module _ (p : Problem) (w : ℕ) (x : List ℕ) where
   in-cons : {v a : ℕ} {l : List ℕ} → In v (a ∷ l) → (v ≡ a) ⊎ In v l
   in-cons here = inl refl
   in-cons (there i) = inr i
@@ -119,15 +124,15 @@ module _ (p : Problem) (w : ℕ) (x : List ℕ) where
       sm : (v l : ℕ) → (v ≡ 0) × (l ≡ 0) → l + K ≤ reachedCount p w x (begin p) * K
       sm v l q = omega (arith, mul-le-mul-right K (sum-term (nodeCount p) (λ z. bit (found (labelAt (begin p) z))) 0 (omega arith)))
 
-  pub searched-rests : (π : ℕ → ℕ) (pot : Potential p w x π) → AtRest p w x π pot dearest (λ a b. price-le (nodeOf p a) (nodeOf p b)) (searched p w x)
+  pub searched-rests : (π : ℕ → ℕ) (pot : Potential p w x π) → AtRest p w x π pot (dearest p w) (dear p w) (searched p w x)
   unfolding searched searchFuel Settled
-  searched-rests π pot = rests p w x π pot dearest (λ a b. price-le (nodeOf p a) (nodeOf p b)) inner reach
-      (searchFuel p w) (0 ∷ []) (begin p) (λ v. 0) (good-begin π pot dearest) refl
+  searched-rests π pot = rests p w x π pot (dearest p w) (dear p w) inner reach
+      (searchFuel p w) (0 ∷ []) (begin p) (λ v. 0) (good-begin π pot (dearest p w)) refl
       (omega (arith, sum-mono (nodeCount p) {f = λ z. labelOr inf (labelAt (begin p) z)} {g = λ z. inf} (λ z hz. bound z), sum-const (nodeCount p) inf))
       (λ a b ha hb r. start a b)
     where
       inf : ℕ
-      inf = nodeCount p * dearest + 1
+      inf = nodeCount p * dearest p w + 1
 
       bound : (z : ℕ) → labelOr inf (labelAt (begin p) z) ≤ inf
       bound zero = zero-le

@@ -16,8 +16,8 @@ use Rattle.spec.specs.Transport.{Problem, weight, rowsOf, colsOf, supplyAt, mov
 use Rattle.flow.specs.Augmentation.{rowSum, colSum, augmented-by, Partial, next-partial, grows}
 use Rattle.flow.specs.AugmentingPath.{next, next-potential, path, bottleneck-le, bottleneck-carries, bottleneck-positive}
 use Rattle.flow.specs.Network.{is-no}
-use Rattle.flow.specs.Search.{true-false, labelAt, priceOf, status}
-use Rattle.flow.specs.SearchEnds.{getD-same, dearest, price-le, searched-rests}
+use Rattle.flow.specs.Search.{true-false, labelAt, status}
+use Rattle.flow.specs.SearchEnds.{getD-same, dearest, dear, searched-rests}
 use Rattle.flow.specs.Signed.{posPart, negPart}
 use Rattle.flow.specs.Sums.{sum-cong, sum-const, listSum-is}
 
@@ -57,10 +57,10 @@ module _ (p : Problem) (w : ℕ) where
   one-no false false x y e q = absurd (true-false (sym q))
 
   not-zero : (l : ℕ) → 0 < l → eqb l 0 ≡ false
-  not-zero l h = is-no (eqb l 0) (λ t. zap (eqb→eq l 0 t))
+  not-zero l h = is-no (eqb l 0) (λ t. not-source (eqb→eq l 0 t))
     where
-      zap : l ≡ 0 → ⊥
-      zap e = omega arith
+      not-source : l ≡ 0 → ⊥
+      not-source e = omega arith
 
   pub augment-stuck : (f l : ℕ) (x : List ℕ) → 0 < l → labelAt (searched p w x) (sink p) ≡ none → augment (suc f) p w l x ≡ none
   unfolding augment
@@ -69,9 +69,6 @@ module _ (p : Problem) (w : ℕ) where
   pub augment-more : (f l : ℕ) (x : List ℕ) {z : ℤ} → 0 < l → labelAt (searched p w x) (sink p) ≡ some z → augment (suc f) p w l x ≡ augment f p w (l - leastLeft l x) (push p (leastLeft l x) (pathOf x) x)
   unfolding augment
   augment-more f l x h q = one-no (eqb l 0) (found (labelAt (searched p w x) (sink p))) (some x) (augment f p w (l - leastLeft l x) (push p (leastLeft l x) (pathOf x) x)) (not-zero l h) (ap found q)
-
-  abbrev dear : (x : List ℕ) (a b : ℕ) → posPart (priceOf p w x a b) ≤ dearest p w x + negPart (priceOf p w x a b)
-  dear x a b = price-le p w x (nodeOf p a) (nodeOf p b)
 
   -- one path: the invariant is kept, and more is placed
   pub one-path : (l : ℕ) (x : List ℕ) (k : ℕ) → 0 < l → Partial p w x → labelAt (searched p w x) (sink p) ≡ some (pos k)
@@ -100,7 +97,7 @@ module _ (p : Problem) (w : ℕ) where
 
       go : Dec (0 < l) → ((l′ : ℕ) (x′ : List ℕ) → Partial p w x′ → l′ + placed x′ ≡ total-of → l′ ≤ f → Augmenting (augment f p w l′ x′)) → Augmenting (augment (suc f) p w l x)
       go (no z) ih = full x I (omega arith) (augment-done f l x (omega arith))
-      go (yes z) ih = let rest = searched-rests p w x (I .π) (I .pot) in at z ih (status p w x (I .π) (I .pot) (dearest p w x) (dear x) (searched p w x) (rest .hops) (rest .good) (sink p))
+      go (yes z) ih = let rest = searched-rests p w x (I .π) (I .pot) in at z ih (status p w x (I .π) (I .pot) (dearest p w) (dear p w) (searched p w x) (rest .hops) (rest .good) (sink p))
 
 -- ---- the empty plan
 module _ (p : Problem) (w : ℕ) where
