@@ -1,16 +1,15 @@
--- "Edges of the rules (P: proved)": one table, one theorem. Then image E with its seven budgets.
+-- "Edges of the rules (P: proved)": one table, one theorem.
 use mathlib.Core.Path.{_≡_, refl}
 use mathlib.Core.List.{List, [], _∷_, _++_, map}
 use mathlib.Core.Bool.{true}
 use Prim.Native.Nat.{ℕ, zero, suc}
 use Prim.Native.String.{String}
 use lib.IntN.{ℤ, pos, negsuc}
-use Rattle.spec.specs.Bytes.{Two, each, text, Res, ok, refused}
+use Rattle.spec.specs.Bytes.{Two, each, Res, ok, refused}
 use Rattle.spec.specs.Image.{SPair, NO-IDENTITY}
 use Rattle.spec.specs.Monomial.{monomial, addAll, MonomialPair, pairOf, padPair, narrowPairs, COUNT}
 use Rattle.spec.specs.Transport.{Cell, cost, forbidden, Problem, weight, weigh, Solution, solveTransport}
 use Rattle.spec.specs.Action.{Action, alignments}
-use Rattle.spec.specs.Merge.{programOf}
 
 -- ---- answers as numbers
 abbrev flat : List Two → List ℕ
@@ -68,39 +67,3 @@ edges =
 pub edges-hold : map (λ e. e .got) edges ≡ map (λ e. e .expected) edges
 unfolding edges
 edges-hold = refl
-
--- ---- image E: operation 0 Lit, 1 Plain2; class 0 holds literal 5, class 1 literal 7, class 2 operation 1 over (0, 1), class 3 operation 1 over (0, 0)
-unfoldable pub imageE : List ℕ
-imageE = 0 ∷ 0 ∷ 0 ∷ 121 ∷ 1 ∷ 0 ∷ 2 ∷ 0 ∷ 4 ∷ 0 ∷ 4 ∷ 0 ∷ 4 ∷ 9 ∷ 0 ∷ 255 ∷ 255 ∷ 2 ∷ 0 ∷ 255 ∷ 255 ∷ 0 ∷ 0 ∷ 0 ∷ 1 ∷ 0 ∷ 0 ∷ 0 ∷ 0 ∷ 0 ∷ 1 ∷ 0 ∷ 1 ∷ 0 ∷ 1 ∷ 0 ∷ 1 ∷ 0 ∷ 0 ∷ 0 ∷ 1 ∷ 0 ∷ 2 ∷ 0 ∷ 1 ∷ 0 ∷ 2 ∷ 0 ∷ 0 ∷ 0 ∷ 3 ∷ 0 ∷ 3 ∷ 0 ∷ 1 ∷ 0 ∷ 3 ∷ 0 ∷ 0 ∷ 0 ∷ 3 ∷ 0 ∷ 0 ∷ 0 ∷ 0 ∷ 0 ∷ 5 ∷ 0 ∷ 0 ∷ 0 ∷ 0 ∷ 0 ∷ 0 ∷ 0 ∷ 0 ∷ 0 ∷ 7 ∷ 0 ∷ 0 ∷ 0 ∷ 0 ∷ 0 ∷ 1 ∷ 0 ∷ 0 ∷ 0 ∷ 0 ∷ 0 ∷ 0 ∷ 0 ∷ 2 ∷ 0 ∷ 1 ∷ 0 ∷ 0 ∷ 0 ∷ 0 ∷ 0 ∷ 2 ∷ 0 ∷ 2 ∷ 0 ∷ 0 ∷ 0 ∷ 0 ∷ 0 ∷ 1 ∷ 0 ∷ 1 ∷ 0 ∷ 0 ∷ 0 ∷ 1 ∷ 0 ∷ 0 ∷ 0 ∷ 0 ∷ 0 ∷ 1 ∷ 0 ∷ 0 ∷ 0 ∷ 0 ∷ 0 ∷ 1 ∷ []
-
--- query 2, 3 with a budget below 256
-abbrev pub queryE : ℕ → List ℕ
-queryE b = imageE ++ (0 ∷ 2 ∷ 0 ∷ 3 ∷ 0 ∷ 0 ∷ 0 ∷ b ∷ [])
-
-pub e-14 : programOf (queryE 14) ≡ text "complete pairs 3 rounds 1 size 4 mass 2\n0 lit 0 5\n1 lit 0 7\n2 variants 1:1 0:1\n3 op 1 0:1 2:1\n"
-unfolding imageE programOf text
-e-14 = refl
-
-pub e-13 : programOf (queryE 13) ≡ text "partial pairs 3 rounds 1 size 4 mass 2\n0 lit 0 5\n1 lit 0 7\n2 variants 1:1 0:1\n3 op 1 0:1 2:1\n"
-unfolding imageE programOf text
-e-13 = refl
-
-pub e-10 : programOf (queryE 10) ≡ text "partial pairs 3 rounds 1 size 4 mass 2\n0 lit 0 5\n1 lit 0 7\n2 variants 1:1 0:1\n3 op 1 0:1 2:1\n"
-unfolding imageE programOf text
-e-10 = refl
-
-pub e-9 : programOf (queryE 9) ≡ text "partial pairs 3 rounds 0 size 6 mass 6\n0 lit 0 5\n1 lit 0 7\n2 op 1 0:1 1:1\n3 op 1 0:2\n4 variants 2:1 3:1\n"
-unfolding imageE programOf text
-e-9 = refl
-
-pub e-3 : programOf (queryE 3) ≡ text "partial pairs 3 rounds 0 size 6 mass 6\n0 lit 0 5\n1 lit 0 7\n2 op 1 0:1 1:1\n3 op 1 0:2\n4 variants 2:1 3:1\n"
-unfolding imageE programOf text
-e-3 = refl
-
-pub e-2 : programOf (queryE 2) ≡ text "partial pairs 1 rounds 0 size 6 mass 6\n0 lit 0 5\n1 lit 0 7\n2 op 1 0:1 1:1\n3 op 1 0:2\n4 variants 2:1 3:1\n"
-unfolding imageE programOf text
-e-2 = refl
-
-pub e-0 : programOf (queryE 0) ≡ text "partial pairs 1 rounds 0 size 6 mass 6\n0 lit 0 5\n1 lit 0 7\n2 op 1 0:1 1:1\n3 op 1 0:2\n4 variants 2:1 3:1\n"
-unfolding imageE programOf text
-e-0 = refl

@@ -11,3 +11,7 @@ pub mod Listing
 pub mod Merge
 pub mod Meaning
 pub mod Edges
+pub mod Asked
+pub mod Samples
+pub mod Refusals
+pub mod Limits

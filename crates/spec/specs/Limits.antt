@@ -1,0 +1,106 @@
+-- The limits met and passed: refusals 1 and 12 to 16, and what the buffers hold afterwards.
+use mathlib.Core.Path.{_≡_, refl}
+use mathlib.Core.Bool.{true, false}
+use mathlib.Core.List.{List, [], _∷_, _++_, map}
+use Prim.Native.Nat.{ℕ}
+use lib.ListN.{replicate}
+use Rattle.spec.specs.Bytes.{text, Two, upFrom, ok, refused, workAfter}
+use Rattle.spec.specs.Graph.{PAIRS, enter}
+use Rattle.spec.specs.Pool.{Pool, Node, opNode, litNode, joinRuns, TERMS, intern, interned}
+use Rattle.spec.specs.Transport.{Problem, Cell, cost, solveTransport, planAfter}
+use Rattle.spec.specs.Merge.{mergeOf, outputAfter}
+use Rattle.spec.specs.Asked.{hex}
+
+unfoldable imageE : List ℕ
+unfolding hex
+imageE = hex "000000790100020004000400040900ffff0200ffff0000000100000000000100010001000100000001000200010002000000030003000100030000000300000000000500000000000000000007000000000001000000000000000200010000000000020002000000000001000100000001000000000001000000000001"
+
+-- ---- 14: image E's listing has 94 bytes
+abbrev listingE : List ℕ
+listingE = text "complete pairs 3 rounds 1 size 4 mass 2\n0 lit 0 5\n1 lit 0 7\n2 variants 1:1 0:1\n3 op 1 0:1 2:1\n"
+
+exactly-fits : mergeOf true imageE 2 3 14 94 ≡ ok listingE
+unfolding imageE mergeOf text
+exactly-fits = refl
+
+refused-14 : mergeOf true imageE 2 3 14 93 ≡ refused 14
+unfolding imageE mergeOf
+refused-14 = refl
+
+-- ---- 1 before all others: a wrong image, class and output, and a work buffer too short
+refused-1 : mergeOf false [] 9 9 0 0 ≡ refused 1
+unfolding mergeOf
+refused-1 = refl
+
+-- ---- "leaves output past the listing untouched"; a refusal leaves all of it
+output-kept : (outputAfter (1 ∷ 2 ∷ 3 ∷ []) (ok (7 ∷ 8 ∷ [])) ≡ 7 ∷ 8 ∷ 3 ∷ []) × (outputAfter (1 ∷ 2 ∷ 3 ∷ []) (refused 13) ≡ 1 ∷ 2 ∷ 3 ∷ [])
+unfolding outputAfter
+output-kept = (refl, refl)
+
+-- ---- work buffers: zero, or as they were where one was too short
+work-cleared : (workAfter {A = ℕ} 0 true (1 ∷ 2 ∷ []) ≡ 0 ∷ 0 ∷ []) × (workAfter {A = ℕ} 0 false (1 ∷ 2 ∷ []) ≡ 1 ∷ 2 ∷ [])
+work-cleared = (refl, refl)
+
+-- ---- 12: 4,096 pairs are held, one more is refused, one that is there is not
+unfoldable manyPairs : List Two
+unfolding upFrom
+manyPairs = map (λ i. (i, 0)) (upFrom 0 PAIRS)
+
+refused-12 : enter manyPairs (5, 1) ≡ refused 12
+unfolding enter manyPairs
+refused-12 = refl
+
+there-already : enter manyPairs (4095, 0) ≡ ok manyPairs
+unfolding enter manyPairs
+there-already = refl
+
+-- ---- 13: 16,384 terms are held, and 65,536 runs
+unfoldable fullPool : Pool
+unfolding upFrom
+fullPool = map (λ i. litNode 0 i) (upFrom 0 TERMS)
+
+refused-13 : intern fullPool (litNode 1 0) ≡ refused 13
+unfolding fullPool intern
+refused-13 = refl
+
+found-again : intern fullPool (litNode 0 16383) ≡ ok (interned fullPool 16383)
+unfolding fullPool intern
+found-again = refl
+
+-- 1,024 terms of 64 runs each
+unfoldable fullRuns : Pool
+unfolding upFrom
+fullRuns = map (λ i. record { head = 0; op = i; value = 0; runs = map (λ k. (k, 1)) (upFrom 0 64) }) (upFrom 0 1024)
+
+refused-13-runs : intern fullRuns (opNode 1024 ((0, 1) ∷ [])) ≡ refused 13
+unfolding fullRuns intern joinRuns
+refused-13-runs = refl
+
+-- a term without runs still has its place
+place-left : intern fullRuns (opNode 1024 []) ≡ ok (interned (fullRuns ++ (opNode 1024 [] ∷ [])) 1024)
+unfolding fullRuns intern joinRuns
+place-left = refl
+
+-- ---- transport: "in transport 1, 15, 16"
+abbrev problem : List ℕ → List ℕ → List Cell → Problem
+problem s d c = record { supply = s; demand = d; cells = c }
+
+refused-1-transport : solveTransport false (problem (1 ∷ []) [] []) 7 ≡ refused 1
+unfolding solveTransport
+refused-1-transport = refl
+
+refused-15-cells : solveTransport true (problem (1 ∷ []) (1 ∷ []) []) 1 ≡ refused 15
+unfolding solveTransport
+refused-15-cells = refl
+
+refused-15-plan : solveTransport true (problem (1 ∷ []) (1 ∷ []) (cost 1 1 ∷ [])) 2 ≡ refused 15
+unfolding solveTransport
+refused-15-plan = refl
+
+refused-15-rows : solveTransport true (problem (replicate 66 1) [] []) 0 ≡ refused 15
+unfolding solveTransport
+refused-15-rows = refl
+
+plan-kept : planAfter (4 ∷ 5 ∷ []) (refused 16) ≡ 4 ∷ 5 ∷ []
+unfolding planAfter
+plan-kept = refl

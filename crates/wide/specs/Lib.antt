@@ -1,0 +1,4 @@
+pub mod Value
+pub mod Diff
+pub mod Sign
+pub mod Bounds
