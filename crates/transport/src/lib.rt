@@ -1,0 +1,198 @@
+// Least-cost transport (transport.rs): successive shortest paths. No network is built: edges are read off the plan so far.
+ghost use mathlib.Core.Path.{_≡_};
+ghost use Prim.Native.Nat.{ℕ, _+_, _-_, _*_, _%_, _^_, _≤_, _<_};
+ghost use lib.ListN.{length, getD, set};
+ghost use Rattle.transport.specs.Net.{labelOf, costOf, joined, labelled, offered, improved, relaxed, alongMargin, alongCell, againstCell, spreadTo, alongRow, againstColumn, visited, left, firstOf, headOf, countOf, unseenTo, begun};
+use wide::Wide;
+
+// The label of node v.
+fn label(net: &[u64; 662], v: usize) -> Wide
+    requires { ⌜ v < 132 ⌝ }
+    ensures { λ r. ⌜ r ≡ labelOf (now (net .entry)) v ⌝ }
+{
+    Wide {
+        lo: net[v],
+        hi: net[132 + v],
+    }
+}
+
+// The cost of cell k.
+fn cost(costs: &[u64], k: usize) -> Wide
+    requires { ⌜ (k < 4225) × (12675 ≤ length (now costs)) ⌝ }
+    ensures { λ r. ⌜ r ≡ costOf (now (costs .entry)) k ⌝ }
+{
+    Wide {
+        lo: costs[k],
+        hi: costs[4225 + k],
+    }
+}
+
+fn put(net: &mut [u64; 662], at: usize, x: u64)
+    requires { ⌜ at < 662 ⌝ }
+    ensures { λ _. ⌜ now (net .exit) ≡ set (now (net .entry)) at x ⌝ }
+{
+    net[at] = x;
+}
+
+// Node v joins the queue.
+fn join(net: &mut [u64; 662], v: usize)
+    requires { ⌜ v < 132 ⌝ }
+    ensures { λ _. ⌜ now (net .exit) ≡ joined (now (net .entry)) v ⌝ }
+{
+    let at = std::num::wrapping_add_u64(net[660], net[661]) % 132;
+    let n = std::num::wrapping_add_u64(net[661], 1);
+    put(net, 528 + at as usize, v as u64);
+    put(net, 396 + v, 2);
+    put(net, 661, n);
+}
+
+fn put_label(net: &mut [u64; 662], u: usize, v: usize, d: Wide)
+    requires { ⌜ v < 132 ⌝ }
+    ensures { λ _. ⌜ now (net .exit) ≡ labelled (now (net .entry)) u v d ⌝ }
+{
+    put(net, v, d.lo);
+    put(net, 132 + v, d.hi);
+    put(net, 264 + v, u as u64);
+}
+
+// Whether the label d is a strict improvement at node v.
+fn improves(net: &[u64; 662], v: usize, d: Wide) -> bool
+    requires { ⌜ v < 132 ⌝ }
+    ensures { λ r. ⌜ r ≡ offered (now (net .entry)) v d ⌝ }
+{
+    if net[396 + v] == 0 {
+        return true;
+    }
+    d.less(label(net, v))
+}
+
+// Node v takes the label d from u, and joins the queue unless it stands in it.
+fn improve(net: &mut [u64; 662], u: usize, v: usize, d: Wide)
+    requires { ⌜ v < 132 ⌝ }
+    ensures { λ _. ⌜ now (net .exit) ≡ improved (now (net .entry)) u v d ⌝ }
+{
+    put_label(net, u, v, d);
+    if net[396 + v] == 2 {
+        return;
+    }
+    join(net, v);
+}
+
+// The edge from u to v, with the label d at its end.
+fn relax(net: &mut [u64; 662], u: usize, v: usize, d: Wide)
+    requires { ⌜ v < 132 ⌝ }
+    ensures { λ _. ⌜ now (net .exit) ≡ relaxed (now (net .entry)) u v d ⌝ }
+{
+    if improves(net, v, d) {
+        improve(net, u, v, d);
+        return;
+    }
+}
+
+// An edge at a margin, on which r is left: it costs nothing.
+fn along_margin(net: &mut [u64; 662], r: u64, u: usize, v: usize, d: Wide)
+    requires { ⌜ v < 132 ⌝ }
+    ensures { λ _. ⌜ now (net .exit) ≡ alongMargin r (now (net .entry)) u v d ⌝ }
+{
+    if 0 < r {
+        relax(net, u, v, d);
+        return;
+    }
+}
+
+// From a row to a column, where cell k can take more.
+fn along_cell(
+    costs: &[u64],
+    flow: &[u64],
+    net: &mut [u64; 662],
+    k: usize,
+    u: usize,
+    v: usize,
+    d: Wide,
+)
+    requires { ⌜ (v < 132) × (k < 4225) × (12675 ≤ length (now costs)) × (4225 ≤ length (now flow)) ⌝ }
+    ensures { λ _. ⌜ now (net .exit) ≡ alongCell (now (costs .entry)) (now (flow .entry)) (now (net .entry)) k u v d ⌝ }
+{
+    if flow[k] < costs[8450 + k] {
+        relax(net, u, v, d.wrapping_add(cost(costs, k)));
+        return;
+    }
+}
+
+// From a column back to a row, where cell k has something, at the negated cost.
+fn against_cell(
+    costs: &[u64],
+    flow: &[u64],
+    net: &mut [u64; 662],
+    k: usize,
+    u: usize,
+    v: usize,
+    d: Wide,
+)
+    requires { ⌜ (v < 132) × (k < 4225) × (12675 ≤ length (now costs)) × (4225 ≤ length (now flow)) ⌝ }
+    ensures { λ _. ⌜ now (net .exit) ≡ againstCell (now (costs .entry)) (now (flow .entry)) (now (net .entry)) k u v d ⌝ }
+{
+    if 0 < flow[k] {
+        let c = cost(costs, k);
+        relax(net, u, v, d.wrapping_add(c.wrapping_neg()));
+        return;
+    }
+}
+
+// n edges at the margins from place k on, to the nodes from v on.
+fn spread(left: &[u64; 195], net: &mut [u64; 662], n: usize, k: usize, u: usize, v: usize)
+    requires { ⌜ (u < 132) × (v + n ≤ 132) × (k + n ≤ 195) ⌝ }
+    ensures { λ _. ⌜ now (net .exit) ≡ spreadTo (now (left .entry)) u (labelOf (now (net .entry)) u) n k v (now (net .entry)) ⌝ }
+{
+    let d = label(net, u);
+    let mut i = 0;
+    while i < n {
+        along_margin(net, left[k + i], u, v + i, d);
+        i += 1;
+    }
+}
+
+// The cells of a row from cell k on, to the columns from node v on.
+fn along_row(
+    costs: &[u64],
+    flow: &[u64],
+    net: &mut [u64; 662],
+    n: usize,
+    k: usize,
+    u: usize,
+    v: usize,
+)
+    requires { ⌜ (u < 132) × (v + n ≤ 132) × (k + n ≤ 4225) × (12675 ≤ length (now costs)) × (4225 ≤ length (now flow)) ⌝ }
+    ensures { λ _. ⌜ now (net .exit) ≡ alongRow (now (costs .entry)) (now (flow .entry)) u (labelOf (now (net .entry)) u) n k v (now (net .entry)) ⌝ }
+{
+    let d = label(net, u);
+    let mut i = 0;
+    while i < n {
+        along_cell(costs, flow, net, k + i, u, v + i, d);
+        i += 1;
+    }
+}
+
+// The cells of a column from cell k on, c apart, back to the rows from node v on.
+fn against_column(
+    costs: &[u64],
+    flow: &[u64],
+    net: &mut [u64; 662],
+    c: usize,
+    n: usize,
+    k: usize,
+    u: usize,
+    v: usize,
+)
+    requires { ⌜ (u < 132) × (v + n ≤ 132) × (k < c) × (n * c ≤ 4225) × (c ≤ 65) × (12675 ≤ length (now costs)) × (4225 ≤ length (now flow)) ⌝ }
+    ensures { λ _. ⌜ now (net .exit) ≡ againstColumn (now (costs .entry)) (now (flow .entry)) c u (labelOf (now (net .entry)) u) n k v (now (net .entry)) ⌝ }
+{
+    let d = label(net, u);
+    let mut at = k;
+    let mut i = 0;
+    while i < n {
+        against_cell(costs, flow, net, at, u, v + i, d);
+        at += c;
+        i += 1;
+    }
+}
