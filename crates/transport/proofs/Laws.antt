@@ -9,9 +9,9 @@ use borrow.Author.Tests.{lt-ltb, le-ltb, le-leb, lt-leb, eq-eqb, ne-eqb}
 use lib.ListN.{getD, set}
 use lib.Dec.{ltb, leb, eqb}
 use Rattle.wide.specs.declared.Wide.{Wide}
-use Rattle.transport.specs.Net.{stateOf, labelled, offered, joined, improved, relaxed, capOf, costOf, alongMargin, alongCell, againstCell, spreadTo, alongRow, againstColumn}
+use Rattle.transport.specs.Net.{stateOf, labelled, offered, joined, improved, relaxed, capOf, costOf, alongMargin, alongCell, againstCell, spreadTo, alongRow, againstColumn, labelOf, visited, unseenTo}
 use Rattle.wide.specs.Wrap.{addWords, negWords}
-use native.Mathlib.Nat.{add-assoc, add-zero, sub-zero, mul-le-mul-right}
+use native.Mathlib.Nat.{add-assoc, add-zero, sub-zero, mul-le-mul, mul-le-mul-right}
 
 module _ (m : List ℕ) (u v : ℕ) (d : Wide) where
   pub improved-queued : stateOf (labelled m u v d) v ≡ 2 → labelled m u v d ≡ improved m u v d
@@ -101,3 +101,40 @@ column-next at c i k e = omega arith
 
 pub column-cell : (at c i k n : ℕ) → at ≡ k + i * c → k < c → i < n → n * c ≤ 4225 → at < 4225
 column-cell at c i k n e h l b = omega (arith, mul-le-mul-right {m = suc i} {n = n} c l)
+
+-- ---- the cells of r rows and c columns
+pub cells-fit : (r c : ℕ) → r ≤ 65 → c ≤ 65 → r * c ≤ 4225
+cells-fit r c h k = omega (arith, mul-le-mul {n₁ = r} {m₁ = c} {n₂ = 65} {m₂ = 65} h k)
+
+pub row-fits : (i r c : ℕ) → i < r → r ≤ 65 → c ≤ 65 → i * c + c ≤ 4225
+row-fits i r c h k l = omega (arith, mul-le-mul {n₁ = suc i} {m₁ = c} {n₂ = 65} {m₂ = 65} (omega arith) l)
+
+module _ (g x y : List ℕ) (r c u : ℕ) (m : List ℕ) where
+  pub visited-source : u ≡ 0 → spreadTo y 0 (labelOf m 0) r 0 1 m ≡ visited g x y r c u m
+  unfolding visited
+  visited-source e = rw (eq-eqb u 0 e) refl
+
+  pub visited-row : (u ≡ 0 → ⊥) → u ≤ r → alongRow g x u (labelOf m u) c ((u - 1) * c) (1 + r) m ≡ visited g x y r c u m
+  unfolding visited
+  visited-row a b = rw (ne-eqb u 0 a, le-leb u r b) refl
+
+  pub visited-column : (u ≡ 0 → ⊥) → r < u → u ≤ r + c
+      → (let t = alongMargin (getD y (65 + (u - 1 - r)) 0) m u (1 + r + c) (labelOf m u) in againstColumn g x c u (labelOf t u) r (u - 1 - r) 1 t) ≡ visited g x y r c u m
+  unfolding visited
+  visited-column a b d = rw (ne-eqb u 0 a, lt-leb u r b, le-leb u (r + c) d) refl
+
+  pub visited-sink : (u ≡ 0 → ⊥) → r < u → r + c < u → spreadTo y (1 + r + c) (labelOf m (1 + r + c)) c 130 (1 + r) m ≡ visited g x y r c u m
+  unfolding visited
+  visited-sink a b d = rw (ne-eqb u 0 a, lt-leb u r b, lt-leb u (r + c) d) refl
+
+module _ (n i : ℕ) (m : List ℕ) where
+  pub unsee-start : unseenTo (n - 0) 0 m ≡ unseenTo n 0 m
+  unsee-start = rw (sub-zero n) refl
+
+  pub unsee-turn : i < n → unseenTo (n - i) i m ≡ unseenTo (n - (i + 1)) (i + 1) (set m (396 + i) 0)
+  unfolding unseenTo
+  unsee-turn h = let e : n - i ≡ suc (n - (i + 1)) = omega arith in rw e refl
+
+  pub unsee-end : n ≤ i → unseenTo (n - i) i m ≡ m
+  unfolding unseenTo
+  unsee-end h = let e : n - i ≡ 0 = omega arith in rw e refl

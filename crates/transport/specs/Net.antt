@@ -91,7 +91,7 @@ unfolding spreadTo alongRow againstColumn alongMargin
 visited g x y r c u m =
     pick (eqb u 0) (spreadTo y 0 (labelOf m 0) r 0 1 m)
     (pick (leb u r) (alongRow g x u (labelOf m u) c ((u - 1) * c) (1 + r) m)
-    (pick (leb u (r + c)) (againstColumn g x c u (labelOf m u) r (u - 1 - r) 1 (alongMargin (getD y (65 + (u - 1 - r)) 0) m u (1 + r + c) (labelOf m u)))
+    (pick (leb u (r + c)) (let t = alongMargin (getD y (65 + (u - 1 - r)) 0) m u (1 + r + c) (labelOf m u) in againstColumn g x c u (labelOf t u) r (u - 1 - r) 1 t)
     (spreadTo y (1 + r + c) (labelOf m (1 + r + c)) c 130 (1 + r) m)))
 
 -- the first node leaves the queue

@@ -196,3 +196,71 @@ fn against_column(
         i += 1;
     }
 }
+
+// All the edges of node u in insertion order, for r rows and c columns; a row's edge back to the source never improves.
+fn visit(
+    costs: &[u64],
+    flow: &[u64],
+    left: &[u64; 195],
+    net: &mut [u64; 662],
+    r: usize,
+    c: usize,
+    u: usize,
+)
+    requires { ⌜ (r ≤ 65) × (c ≤ 65) × (12675 ≤ length (now costs)) × (4225 ≤ length (now flow)) ⌝ }
+    ensures { λ _. ⌜ now (net .exit) ≡ visited (now (costs .entry)) (now (flow .entry)) (now (left .entry)) r c u (now (net .entry)) ⌝ }
+{
+    if u == 0 {
+        spread(left, net, r, 0, 0, 1);
+        return;
+    }
+    if u <= r {
+        along_row(costs, flow, net, c, (u - 1) * c, u, 1 + r);
+        return;
+    }
+    if u <= r + c {
+        let d = label(net, u);
+        along_margin(net, left[65 + (u - 1 - r)], u, 1 + r + c, d);
+        against_column(costs, flow, net, c, r, u - 1 - r, u, 1);
+        return;
+    }
+    spread(left, net, c, 130, 1 + r + c, 1 + r);
+}
+
+// n nodes are unseen.
+fn unsee(net: &mut [u64; 662], n: usize)
+    requires { ⌜ n ≤ 132 ⌝ }
+    ensures { λ _. ⌜ now (net .exit) ≡ unseenTo n 0 (now (net .entry)) ⌝ }
+{
+    let mut i = 0;
+    while i < n {
+        put(net, 396 + i, 0);
+        i += 1;
+    }
+}
+
+// The nodes up to t are unseen; then the source has the label 0 and stands in the queue.
+fn begin(net: &mut [u64; 662], t: usize)
+    requires { ⌜ t < 132 ⌝ }
+    ensures { λ _. ⌜ now (net .exit) ≡ begun t (now (net .entry)) ⌝ }
+{
+    unsee(net, t + 1);
+    put(net, 660, 0);
+    put(net, 661, 0);
+    put_label(net, 0, 0, Wide { lo: 0, hi: 0 });
+    join(net, 0);
+}
+
+// The first node leaves the queue.
+fn leave(net: &mut [u64; 662]) -> usize
+    requires { ⌜ (headOf (now net) < 132) × (firstOf (now net) < 132) × (0 < countOf (now net)) ⌝ }
+    ensures { λ r. ⌜ (r ≡ firstOf (now (net .entry))) × (now (net .exit) ≡ left (now (net .entry))) ⌝ }
+{
+    let h = net[660];
+    let n = net[661];
+    let u = net[528 + h as usize] as usize;
+    put(net, 396 + u, 1);
+    put(net, 660, (h + 1) % 132);
+    put(net, 661, n - 1);
+    u
+}
