@@ -184,7 +184,7 @@ module _ (p : Problem) (few : nodeCount p ≤ 132) (s : Search) (Z : Sized p s) 
       once z (yes y) = rw (y, queue-is, occurs-last v v (s .queue), one-same v, N .once v, flag, Fv) refl
       once z (no y) = rw (queue-is, occurs-last z v (s .queue), one-other v z (λ o. y (sym o)), N .once z, Fz z y) (omega arith)
 
-  improved-holds : NetHolds p (label u v (pos k) s) (improved m u v d)
+  pub improved-holds : NetHolds p (label u v (pos k) s) (improved m u v d)
   improved-holds = go (ℕ-discrete (stateOf m v) 2)
     where
       st : stateOf (labelled m u v d) v ≡ stateOf m v
