@@ -3,6 +3,7 @@ ghost use mathlib.Core.Path.{_≡_};
 ghost use Prim.Native.Nat.{ℕ, _+_, _-_, _*_, _%_, _^_, _≤_, _<_};
 ghost use lib.ListN.{length, getD, set};
 ghost use Rattle.transport.specs.Net.{labelOf, costOf, joined, labelled, offered, improved, relaxed, alongMargin, alongCell, againstCell, spreadTo, alongRow, againstColumn, visited, left, firstOf, headOf, countOf, unseenTo, begun};
+ghost use Rattle.transport.specs.Holds.{Ready, Found};
 use wide::Wide;
 
 // The label of node v.
@@ -263,4 +264,27 @@ fn leave(net: &mut [u64; 662]) -> usize
     put(net, 660, (h + 1) % 132);
     put(net, 661, n - 1);
     u
+}
+
+// One search from the source over the plan so far: whether it reaches the sink.
+fn search(
+    costs: &[u64],
+    flow: &[u64],
+    left: &[u64; 195],
+    net: &mut [u64; 662],
+    r: usize,
+    c: usize,
+) -> bool
+    requires { ⌜ (r ≤ 65) × (c ≤ 65) × (12675 ≤ length (now costs)) × (4225 ≤ length (now flow)) × (length (now net) ≡ 662) × Ready r c (now costs) (now flow) (now left) ⌝ }
+    ensures { λ b. ⌜ ((R : Ready r c (now (costs .entry)) (now (flow .entry)) (now (left .entry))) → Found R (now (net .exit)) b) ⌝ }
+{
+    begin(net, 1 + r + c);
+    while 0 < net[661] {
+        let u = leave(net);
+        visit(costs, flow, left, net, r, c, u);
+    }
+    if net[396 + (1 + r + c)] == 0 {
+        return false;
+    }
+    true
 }
