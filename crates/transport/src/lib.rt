@@ -4,6 +4,10 @@ ghost use Prim.Native.Nat.{ℕ, _+_, _-_, _*_, _%_, _^_, _≤_, _<_};
 ghost use lib.ListN.{length, getD, set};
 ghost use Rattle.transport.specs.Net.{labelOf, costOf, joined, labelled, offered, improved, relaxed, alongMargin, alongCell, againstCell, spreadTo, alongRow, againstColumn, visited, left, firstOf, headOf, countOf, unseenTo, begun};
 ghost use Rattle.transport.specs.Holds.{Ready, Found};
+ghost use mathlib.Core.List.{[]};
+ghost use Prim.Native.Nat.{min};
+ghost use Rattle.spec.specs.Bytes.{sumTo};
+ghost use Rattle.transport.specs.Path.{stepsFrom, walkNet, Leads, Step, Steps, leftOn, leastOn, sentOn, sent, Balanced};
 use wide::Wide;
 
 // The label of node v.
@@ -287,4 +291,148 @@ fn search(
         return false;
     }
     true
+}
+
+fn put_node(path: &mut [u64; 132], at: usize, v: usize)
+    requires { ⌜ at < 132 ⌝ }
+    ensures { λ _. ⌜ now (path .exit) ≡ set (now (path .entry)) at v ⌝ }
+{
+    path[at] = v as u64;
+}
+
+// The walk back from the sink t: the place in the path of its first node.
+fn trace(net: &[u64; 662], path: &mut [u64; 132], t: usize) -> usize
+    requires { ⌜ Leads (now net) 131 t × (length (now path) ≡ 132) ⌝ }
+    ensures { λ a. ⌜ (a ≤ 131) × (length (now (path .exit)) ≡ 132) × (stepsFrom (now (path .exit)) (131 - a) a ≡ walkNet (now (net .entry)) 131 t []) ⌝ }
+{
+    put_node(path, 131, t);
+    let mut at = 131;
+    let mut v = t;
+    while v != 0 {
+        v = net[264 + v] as usize;
+        at -= 1;
+        put_node(path, at, v);
+    }
+    at
+}
+
+fn least(a: u64, b: u64) -> u64
+    ensures { λ r. ⌜ r ≡ min a b ⌝ }
+{
+    if a < b { a } else { b }
+}
+
+// a - b, or 0
+fn less(a: u64, b: u64) -> u64
+    ensures { λ r. ⌜ r ≡ a - b ⌝ }
+{
+    if a < b { 0 } else { a - b }
+}
+
+// The cell of row i and column j of c.
+fn place(i: usize, j: usize, c: usize) -> usize
+    requires { ⌜ (i < 65) × (j < c) × (c ≤ 65) ⌝ }
+    ensures { λ k. ⌜ (k ≡ i * c + j) × (k < 4225) ⌝ }
+{
+    i * c + j
+}
+
+// What is left on the step from u to v.
+fn left_on(
+    costs: &[u64],
+    flow: &[u64],
+    left: &[u64; 195],
+    r: usize,
+    c: usize,
+    u: usize,
+    v: usize,
+) -> u64
+    requires { ⌜ (r ≤ 65) × (c ≤ 65) × (12675 ≤ length (now costs)) × (4225 ≤ length (now flow)) × Step r c u v ⌝ }
+    ensures { λ b. ⌜ b ≡ leftOn (now (costs .entry)) (now (flow .entry)) (now (left .entry)) r c u v ⌝ }
+{
+    if u == 0 {
+        return left[v - 1];
+    }
+    if u <= r {
+        let k = place(u - 1, v - 1 - r, c);
+        return less(costs[8450 + k], flow[k]);
+    }
+    if v == 1 + r + c {
+        return left[65 + (u - 1 - r)];
+    }
+    let k = place(v - 1, u - 1 - r, c);
+    flow[k]
+}
+
+// The least that is left along the path from place a on, and no more than b.
+fn bottleneck(
+    costs: &[u64],
+    flow: &[u64],
+    left: &[u64; 195],
+    path: &[u64; 132],
+    r: usize,
+    c: usize,
+    from: usize,
+    most: u64,
+) -> u64
+    requires { ⌜ (r ≤ 65) × (c ≤ 65) × (12675 ≤ length (now costs)) × (4225 ≤ length (now flow)) × (from ≤ 131) × Steps r c (stepsFrom (now path) (131 - from) from) ⌝ }
+    ensures { λ b. ⌜ b ≡ leastOn (now (costs .entry)) (now (flow .entry)) (now (left .entry)) r c most (stepsFrom (now (path .entry)) (131 - from) from) ⌝ }
+{
+    let mut b = most;
+    let mut a = from;
+    while a < 131 {
+        let x = left_on(
+            costs,
+            flow,
+            left,
+            r,
+            c,
+            path[a] as usize,
+            path[a + 1] as usize,
+        );
+        b = least(b, x);
+        a += 1;
+    }
+    b
+}
+
+fn put_flow(flow: &mut [u64], k: usize, x: u64)
+    requires { ⌜ k < length (now flow) ⌝ }
+    ensures { λ _. ⌜ now (flow .exit) ≡ set (now (flow .entry)) k x ⌝ }
+{
+    flow[k] = x;
+}
+
+// n units along the step from u to v.
+fn send_on(flow: &mut [u64], r: usize, c: usize, u: usize, v: usize, n: u64)
+    requires { ⌜ (r ≤ 65) × (c ≤ 65) × (4225 ≤ length (now flow)) × Step r c u v × ((k : ℕ) → getD (now flow) k 0 + n < 2 ^ 64) ⌝ }
+    ensures { λ _. ⌜ now (flow .exit) ≡ sentOn r c n u v (now (flow .entry)) ⌝ }
+{
+    if u == 0 {
+        return;
+    }
+    if u <= r {
+        let k = place(u - 1, v - 1 - r, c);
+        let x = flow[k] + n;
+        put_flow(flow, k, x);
+        return;
+    }
+    if v == 1 + r + c {
+        return;
+    }
+    let k = place(v - 1, u - 1 - r, c);
+    let x = less(flow[k], n);
+    put_flow(flow, k, x);
+}
+
+// n units along the path from place `from` on.
+fn send(flow: &mut [u64], path: &[u64; 132], r: usize, c: usize, from: usize, n: u64)
+    requires { ⌜ (r ≤ 65) × (c ≤ 65) × (4225 ≤ length (now flow)) × (from ≤ 131) × Steps r c (stepsFrom (now path) (131 - from) from) × ((k : ℕ) → getD (now flow) k 0 + 131 * n < 2 ^ 64) ⌝ }
+    ensures { λ _. ⌜ now (flow .exit) ≡ sent r c n (stepsFrom (now (path .entry)) (131 - from) from) (now (flow .entry)) ⌝ }
+{
+    let mut a = from;
+    while a < 131 {
+        send_on(flow, r, c, path[a] as usize, path[a + 1] as usize, n);
+        a += 1;
+    }
 }
