@@ -12,9 +12,10 @@ use native.Mathlib.Numerals.{add-one}
 use borrow.Author.Tests.{le-leb, lt-leb, eq-eqb, ne-eqb}
 use lib.ListN.{length, getD, set, length-set}
 use lib.Seq.{getD-set-same, getD-set-other, set-out}
-use Rattle.spec.specs.Bytes.{pick, Two}
+use Rattle.spec.specs.Bytes.{pick, sumTo, Two}
+use lib.Arith.{digits-lt}
 use Rattle.transport.specs.Net.{predOf, capOf}
-use Rattle.transport.specs.Path.{stepsFrom, walkNet, Leads, arrived, onward, Step, Steps, noStep, andStep, leftOn, leastOn, sentOn, sent}
+use Rattle.transport.specs.Path.{stepsFrom, walkNet, Leads, arrived, onward, Step, Steps, noStep, andStep, leftOn, leastOn, sentOn, sent, Low, RowsLeft, ColumnsLeft, Balanced, rowSum, columnSum}
 
 pub place-fits : (i j c : ℕ) → i < 65 → j < c → c ≤ 65 → i * c + j < 4225
 place-fits i j c a b d = omega (arith, mul-le-mul {n₁ = suc i} {m₁ = c} {n₂ = 65} {m₂ = 65} a d)
@@ -181,3 +182,63 @@ walk-end m t path at v W z = sym (stop at) ∙ W .rest
     stop : (n : ℕ) → walkNet m n v (here path at) ≡ here path at
     stop zero = refl
     stop (suc n) = rw (eq-eqb v 0 z) refl
+
+-- ---- the sums at the margins
+pub sum-turn : (f : List ℕ) (k d i : ℕ) → sumTo (i + 1) (λ j. getD f (k + j * d) 0) ≡ sumTo i (λ j. getD f (k + j * d) 0) + getD f (k + i * d) 0
+unfolding sumTo
+sum-turn f k d i = rw (add-one i) refl
+
+pub next-place : (at k i d : ℕ) → at ≡ k + i * d → at + d ≡ k + (i + 1) * d
+next-place at k i d e = omega arith
+
+pub first-place : (k d : ℕ) → k ≡ k + 0 * d
+first-place k d = omega arith
+
+module _ (r c : ℕ) (f : List ℕ) (L : Low r c f) (hr : r ≤ 65) (hc : c ≤ 65) where
+  pub row-reads : (i : ℕ) → i < r → (j : ℕ) → j < c → (i * c + j * 1 < 4225) × (getD f (i * c + j * 1) 0 < 2 ^ 32)
+  row-reads i hi j hj =
+      let e : j * 1 ≡ j = omega arith in
+      rw e (place-fits i j c (omega arith) hj hc, L .low (i * c + j) (digits-lt hi hj))
+
+  pub column-reads : (j : ℕ) → j < c → (i : ℕ) → i < r → (j + i * c < 4225) × (getD f (j + i * c) 0 < 2 ^ 32)
+  column-reads j hj i hi =
+      let e : j + i * c ≡ i * c + j = omega arith in
+      rw e (place-fits i j c (omega arith) hj hc, L .low (i * c + j) (digits-lt hi hj))
+
+module _ (r c : ℕ) (supply f y₀ y : List ℕ) (n : ℕ) where
+  pub rows-turn : n < 65 → RowsLeft r c supply f y₀ y n → RowsLeft r c supply f y₀ (set y n (getD supply n 0 - rowSum f c n)) (n + 1)
+  rows-turn h R = record {
+    size = length-set y n (getD supply n 0 - rowSum f c n) ∙ R .size;
+    supplies = λ i hi. go i hi (ℕ-discrete i n);
+    other = λ k hk. getD-set-other y n k (getD supply n 0 - rowSum f c n) 0 (omega arith) ∙ R .other k hk;
+  }
+    where
+      go : (i : ℕ) → i < n + 1 → Dec (i ≡ n) → getD (set y n (getD supply n 0 - rowSum f c n)) i 0 ≡ getD supply i 0 - rowSum f c i
+      go i hi (yes e) = rw e (getD-set-same y n (getD supply n 0 - rowSum f c n) 0 (omega (arith, R .size)))
+      go i hi (no e) = getD-set-other y n i (getD supply n 0 - rowSum f c n) 0 e ∙ R .supplies i (omega arith)
+
+module _ (r c : ℕ) (demand f y : List ℕ) (n : ℕ) where
+  pub columns-turn : n < 65 → ColumnsLeft r c demand f y n → ColumnsLeft r c demand f (set (set y (65 + n) (getD demand n 0 - columnSum f r c n)) (130 + n) (columnSum f r c n)) (n + 1)
+  columns-turn h R = record { size = simp length-set (R .size); demands = λ j hj. go j hj (ℕ-discrete j n); taken = λ j hj. to j hj (ℕ-discrete j n) }
+    where
+      d : ℕ
+      d = getD demand n 0 - columnSum f r c n
+
+      s : ℕ
+      s = columnSum f r c n
+
+      go : (j : ℕ) → j < n + 1 → Dec (j ≡ n) → getD (set (set y (65 + n) (getD demand n 0 - columnSum f r c n)) (130 + n) (columnSum f r c n)) (65 + j) 0 ≡ getD demand j 0 - columnSum f r c j
+      go j hj (yes e) = rw e (getD-set-other (set y (65 + n) d) (130 + n) (65 + n) s 0 (omega arith) ∙ getD-set-same y (65 + n) d 0 (omega (arith, R .size)))
+      go j hj (no e) = getD-set-other (set y (65 + n) d) (130 + n) (65 + j) s 0 (omega arith) ∙ getD-set-other y (65 + n) (65 + j) d 0 (omega arith) ∙ R .demands j (omega arith)
+
+      to : (j : ℕ) → j < n + 1 → Dec (j ≡ n) → getD (set (set y (65 + n) (getD demand n 0 - columnSum f r c n)) (130 + n) (columnSum f r c n)) (130 + j) 0 ≡ columnSum f r c j
+      to j hj (yes e) = rw e (getD-set-same (set y (65 + n) d) (130 + n) s 0 (rw (length-set y (65 + n) d) (omega (arith, R .size))))
+      to j hj (no e) = getD-set-other (set y (65 + n) d) (130 + n) (130 + j) s 0 (omega arith) ∙ getD-set-other y (65 + n) (130 + j) d 0 (omega arith) ∙ R .taken j (omega arith)
+
+pub balanced : (r c : ℕ) (supply demand f y₀ y : List ℕ) → ColumnsLeft r c demand f y₀ c → RowsLeft r c supply f y₀ y r → Balanced r c supply demand f y
+balanced r c supply demand f y₀ y C R = record {
+  size = R .size;
+  supplies = R .supplies;
+  demands = λ j hj. R .other (65 + j) (omega arith) ∙ C .demands j hj;
+  taken = λ j hj. R .other (130 + j) (omega arith) ∙ C .taken j hj;
+}

@@ -9,12 +9,13 @@ use lib.IntN.{ℤ, pos}
 use lib.ListN.{length, getD}
 use Rattle.spec.specs.Bytes.{pick, sumTo}
 use Rattle.spec.specs.Meaning.{occurs}
-use Rattle.spec.specs.Transport.{Problem, Search, weight, rowsOf, colsOf, nodeCount, sink, cellAt, cellCost, capacity, supplyAt, demandAt, rowFlow, colFlow, searched, found}
+use Rattle.spec.specs.Transport.{Problem, Search, weight, rowsOf, colsOf, nodeCount, sink, cellAt, cellCost, capacity, supplyAt, demandAt, rowFlow, colFlow, searched, found, push}
 use Rattle.wide.specs.Wrap.{Natural}
 use Rattle.flow.specs.Cut.{bit}
 use Rattle.flow.specs.Search.{labelAt, predAt}
 use Rattle.flow.specs.Augmentation.{Partial}
 use Rattle.flow.specs.Magnitude.{Small}
+use Rattle.flow.specs.Solver.{pathOf, leastLeft}
 use Rattle.transport.specs.Net.{labelOf, predOf, stateOf, headOf, countOf, costOf, capOf}
 
 -- n nodes of the ring from place h on
@@ -65,3 +66,22 @@ pub record Ready (r c : ℕ) (g f y : List ℕ) : Type 0 where
 pub record Found {r c : ℕ} {g f y : List ℕ} (R : Ready r c g f y) (m : List ℕ) (reached : Bool) : Type 0 where
   pub net : NetHolds (R .p) (searched (R .p) (weight (R .p)) (R .x)) m
   pub is : reached ≡ found (labelAt (searched (R .p) (weight (R .p)) (R .x)) (sink (R .p)))
+
+-- a problem of r rows and c columns, and a plan so far
+pub record Midway (r c : ℕ) (supply demand g f : List ℕ) : Type 0 where
+  pub p : Problem
+  pub x : List ℕ
+  pub supplyIs : p .supply ≡ supply
+  pub demandIs : p .demand ≡ demand
+  pub rows : rowsOf p ≡ r
+  pub cols : colsOf p ≡ c
+  pub small : Small p
+  pub partly : Partial p (weight p) x
+  pub costs : CostsHold p g
+  pub flow : FlowHolds p x f
+
+-- n units were sent along the path that the search found, or it did not reach the sink
+pub data Sent {r c : ℕ} {supply demand g f : List ℕ} (M : Midway r c supply demand g f) (rest n : ℕ) (f′ : List ℕ) : Type 0 where
+  stuck : n ≡ 0 → labelAt (searched (M .p) (weight (M .p)) (M .x)) (sink (M .p)) ≡ none → Sent M rest n f′
+  along : (k : ℕ) → labelAt (searched (M .p) (weight (M .p)) (M .x)) (sink (M .p)) ≡ some (pos k) → n ≡ leastLeft (M .p) (weight (M .p)) rest (M .x)
+      → FlowHolds (M .p) (push (M .p) n (pathOf (M .p) (weight (M .p)) (M .x)) (M .x)) f′ → Sent M rest n f′

@@ -2,9 +2,9 @@
 -- The path: up to 132 nodes at the end of a list of 132, the sink last.
 use mathlib.Core.Path.{_≡_}
 use mathlib.Core.List.{List, [], _∷_}
-use Prim.Native.Nat.{ℕ, zero, suc, _+_, _-_, _*_, _≤_, _<_, min}
+use Prim.Native.Nat.{ℕ, zero, suc, _+_, _-_, _*_, _^_, _≤_, _<_, min}
 use lib.Dec.{leb, eqb}
-use lib.ListN.{getD, set}
+use lib.ListN.{length, getD, set}
 use Rattle.spec.specs.Bytes.{pick, sumTo, Two}
 use Rattle.transport.specs.Net.{predOf, capOf}
 
@@ -58,8 +58,31 @@ unfolding sentOn
 sent r c δ [] f = f
 sent r c δ (s ∷ l) f = sent r c δ l (sentOn r c δ (s .0) (s .1) f)
 
+-- the cells of a plan f of r rows and c columns are 32-bit numbers
+pub record Low (r c : ℕ) (f : List ℕ) : Type 0 where
+  pub room : 4225 ≤ length f
+  pub low : (k : ℕ) → k < r * c → getD f k 0 < 2 ^ 32
+
+abbrev pub rowSum : List ℕ → ℕ → ℕ → ℕ
+rowSum f c i = sumTo c (λ j. getD f (i * c + j * 1) 0)
+
+abbrev pub columnSum : List ℕ → ℕ → ℕ → ℕ → ℕ
+columnSum f r c j = sumTo r (λ i. getD f (j + i * c) 0)
+
+-- y after n rows, where it was y₀; y after n columns
+pub record RowsLeft (r c : ℕ) (supply f y₀ y : List ℕ) (n : ℕ) : Type 0 where
+  pub size : length y ≡ 195
+  pub supplies : (i : ℕ) → i < n → getD y i 0 ≡ getD supply i 0 - rowSum f c i
+  pub other : (k : ℕ) → 65 ≤ k → getD y k 0 ≡ getD y₀ k 0
+
+pub record ColumnsLeft (r c : ℕ) (demand f y : List ℕ) (n : ℕ) : Type 0 where
+  pub size : length y ≡ 195
+  pub demands : (j : ℕ) → j < n → getD y (65 + j) 0 ≡ getD demand j 0 - columnSum f r c j
+  pub taken : (j : ℕ) → j < n → getD y (130 + j) 0 ≡ columnSum f r c j
+
 -- what a plan f leaves of supplies and demands, and what its columns have
 pub record Balanced (r c : ℕ) (supply demand f y : List ℕ) : Type 0 where
-  pub supplies : (i : ℕ) → i < r → getD y i 0 ≡ getD supply i 0 - sumTo c (λ j. getD f (i * c + j * 1) 0)
-  pub demands : (j : ℕ) → j < c → getD y (65 + j) 0 ≡ getD demand j 0 - sumTo r (λ i. getD f (j + i * c) 0)
-  pub taken : (j : ℕ) → j < c → getD y (130 + j) 0 ≡ sumTo r (λ i. getD f (j + i * c) 0)
+  pub size : length y ≡ 195
+  pub supplies : (i : ℕ) → i < r → getD y i 0 ≡ getD supply i 0 - rowSum f c i
+  pub demands : (j : ℕ) → j < c → getD y (65 + j) 0 ≡ getD demand j 0 - columnSum f r c j
+  pub taken : (j : ℕ) → j < c → getD y (130 + j) 0 ≡ columnSum f r c j

@@ -3,11 +3,11 @@ ghost use mathlib.Core.Path.{_≡_};
 ghost use Prim.Native.Nat.{ℕ, _+_, _-_, _*_, _%_, _^_, _≤_, _<_};
 ghost use lib.ListN.{length, getD, set};
 ghost use Rattle.transport.specs.Net.{labelOf, costOf, joined, labelled, offered, improved, relaxed, alongMargin, alongCell, againstCell, spreadTo, alongRow, againstColumn, visited, left, firstOf, headOf, countOf, unseenTo, begun};
-ghost use Rattle.transport.specs.Holds.{Ready, Found};
+ghost use Rattle.transport.specs.Holds.{Ready, Found, Midway, Sent};
 ghost use mathlib.Core.List.{[]};
 ghost use Prim.Native.Nat.{min};
 ghost use Rattle.spec.specs.Bytes.{sumTo};
-ghost use Rattle.transport.specs.Path.{stepsFrom, walkNet, Leads, Step, Steps, leftOn, leastOn, sentOn, sent, Balanced};
+ghost use Rattle.transport.specs.Path.{stepsFrom, walkNet, Leads, Step, Steps, leftOn, leastOn, sentOn, sent, Balanced, Low, RowsLeft, ColumnsLeft};
 use wide::Wide;
 
 // The label of node v.
@@ -405,7 +405,7 @@ fn put_flow(flow: &mut [u64], k: usize, x: u64)
 
 // n units along the step from u to v.
 fn send_on(flow: &mut [u64], r: usize, c: usize, u: usize, v: usize, n: u64)
-    requires { ⌜ (r ≤ 65) × (c ≤ 65) × (4225 ≤ length (now flow)) × Step r c u v × ((k : ℕ) → getD (now flow) k 0 + n < 2 ^ 64) ⌝ }
+    requires { ⌜ (r ≤ 65) × (c ≤ 65) × (4225 ≤ length (now flow)) × Step r c u v × ((k : ℕ) → k < r * c → getD (now flow) k 0 + n < 2 ^ 64) ⌝ }
     ensures { λ _. ⌜ now (flow .exit) ≡ sentOn r c n u v (now (flow .entry)) ⌝ }
 {
     if u == 0 {
@@ -427,7 +427,7 @@ fn send_on(flow: &mut [u64], r: usize, c: usize, u: usize, v: usize, n: u64)
 
 // n units along the path from place `from` on.
 fn send(flow: &mut [u64], path: &[u64; 132], r: usize, c: usize, from: usize, n: u64)
-    requires { ⌜ (r ≤ 65) × (c ≤ 65) × (4225 ≤ length (now flow)) × (from ≤ 131) × Steps r c (stepsFrom (now path) (131 - from) from) × ((k : ℕ) → getD (now flow) k 0 + 131 * n < 2 ^ 64) ⌝ }
+    requires { ⌜ (r ≤ 65) × (c ≤ 65) × (4225 ≤ length (now flow)) × (from ≤ 131) × Steps r c (stepsFrom (now path) (131 - from) from) × ((k : ℕ) → k < r * c → getD (now flow) k 0 + 131 * n < 2 ^ 64) ⌝ }
     ensures { λ _. ⌜ now (flow .exit) ≡ sent r c n (stepsFrom (now (path .entry)) (131 - from) from) (now (flow .entry)) ⌝ }
 {
     let mut a = from;
@@ -435,4 +435,97 @@ fn send(flow: &mut [u64], path: &[u64; 132], r: usize, c: usize, from: usize, n:
         send_on(flow, r, c, path[a] as usize, path[a + 1] as usize, n);
         a += 1;
     }
+}
+
+fn num(x: u32) -> u64
+    ensures { λ r. ⌜ r ≡ x ⌝ }
+{
+    x as u64
+}
+
+fn put_left(left: &mut [u64; 195], at: usize, x: u64)
+    requires { ⌜ at < 195 ⌝ }
+    ensures { λ _. ⌜ now (left .exit) ≡ set (now (left .entry)) at x ⌝ }
+{
+    left[at] = x;
+}
+
+// The sum of n entries of the plan from place k on, d apart.
+fn sum_every(flow: &[u64], k: usize, d: usize, n: usize) -> u64
+    requires { ⌜ (n ≤ 65) × (d ≤ 65) × (4225 ≤ length (now flow)) × ((i : ℕ) → i < n → (k + i * d < 4225) × (getD (now flow) (k + i * d) 0 < 2 ^ 32)) × (k ≤ 4225) ⌝ }
+    ensures { λ r. ⌜ r ≡ sumTo n (λ i. getD (now (flow .entry)) (k + i * d) 0) ⌝ }
+{
+    let mut s = 0;
+    let mut at = k;
+    let mut i = 0;
+    while i < n {
+        s += flow[at];
+        at += d;
+        i += 1;
+    }
+    s
+}
+
+// What the plan leaves of the supplies.
+fn fill_rows(supply: &[u32], flow: &[u64], left: &mut [u64; 195], r: usize, c: usize)
+    requires { ⌜ (r ≤ 65) × (c ≤ 65) × (length (now supply) ≡ r) × (length (now left) ≡ 195) × Low r c (now flow) ⌝ }
+    ensures { λ _. ⌜ RowsLeft r c (now (supply .entry)) (now (flow .entry)) (now (left .entry)) (now (left .exit)) r ⌝ }
+{
+    let mut i = 0;
+    while i < r {
+        let s = sum_every(flow, i * c, 1, c);
+        put_left(left, i, less(num(supply[i]), s));
+        i += 1;
+    }
+}
+
+// What the plan leaves of the demands, and what the columns have.
+fn fill_columns(demand: &[u32], flow: &[u64], left: &mut [u64; 195], r: usize, c: usize)
+    requires { ⌜ (r ≤ 65) × (c ≤ 65) × (length (now demand) ≡ c) × (length (now left) ≡ 195) × Low r c (now flow) ⌝ }
+    ensures { λ _. ⌜ ColumnsLeft r c (now (demand .entry)) (now (flow .entry)) (now (left .exit)) c ⌝ }
+{
+    let mut j = 0;
+    while j < c {
+        let s = sum_every(flow, j, c, r);
+        put_left(left, 65 + j, less(num(demand[j]), s));
+        put_left(left, 130 + j, s);
+        j += 1;
+    }
+}
+
+// What is left at the margins.
+fn balance(supply: &[u32], demand: &[u32], flow: &[u64], left: &mut [u64; 195], r: usize, c: usize)
+    requires { ⌜ (r ≤ 65) × (c ≤ 65) × (length (now supply) ≡ r) × (length (now demand) ≡ c) × (length (now left) ≡ 195) × Low r c (now flow) ⌝ }
+    ensures { λ _. ⌜ Balanced r c (now (supply .entry)) (now (demand .entry)) (now (flow .entry)) (now (left .exit)) ⌝ }
+{
+    fill_columns(demand, flow, left, r, c);
+    fill_rows(supply, flow, left, r, c);
+}
+
+// One path: how many of the units left it takes, 0 where the search does not reach the sink.
+fn augment(
+    supply: &[u32],
+    demand: &[u32],
+    costs: &[u64],
+    flow: &mut [u64],
+    left: &mut [u64; 195],
+    net: &mut [u64; 662],
+    path: &mut [u64; 132],
+    rest: u64,
+) -> u64
+    requires { ⌜ (length (now supply) ≤ 65) × (length (now demand) ≤ 65) × (12675 ≤ length (now costs)) × (4225 ≤ length (now flow)) × (length (now left) ≡ 195) × (length (now net) ≡ 662) × (length (now path) ≡ 132) × (rest < 2 ^ 39)
+        × Midway (length (now supply)) (length (now demand)) (now supply) (now demand) (now costs) (now flow) ⌝ }
+    ensures { λ n. ⌜ (length (now (left .exit)) ≡ 195) × (length (now (net .exit)) ≡ 662) × (length (now (path .exit)) ≡ 132)
+        × ((M : Midway (length (now (supply .entry))) (length (now (demand .entry))) (now (supply .entry)) (now (demand .entry)) (now (costs .entry)) (now (flow .entry))) → Sent M rest n (now (flow .exit))) ⌝ }
+{
+    let r = supply.len();
+    let c = demand.len();
+    balance(supply, demand, flow, left, r, c);
+    if search(costs, flow, left, net, r, c) {
+        let from = trace(net, path, 1 + r + c);
+        let n = bottleneck(costs, flow, left, path, r, c, from, rest);
+        send(flow, path, r, c, from, n);
+        return n;
+    }
+    0
 }

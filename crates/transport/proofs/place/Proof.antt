@@ -1,3 +1,4 @@
+use lib.Arith.{digits-lt}
 use Rattle.transport.proofs.PathLaws.{place-fits, left-source, left-row, left-sink, left-back, sent-source, sent-row, sent-sink, sent-back, here, step-here, steps-next, least-turn, least-end, sent-turn, sent-end, sent-more, room-next, room-here, room-first, Walking, walk-start, walk-facts, walk-turn, walk-end}
 use Rattle.transport.specs.Path.{stepsFrom, walkNet, Leads, Step, Steps, leftOn, leastOn, sentOn, sent}
 use Rattle.transport.specs.Net.{predOf, capOf}

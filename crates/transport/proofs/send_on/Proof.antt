@@ -1,3 +1,4 @@
+use lib.Arith.{digits-lt}
 use Rattle.transport.proofs.PathLaws.{place-fits, left-source, left-row, left-sink, left-back, sent-source, sent-row, sent-sink, sent-back, here, step-here, steps-next, least-turn, least-end, sent-turn, sent-end, sent-more, room-next, room-here, room-first, Walking, walk-start, walk-facts, walk-turn, walk-end}
 use Rattle.transport.specs.Path.{stepsFrom, walkNet, Leads, Step, Steps, leftOn, leastOn, sentOn, sent}
 use Rattle.transport.specs.Net.{predOf, capOf}
@@ -48,7 +49,7 @@ slice-read-x c = search needs
 
 -- src/lib.rt:392:17
 add-x : tie.Need-add-x
-add-x c = record { fits = c .before .before .before .before .before .pre .4 (c .before .place .result) }
+add-x c = let h = c .before .before .before .before .before .pre .3 .fromRow (omega arith) (c .before .before .if2 .taken) in record { fits = c .before .before .before .before .before .pre .4 (c .before .place .result) (rw (c .before .place .ensures .0) (digits-lt (omega arith) (omega arith))) }
 
 -- src/lib.rt:393:9
 put-flow-requires : tie.Need-put-flow-requires
