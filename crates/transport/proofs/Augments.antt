@@ -187,7 +187,7 @@ module _ (p : Problem) (few′ : nodeCount p ≤ 132) (x : List ℕ) (I : Partia
     tight = path p (weight p) x (I .π) (I .pot) (searched p (weight p) x) rest k L
 
 -- ---- a plan so far: its cells are 32-bit numbers, and what is left at its margins
-place-of : (r c k : ℕ) → k < r * c → (i : ℕ) × (j : ℕ) × (i < r) × (j < c) × (k ≡ i * c + j)
+pub place-of : (r c k : ℕ) → k < r * c → (i : ℕ) × (j : ℕ) × (i < r) × (j < c) × (k ≡ i * c + j)
 place-of zero c k h = absurd (omega arith)
 place-of (suc r) c k h = go (decLt k (r * c)) (λ l. place-of r c k l)
   where

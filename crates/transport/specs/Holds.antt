@@ -7,15 +7,15 @@ use Prim.Native.Nat.{ℕ, zero, suc, _+_, _-_, _*_, _%_, _^_, _≤_, _<_}
 use lib.Dec.{eqb}
 use lib.IntN.{ℤ, pos}
 use lib.ListN.{length, getD}
-use Rattle.spec.specs.Bytes.{pick, sumTo}
+use Rattle.spec.specs.Bytes.{pick, sumTo, sum}
 use Rattle.spec.specs.Meaning.{occurs}
-use Rattle.spec.specs.Transport.{Problem, Search, weight, rowsOf, colsOf, nodeCount, sink, cellAt, cellCost, capacity, supplyAt, demandAt, rowFlow, colFlow, searched, found, push}
+use Rattle.spec.specs.Transport.{Problem, Search, weight, rowsOf, colsOf, nodeCount, sink, cellAt, cellCost, capacity, supplyAt, demandAt, rowFlow, colFlow, searched, found, push, augment}
 use Rattle.wide.specs.Wrap.{Natural}
 use Rattle.flow.specs.Cut.{bit}
 use Rattle.flow.specs.Search.{labelAt, predAt}
 use Rattle.flow.specs.Augmentation.{Partial}
 use Rattle.flow.specs.Magnitude.{Small}
-use Rattle.flow.specs.Solver.{pathOf, leastLeft}
+use Rattle.flow.specs.Solver.{pathOf, leastLeft, empty}
 use Rattle.transport.specs.Net.{labelOf, predOf, stateOf, headOf, countOf, costOf, capOf}
 
 -- n nodes of the ring from place h on
@@ -85,3 +85,19 @@ pub data Sent {r c : ℕ} {supply demand g f : List ℕ} (M : Midway r c supply 
   stuck : n ≡ 0 → labelAt (searched (M .p) (weight (M .p)) (M .x)) (sink (M .p)) ≡ none → Sent M rest n f′
   along : (k : ℕ) → labelAt (searched (M .p) (weight (M .p)) (M .x)) (sink (M .p)) ≡ some (pos k) → n ≡ leastLeft (M .p) (weight (M .p)) rest (M .x)
       → FlowHolds (M .p) (push (M .p) n (pathOf (M .p) (weight (M .p)) (M .x)) (M .x)) f′ → Sent M rest n f′
+
+-- a problem of r rows and c columns, its costs in place, and the empty plan
+pub record Start (r c : ℕ) (supply demand g f : List ℕ) : Type 0 where
+  pub p : Problem
+  pub supplyIs : p .supply ≡ supply
+  pub demandIs : p .demand ≡ demand
+  pub rows : rowsOf p ≡ r
+  pub cols : colsOf p ≡ c
+  pub small : Small p
+  pub costs : CostsHold p g
+  pub flow : FlowHolds p (empty p (weight p)) f
+
+-- the definition's answer: whether all units were sent, and the plan
+pub data Answered {r c : ℕ} {supply demand g f : List ℕ} (S : Start r c supply demand g f) (b : Bool) (f′ : List ℕ) : Type 0 where
+  noPlan : augment (sum (S .p .supply)) (S .p) (weight (S .p)) (sum (S .p .supply)) (empty (S .p) (weight (S .p))) ≡ none → b ≡ false → Answered S b f′
+  plan : (x : List ℕ) → augment (sum (S .p .supply)) (S .p) (weight (S .p)) (sum (S .p .supply)) (empty (S .p) (weight (S .p))) ≡ some x → b ≡ true → Partial (S .p) (weight (S .p)) x → FlowHolds (S .p) x f′ → Answered S b f′

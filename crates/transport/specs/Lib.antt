@@ -1,3 +1,5 @@
 pub mod Net
 pub mod Holds
 pub mod Path
+pub mod Cells
+pub mod Solved

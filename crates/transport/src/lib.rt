@@ -3,11 +3,17 @@ ghost use mathlib.Core.Path.{_≡_};
 ghost use Prim.Native.Nat.{ℕ, _+_, _-_, _*_, _%_, _^_, _≤_, _<_};
 ghost use lib.ListN.{length, getD, set};
 ghost use Rattle.transport.specs.Net.{labelOf, costOf, joined, labelled, offered, improved, relaxed, alongMargin, alongCell, againstCell, spreadTo, alongRow, againstColumn, visited, left, firstOf, headOf, countOf, unseenTo, begun};
-ghost use Rattle.transport.specs.Holds.{Ready, Found, Midway, Sent};
-ghost use mathlib.Core.List.{[]};
-ghost use Prim.Native.Nat.{min};
-ghost use Rattle.spec.specs.Bytes.{sumTo};
+ghost use Rattle.transport.specs.Holds.{Ready, Found, Midway, Sent, Start, Answered};
+ghost use Rattle.spec.specs.Bytes.{sumTo, sum, pick};
+ghost use lib.Dec.{eqb};
 ghost use Rattle.transport.specs.Path.{stepsFrom, walkNet, Leads, Step, Steps, leftOn, leastOn, sentOn, sent, Balanced, Low, RowsLeft, ColumnsLeft};
+ghost use mathlib.Core.List.{List, [], map};
+ghost use Prim.Native.Nat.{min, max, _/_};
+ghost use Rattle.spec.specs.Transport.{largest, massOf};
+ghost use Rattle.wide.specs.Value.{unsigned};
+ghost use Rattle.wide.specs.Wrap.{Natural};
+ghost use Rattle.transport.specs.Solved.{Shaped, Emptied, PlanIn};
+ghost use Rattle.transport.specs.Cells.{problemOf, cellsFrom, ifAllowed, LaidTo, celled, totalFrom};
 use wide::Wide;
 
 // The label of node v.
@@ -528,4 +534,219 @@ fn augment(
         return n;
     }
     0
+}
+
+// One path after the other until all units are sent; false where a search does not reach the sink.
+fn send_all(supply: &[u32], demand: &[u32], costs: &[u64], flow: &mut [u64], total: u64) -> bool
+    requires { ⌜ (length (now supply) ≤ 65) × (length (now demand) ≤ 65) × (12675 ≤ length (now costs)) × (4225 ≤ length (now flow)) × (total ≡ sum (now supply))
+        × Start (length (now supply)) (length (now demand)) (now supply) (now demand) (now costs) (now flow) ⌝ }
+    ensures { λ b. ⌜ ((S : Start (length (now (supply .entry))) (length (now (demand .entry))) (now (supply .entry)) (now (demand .entry)) (now (costs .entry)) (now (flow .entry))) → Answered S b (now (flow .exit))) ⌝ }
+{
+    let mut left = [0u64; 195];
+    let mut net = [0u64; 662];
+    let mut path = [0u64; 132];
+    let mut rest = total;
+    while 0 < rest {
+        let n = augment(
+            supply,
+            demand,
+            costs,
+            flow,
+            &mut left,
+            &mut net,
+            &mut path,
+            rest,
+        );
+        if n == 0 {
+            return false;
+        }
+        rest = rest - n;
+    }
+    true
+}
+
+// The sum of at most 65 numbers.
+fn total(s: &[u32]) -> u64
+    requires { ⌜ length (now s) ≤ 65 ⌝ }
+    ensures { λ r. ⌜ (r ≡ sum (now (s .entry))) × (r < 2 ^ 39) ⌝ }
+{
+    let mut t = 0u64;
+    let mut i = 0;
+    while i < s.len() {
+        t += wide32(s[i]);
+        i += 1;
+    }
+    t
+}
+
+fn wide32(x: u32) -> u64
+    ensures { λ r. ⌜ (r ≡ x) × (r < 2 ^ 32) ⌝ }
+{
+    x as u64
+}
+
+// x where the cell's flag is set, else 0.
+fn if_allowed(flag: u8, x: u32) -> u64
+    ensures { λ r. ⌜ (r ≡ pick (eqb flag 0) 0 x) × (r < 2 ^ 32) ⌝ }
+{
+    if flag == 0 {
+        return 0;
+    }
+    wide32(x)
+}
+
+fn larger(a: u64, b: u64) -> u64
+    ensures { λ r. ⌜ r ≡ max a b ⌝ }
+{
+    if a < b { b } else { a }
+}
+
+// V: the largest mass in an allowed cell.
+fn largest_mass(masses: &[u32], allowed: &[u8]) -> u64
+    requires { ⌜ length (now allowed) ≡ length (now masses) ⌝ }
+    ensures { λ r. ⌜ ((sizes : List ℕ) → r ≡ largest (map massOf (cellsFrom sizes (now (masses .entry)) (now (allowed .entry)) (length (now (masses .entry))) 0))) × (r < 2 ^ 32) ⌝ }
+{
+    let mut v = 0u64;
+    let mut i = 0;
+    while i < masses.len() {
+        v = larger(v, if_allowed(allowed[i], masses[i]));
+        i += 1;
+    }
+    v
+}
+
+fn put_cost(costs: &mut [u64], k: usize, x: u64)
+    requires { ⌜ k < length (now costs) ⌝ }
+    ensures { λ _. ⌜ now (costs .exit) ≡ set (now (costs .entry)) k x ⌝ }
+{
+    costs[k] = x;
+}
+
+fn put_cell(costs: &mut [u64], k: usize, d: Wide, cap: u64)
+    requires { ⌜ (k < 4225) × (12675 ≤ length (now costs)) ⌝ }
+    ensures { λ _. ⌜ now (costs .exit) ≡ celled (now (costs .entry)) k d cap ⌝ }
+{
+    put_cost(costs, k, d.lo);
+    put_cost(costs, 4225 + k, d.hi);
+    put_cost(costs, 8450 + k, cap);
+}
+
+// What a cell costs, 0 where it is forbidden.
+fn cell_cost(flag: u8, size: u32, mass: u32, w: Wide) -> Wide
+    requires { ⌜ unsigned w < 2 ^ 71 ⌝ }
+    ensures { λ d. ⌜ Natural d (pick (eqb flag 0) 0 (size * unsigned w + mass)) ⌝ }
+{
+    if flag == 0 {
+        return Wide { lo: 0, hi: 0 };
+    }
+    Wide::weigh(size, mass, w)
+}
+
+// The costs and capacities of all cells.
+fn lay(
+    supply: &[u32],
+    demand: &[u32],
+    sizes: &[u32],
+    masses: &[u32],
+    allowed: &[u8],
+    w: Wide,
+    costs: &mut [u64],
+)
+    requires { ⌜ (length (now supply) ≤ 65) × (length (now demand) ≤ 65) × (length (now sizes) ≡ length (now supply) * length (now demand)) × (length (now masses) ≡ length (now supply) * length (now demand))
+        × (length (now allowed) ≡ length (now supply) * length (now demand)) × (12675 ≤ length (now costs)) × (unsigned w < 2 ^ 71) × (0 < length (now demand)) ⌝ }
+    ensures { λ _. ⌜ LaidTo (now (supply .entry)) (now (demand .entry)) (now (sizes .entry)) (now (masses .entry)) (now (allowed .entry)) (length (now (demand .entry))) (unsigned w) (now (costs .exit)) (length (now (supply .entry)) * length (now (demand .entry))) ⌝ }
+{
+    let c = demand.len();
+    let mut k = 0;
+    while k < sizes.len() {
+        let d = cell_cost(allowed[k], sizes[k], masses[k], w);
+        let m = least(
+            if_allowed(allowed[k], supply[k / c]),
+            if_allowed(allowed[k], demand[k % c]),
+        );
+        put_cell(costs, k, d, m);
+        k += 1;
+    }
+}
+
+// The sum over the cells of the units times what each costs by `per`.
+fn plan_total(plan: &[u32], per: &[u32], allowed: &[u8]) -> Wide
+    requires { ⌜ (length (now per) ≡ length (now plan)) × (length (now allowed) ≡ length (now plan)) × (length (now plan) ≤ 4225) ⌝ }
+    ensures { λ d. ⌜ Natural d (totalFrom (now (plan .entry)) (now (per .entry)) (now (allowed .entry)) (length (now (plan .entry))) 0) ⌝ }
+{
+    let mut t = Wide { lo: 0, hi: 0 };
+    let mut i = 0;
+    while i < plan.len() {
+        let x = wide32(plan[i]) * if_allowed(allowed[i], per[i]);
+        t = t.wrapping_add(Wide { lo: x, hi: 0 });
+        i += 1;
+    }
+    t
+}
+
+// n cells of the plan are 0.
+fn empty_plan(flow: &mut [u64], n: usize)
+    requires { ⌜ n ≤ length (now flow) ⌝ }
+    ensures { λ _. ⌜ Emptied (now (flow .exit)) n ⌝ }
+{
+    let mut k = 0;
+    while k < n {
+        put_flow(flow, k, 0);
+        k += 1;
+    }
+}
+
+// W = F * V + 1
+fn weight(f: u64, v: u64) -> Wide
+    requires { ⌜ (f < 2 ^ 39) × (v < 2 ^ 32) ⌝ }
+    ensures { λ w. ⌜ (unsigned w ≡ f * v + 1) × (unsigned w < 2 ^ 71) ⌝ }
+{
+    Wide::weight(f, v as u32)
+}
+
+// The plan of a problem whose units are even and whose sides are not empty.
+fn solve_even(
+    supply: &[u32],
+    demand: &[u32],
+    sizes: &[u32],
+    masses: &[u32],
+    allowed: &[u8],
+    costs: &mut [u64],
+    flow: &mut [u64],
+    f: u64,
+) -> bool
+    requires { ⌜ Shaped (now supply) (now demand) (now sizes) (now masses) (now allowed) (now costs) (now flow) × (f ≡ sum (now supply)) × (f < 2 ^ 39) × (f ≡ sum (now demand)) × (0 < length (now supply)) × (0 < length (now demand)) ⌝ }
+    ensures { λ b. ⌜ PlanIn (problemOf (now (supply .entry)) (now (demand .entry)) (now (sizes .entry)) (now (masses .entry)) (now (allowed .entry))) b (now (flow .exit)) ⌝ }
+{
+    let w = weight(f, largest_mass(masses, allowed));
+    lay(supply, demand, sizes, masses, allowed, w, costs);
+    empty_plan(flow, sizes.len());
+    send_all(supply, demand, costs, flow, f)
+}
+
+// The least plan, in the first rows * columns numbers of `flow`: whether there is one. Costs and flow are work buffers.
+pub fn solve_cells(
+    supply: &[u32],
+    demand: &[u32],
+    sizes: &[u32],
+    masses: &[u32],
+    allowed: &[u8],
+    costs: &mut [u64],
+    flow: &mut [u64],
+) -> bool
+    requires { ⌜ Shaped (now supply) (now demand) (now sizes) (now masses) (now allowed) (now costs) (now flow) ⌝ }
+    ensures { λ b. ⌜ PlanIn (problemOf (now (supply .entry)) (now (demand .entry)) (now (sizes .entry)) (now (masses .entry)) (now (allowed .entry))) b (now (flow .exit)) ⌝ }
+{
+    let f = total(supply);
+    let g = total(demand);
+    if supply.len() == 0 {
+        return false;
+    }
+    if demand.len() == 0 {
+        return false;
+    }
+    if f == g {
+        return solve_even(supply, demand, sizes, masses, allowed, costs, flow, f);
+    }
+    false
 }
