@@ -3,3 +3,4 @@ pub mod Holds
 pub mod Path
 pub mod Cells
 pub mod Solved
+pub mod Public

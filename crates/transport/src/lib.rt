@@ -1,11 +1,11 @@
 // Least-cost transport (transport.rs): successive shortest paths. No network is built: edges are read off the plan so far.
 ghost use mathlib.Core.Path.{_≡_};
 ghost use Prim.Native.Nat.{ℕ, _+_, _-_, _*_, _%_, _^_, _≤_, _<_};
-ghost use lib.ListN.{length, getD, set};
+ghost use lib.ListN.{length, getD, set, take, replicate};
 ghost use Rattle.transport.specs.Net.{labelOf, costOf, joined, labelled, offered, improved, relaxed, alongMargin, alongCell, againstCell, spreadTo, alongRow, againstColumn, visited, left, firstOf, headOf, countOf, unseenTo, begun};
 ghost use Rattle.transport.specs.Holds.{Ready, Found, Midway, Sent, Start, Answered};
-ghost use Rattle.spec.specs.Bytes.{sumTo, sum, pick};
-ghost use lib.Dec.{eqb};
+ghost use Rattle.spec.specs.Bytes.{sumTo, sum, pick, both, workAfter};
+ghost use lib.Dec.{eqb, leb};
 ghost use Rattle.transport.specs.Path.{stepsFrom, walkNet, Leads, Step, Steps, leftOn, leastOn, sentOn, sent, Balanced, Low, RowsLeft, ColumnsLeft};
 ghost use mathlib.Core.List.{List, [], map};
 ghost use Prim.Native.Nat.{min, max, _/_};
@@ -14,6 +14,7 @@ ghost use Rattle.wide.specs.Value.{unsigned};
 ghost use Rattle.wide.specs.Wrap.{Natural};
 ghost use Rattle.transport.specs.Solved.{Shaped, Emptied, PlanIn};
 ghost use Rattle.transport.specs.Cells.{problemOf, cellsFrom, ifAllowed, LaidTo, celled, totalFrom};
+ghost use Rattle.transport.specs.Public.{shapeOf, shapedOf, transportOf, Told};
 use wide::Wide;
 
 // The label of node v.
@@ -749,4 +750,60 @@ pub fn solve_cells(
         return solve_even(supply, demand, sizes, masses, allowed, costs, flow, f);
     }
     false
+}
+
+// A plan's size and mass.
+pub struct Quality {
+    pub size: Wide,
+    pub mass: Wide,
+}
+
+pub enum Answer {
+    Plan(Quality),
+    Refused(u8),
+}
+
+// Whether the lengths fit r rows and c columns: cells' sizes, masses and flags, and the plan.
+fn shaped(r: usize, c: usize, s: usize, m: usize, a: usize, p: usize) -> bool
+    ensures { λ b. ⌜ b ≡ shapeOf r c s m a p ⌝ }
+{
+    if r > 65 {
+        return false;
+    }
+    if c > 65 {
+        return false;
+    }
+    let n = r * c;
+    if s != n {
+        return false;
+    }
+    if m != n {
+        return false;
+    }
+    if a != n {
+        return false;
+    }
+    p == n
+}
+
+// The plan's cells out of the work buffer.
+fn copy_plan(flow: &[u64], plan: &mut [u32])
+    requires { ⌜ (length (now plan) ≤ length (now flow)) × ((k : ℕ) → k < length (now plan) → getD (now flow) k 0 < 2 ^ 32) ⌝ }
+    ensures { λ _. ⌜ now (plan .exit) ≡ take (length (now (plan .entry))) (now (flow .entry)) ⌝ }
+{
+    let mut k = 0;
+    while k < plan.len() {
+        plan[k] = flow[k] as u32;
+        k += 1;
+    }
+}
+
+fn clear(s: &mut [u64])
+    ensures { λ _. ⌜ now (s .exit) ≡ replicate (length (now (s .entry))) 0 ⌝ }
+{
+    let mut k = 0;
+    while k < s.len() {
+        put_flow(s, k, 0);
+        k += 1;
+    }
 }
