@@ -12,7 +12,7 @@ use borrow.Author.Tests.{le-leb, lt-leb, eq-eqb, ne-eqb}
 use lib.Dec.{T, leb, eqb, leb→le, eqb→eq}
 use lib.ListN.{length, getD, set, take, drop, replicate, length-replicate}
 use lib.Seq.{getD-take, length-take-le, getD-set-same, getD-set-other, ext-getD}
-use Rattle.spec.specs.Bytes.{both, Res, ok, refused, sumTo}
+use Rattle.spec.specs.Bytes.{both, Res, ok, refused, sumTo, workAfter}
 use Rattle.spec.specs.Meaning.{Plan}
 use Rattle.spec.specs.Transport.{Problem, Solution, rowsOf, colsOf, supplyAt, moved, rowFlow, solveCells, solvedBy, planSize, planMass, planAfter, solveTransport, shapeRight}
 use Rattle.wide.specs.declared.Wide.{Wide}
@@ -138,3 +138,21 @@ copied-end f x n e h C = ext-getD 0 x (take n f) (e ∙ sym (length-take-le n f 
 
 pub cleared : (s : List ℕ) (n : ℕ) → length s ≡ n → Emptied s n → s ≡ replicate n 0
 cleared s n e E = ext-getD 0 s (replicate n 0) (e ∙ sym (length-replicate {A = ℕ} n 0)) (λ k hk. E k (rw e at hk) ∙ sym (getD-same n k 0))
+
+-- ---- the gates of the public function
+module _ (supply demand sizes masses flags plan costs flow : List ℕ) where
+  abbrev fit : Bool
+  fit = both (leb 12675 (length costs)) (leb 4225 (length flow))
+
+  pub gate-costs : length costs < 12675 → Told (transportOf fit supply demand sizes masses flags (length plan)) plan plan (A.Refused 1) × (costs ≡ workAfter 0 fit costs) × (flow ≡ workAfter 0 fit flow)
+  gate-costs h = rw (lt-leb 12675 (length costs) h) (too-short supply demand sizes masses flags plan, refl, refl)
+
+  pub gate-flow : 12675 ≤ length costs → length flow < 4225 → Told (transportOf fit supply demand sizes masses flags (length plan)) plan plan (A.Refused 1) × (costs ≡ workAfter 0 fit costs) × (flow ≡ workAfter 0 fit flow)
+  gate-flow g h = rw (le-leb 12675 (length costs) g, lt-leb 4225 (length flow) h) (too-short supply demand sizes masses flags plan, refl, refl)
+
+  pub gate-open : 12675 ≤ length costs → 4225 ≤ length flow → (plan′ : List ℕ) (r : Answer) → Told (shapedOf supply demand sizes masses flags (length plan)) plan plan′ r
+      → (costs′ flow′ : List ℕ) (m n : ℕ) → costs′ ≡ replicate m 0 → m ≡ length costs → flow′ ≡ replicate n 0 → n ≡ length flow
+      → Told (transportOf fit supply demand sizes masses flags (length plan)) plan plan′ r × (costs′ ≡ workAfter 0 fit costs) × (flow′ ≡ workAfter 0 fit flow)
+  gate-open g h plan′ r t costs′ flow′ m n a b c d =
+      rw (le-leb 12675 (length costs) g, le-leb 4225 (length flow) h)
+      (long-enough supply demand sizes masses flags plan plan′ r t, a ∙ ap (λ (k : ℕ). replicate k 0) b, c ∙ ap (λ (k : ℕ). replicate k 0) d)

@@ -807,3 +807,63 @@ fn clear(s: &mut [u64])
         k += 1;
     }
 }
+
+// The plan, or refusal 15 or 16, with work buffers that are long enough.
+fn solve_shaped(
+    supply: &[u32],
+    demand: &[u32],
+    sizes: &[u32],
+    masses: &[u32],
+    allowed: &[u8],
+    plan: &mut [u32],
+    costs: &mut [u64],
+    flow: &mut [u64],
+) -> Answer
+    requires { ⌜ (12675 ≤ length (now costs)) × (4225 ≤ length (now flow)) ⌝ }
+    ensures { λ r. ⌜ Told (shapedOf (now (supply .entry)) (now (demand .entry)) (now (sizes .entry)) (now (masses .entry)) (now (allowed .entry)) (length (now (plan .entry)))) (now (plan .entry)) (now (plan .exit)) r ⌝ }
+{
+    if shaped(
+        supply.len(),
+        demand.len(),
+        sizes.len(),
+        masses.len(),
+        allowed.len(),
+        plan.len(),
+    ) {
+        if solve_cells(supply, demand, sizes, masses, allowed, costs, flow) {
+            copy_plan(flow, plan);
+            let s = plan_total(plan, sizes, allowed);
+            let m = plan_total(plan, masses, allowed);
+            return Answer::Plan(Quality { size: s, mass: m });
+        }
+        return Answer::Refused(16);
+    }
+    Answer::Refused(15)
+}
+
+// The least plan and its size and mass, or refusal 1, 15 or 16; the work buffers are cleared unless one is too short.
+pub fn solve_transport(
+    supply: &[u32],
+    demand: &[u32],
+    sizes: &[u32],
+    masses: &[u32],
+    allowed: &[u8],
+    plan: &mut [u32],
+    costs: &mut [u64],
+    flow: &mut [u64],
+) -> Answer
+    ensures { λ r. ⌜ Told (transportOf (both (leb 12675 (length (now (costs .entry)))) (leb 4225 (length (now (flow .entry))))) (now (supply .entry)) (now (demand .entry)) (now (sizes .entry)) (now (masses .entry)) (now (allowed .entry)) (length (now (plan .entry)))) (now (plan .entry)) (now (plan .exit)) r
+        × (now (costs .exit) ≡ workAfter 0 (both (leb 12675 (length (now (costs .entry)))) (leb 4225 (length (now (flow .entry))))) (now (costs .entry)))
+        × (now (flow .exit) ≡ workAfter 0 (both (leb 12675 (length (now (costs .entry)))) (leb 4225 (length (now (flow .entry))))) (now (flow .entry))) ⌝ }
+{
+    if costs.len() < 12675 {
+        return Answer::Refused(1);
+    }
+    if flow.len() < 4225 {
+        return Answer::Refused(1);
+    }
+    let r = solve_shaped(supply, demand, sizes, masses, allowed, plan, costs, flow);
+    clear(costs);
+    clear(flow);
+    r
+}
