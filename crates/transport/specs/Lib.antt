@@ -4,3 +4,4 @@ pub mod Path
 pub mod Cells
 pub mod Solved
 pub mod Public
+pub mod Promise
