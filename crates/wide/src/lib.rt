@@ -4,6 +4,7 @@ ghost use Prim.Native.Nat.{_+_, _*_, _/_, _%_, _^_, _<_, min};
 ghost use lib.IntN.{pos, negℤ, _+ℤ_, _-ℤ_, _*ℤ_};
 ghost use lib.Signed.{ltZ};
 ghost use Rattle.wide.specs.Value.{val, unsigned, Within, weightOf, weighOf};
+ghost use Rattle.wide.specs.Wrap.{addWords, negWords};
 
 pub struct Wide {
     pub lo: u64,
@@ -125,6 +126,29 @@ impl Wide {
     {
         let l = sub_word(self.lo, b.lo, 0);
         let h = sub_word(self.hi, b.hi, l.carry);
+        Wide {
+            lo: l.word,
+            hi: h.word,
+        }
+    }
+
+    // The sum and the negation of any two words, at all values: what passes 2^128 is lost.
+    pub fn wrapping_add(self, b: Wide) -> Wide
+        ensures { λ r. ⌜ r ≡ addWords self b ⌝ }
+    {
+        let l = add_word(self.lo, b.lo, 0);
+        let h = add_word(self.hi, b.hi, l.carry);
+        Wide {
+            lo: l.word,
+            hi: h.word,
+        }
+    }
+
+    pub fn wrapping_neg(self) -> Wide
+        ensures { λ r. ⌜ r ≡ negWords self ⌝ }
+    {
+        let l = sub_word(0, self.lo, 0);
+        let h = sub_word(0, self.hi, l.carry);
         Wide {
             lo: l.word,
             hi: h.word,

@@ -1,0 +1,86 @@
+use Rattle.transport.proofs.Answers.{Copied, copied-next, copied-end, cleared}
+use Rattle.transport.proofs.Solves.{emptied-next}
+use Rattle.transport.proofs.Laws.{cells-fit}
+use Rattle.transport.specs.Solved.{Emptied}
+use lib.ListN.{take, replicate}
+use borrow.Author.Needs.{needs}
+use borrow.Author.Tests.{lt-ltb, le-ltb, le-leb, lt-leb, eq-eqb, ne-eqb}
+use Prim.Native.Nat.{ℕ, zero, suc, _≤_, _<_, _-_, _+_, _*_, _^_}
+use native.Mathlib.Omega.{arith}
+use native.Mathlib.Numerals.{add-one}
+use mathlib.Core.Path.{_≡_, refl, ap, sym, _∙_}
+use mathlib.Core.Logic.{⊎-elim}
+use mathlib.Core.List.{List, [], _∷_, _++_, append-nil}
+use lib.ListN.{length, take, drop, getD, set, length-set, length-take, length-drop, length-append, drop-of-length-le}
+use Rattle.transport.proofs.copy_plan.Statement.{statement}
+use Rattle.transport.proofs.copy_plan.Tie as tie
+use Rattle.transport.proofs.copy_plan.Reads as reads
+use Rattle.transport.proofs.copy_plan.Lts as lts
+
+abbrev Inv-loop : tie.InvT-loop
+Inv-loop flow plan₀ k₀ plan k = (k ≤ length plan) × (length plan ≡ length plan₀) × Copied flow plan k
+
+abbrev μ-loop : tie.MeasureT-loop
+μ-loop flow plan₀ k₀ plan k = length plan₀ - k
+
+-- src/lib.rt:796:5
+loop-holds : tie.Need-loop-holds Inv-loop μ-loop
+loop-holds c = (omega arith, refl, λ k h. absurd (omega arith))
+
+-- src/lib.rt:797:19
+mul-plan : tie.Need-mul-plan Inv-loop μ-loop
+mul-plan c = let l = c .before .loop in let e = l .inv .1 in search needs
+
+-- src/lib.rt:797:19
+shared-slice-read-plan : tie.Need-shared-slice-read-plan Inv-loop μ-loop
+shared-slice-read-plan c = let l = c .before .before .loop in let e = l .inv .1 in omega arith
+
+-- src/lib.rt:797:19
+cast-plan : tie.Need-cast-plan Inv-loop μ-loop
+cast-plan c = let l = c .before .before .loop in let e = l .inv .1 in record { fits = c .before .before .before .pre .1 (l .k) (omega arith) }
+
+-- src/lib.rt:797:9
+mul-plan-2 : tie.Need-mul-plan-2 Inv-loop μ-loop
+mul-plan-2 c = let l = c .before .before .loop in let e = l .inv .1 in search needs
+
+-- src/lib.rt:797:9
+slice-write-plan : tie.Need-slice-write-plan Inv-loop μ-loop
+slice-write-plan c = search needs
+
+-- src/lib.rt:798:9
+add-k : tie.Need-add-k Inv-loop μ-loop
+add-k c = let l = c .before .before .loop in let e = l .inv .1 in search needs
+
+-- src/lib.rt:796:5
+loop-less : tie.Need-loop-less Inv-loop μ-loop
+loop-less c = search needs
+
+-- src/lib.rt:796:5
+loop-again : tie.Need-loop-again Inv-loop μ-loop
+loop-again c = let l = c .before .before .loop in let e = l .inv .1 in (simp length-set (omega arith), simp length-set (omega arith), copied-next (c .before .before .before .args .flow .now) (l .plan) (l .k) (omega arith) (l .inv .2))
+
+-- src/lib.rt:791:1
+same-length : tie.Need-same-length Inv-loop μ-loop
+same-length c = let l = c .before .loop in let e = l .inv .1 in search needs
+
+-- src/lib.rt:791:1
+returns : tie.Need-returns Inv-loop μ-loop
+returns c = let l = c .before .loop in let e = l .inv .1 in copied-end (c .before .before .args .flow .now) (l .plan) (length (c .before .before .args .plan .now)) e (c .before .before .pre .0) (λ k h. l .inv .2 k (omega arith))
+
+pub copy-plan-spec : {M : Type 1} → statement M
+copy-plan-spec =
+    tie.close
+    (tie.spec
+    Inv-loop
+    μ-loop
+    loop-holds
+    mul-plan
+    shared-slice-read-plan
+    cast-plan
+    mul-plan-2
+    slice-write-plan
+    add-k
+    loop-less
+    loop-again
+    same-length
+    returns)

@@ -1,0 +1,64 @@
+use Rattle.transport.proofs.Solves.{none-row, none-column, none-uneven, small, start-of, start-problem, plan-in, emptied-next, weight-is}
+use Rattle.transport.specs.Solved.{Shaped, PlanIn, Emptied}
+use borrow.Author.Needs.{needs}
+use borrow.Author.Tests.{lt-ltb, le-ltb, le-leb, lt-leb, eq-eqb, ne-eqb}
+use Prim.Native.Nat.{ℕ, zero, suc, _≤_, _<_, _-_, _+_, _*_, _^_}
+use native.Mathlib.Omega.{arith}
+use native.Mathlib.Numerals.{add-one}
+use mathlib.Core.Path.{_≡_, refl, ap, sym, _∙_}
+use mathlib.Core.Logic.{⊎-elim}
+use mathlib.Core.List.{List, [], _∷_, _++_, append-nil}
+use lib.ListN.{length, take, drop, getD, set, length-set, length-take, length-drop, length-append, drop-of-length-le}
+use Rattle.transport.proofs.empty_plan.Statement.{statement}
+use Rattle.transport.proofs.empty_plan.Tie as tie
+use Rattle.transport.proofs.empty_plan.Reads as reads
+use Rattle.transport.proofs.empty_plan.Lts as lts
+use Rattle.transport.proofs.put_flow.Reads as put-flow-reads
+
+abbrev Inv-loop : tie.InvT-loop
+Inv-loop flow₀ n k₀ flow k = (k ≤ n) × (length flow ≡ length flow₀) × Emptied flow k
+
+abbrev μ-loop : tie.MeasureT-loop
+μ-loop flow₀ n k₀ flow k = n - k
+
+-- src/lib.rt:674:5
+loop-holds : tie.Need-loop-holds Inv-loop μ-loop
+loop-holds c = (omega arith, refl, λ k h. absurd (omega arith))
+
+-- src/lib.rt:675:9
+put-flow-requires : tie.Need-put-flow-requires Inv-loop μ-loop
+put-flow-requires c κs = let h = c .before .before .loop .inv .1 in omega arith
+
+-- src/lib.rt:676:9
+add-k : tie.Need-add-k Inv-loop μ-loop
+add-k c = search needs
+
+-- src/lib.rt:674:5
+loop-less : tie.Need-loop-less Inv-loop μ-loop
+loop-less c = search needs
+
+-- src/lib.rt:674:5
+loop-again : tie.Need-loop-again Inv-loop μ-loop
+loop-again c = let l = c .before .before .before .before .before .loop in (omega arith, omega arith, rw (c .before .before .put-flow .ensures) (emptied-next (l .flow) (l .k) (omega arith) (l .inv .2)))
+
+-- src/lib.rt:669:1
+same-length : tie.Need-same-length Inv-loop μ-loop
+same-length c = let h = c .before .loop .inv .1 in search needs
+
+-- src/lib.rt:669:1
+returns : tie.Need-returns Inv-loop μ-loop
+returns c = let l = c .before .loop in λ k h. l .inv .2 k (omega arith)
+
+pub empty-plan-spec : {M : Type 1} → statement M
+empty-plan-spec =
+    tie.close
+    (tie.spec
+    Inv-loop
+    μ-loop
+    loop-holds
+    put-flow-requires
+    add-k
+    loop-less
+    loop-again
+    same-length
+    returns)

@@ -1,0 +1,107 @@
+use Rattle.transport.proofs.PathLaws.{sum-turn, next-place, first-place, row-reads, column-reads, rows-turn, columns-turn, balanced}
+use Rattle.transport.specs.Path.{Low, RowsLeft, ColumnsLeft, Balanced, rowSum, columnSum}
+use Rattle.spec.specs.Bytes.{sumTo}
+use borrow.Author.Needs.{needs}
+use borrow.Author.Tests.{lt-ltb, le-ltb, le-leb, lt-leb, eq-eqb, ne-eqb}
+use Prim.Native.Nat.{ℕ, zero, suc, _≤_, _<_, _-_, _+_, _*_, _^_}
+use native.Mathlib.Omega.{arith}
+use native.Mathlib.Numerals.{add-one}
+use mathlib.Core.Path.{_≡_, refl, ap, sym, _∙_}
+use mathlib.Core.Logic.{⊎-elim}
+use mathlib.Core.List.{List, [], _∷_, _++_, append-nil}
+use lib.ListN.{length, take, drop, getD, set, length-set, length-take, length-drop, length-append, drop-of-length-le}
+use Rattle.transport.proofs.fill_columns.Statement.{statement}
+use Rattle.transport.proofs.fill_columns.Tie as tie
+use Rattle.transport.proofs.fill_columns.Reads as reads
+use Rattle.transport.proofs.fill_columns.Lts as lts
+use Rattle.transport.proofs.less.Reads as less-reads
+use Rattle.transport.proofs.num.Reads as num-reads
+use Rattle.transport.proofs.put_left.Reads as put-left-reads
+use Rattle.transport.proofs.sum_every.Reads as sum-every-reads
+
+abbrev Inv-loop : tie.InvT-loop
+Inv-loop demand flow left₀ r c j₀ left j = (j ≤ c) × ColumnsLeft r c demand flow left j
+
+abbrev μ-loop : tie.MeasureT-loop
+μ-loop demand flow left₀ r c j₀ left j = c - j
+
+-- src/lib.rt:488:5
+loop-holds : tie.Need-loop-holds Inv-loop μ-loop
+loop-holds c = (omega arith, record { size = c .before .before .pre .3; demands = λ i h. absurd (omega arith); taken = λ k h. absurd (omega arith) })
+
+-- src/lib.rt:489:13
+sum-every-requires : tie.Need-sum-every-requires Inv-loop μ-loop
+sum-every-requires c κs = (c .before .before .before .before .pre .0, c .before .before .before .before .pre .1, c .before .before .before .before .pre .4 .room, (λ i hi. column-reads (c .before .before .before .before .args .r) (c .before .before .before .before .args .c) (c .before .before .before .before .args .flow .now) (c .before .before .before .before .pre .4) (c .before .before .before .before .pre .0) (c .before .before .before .before .pre .1) (c .before .loop .j) (omega arith) i hi), omega arith)
+
+-- src/lib.rt:490:24
+add-put-left : tie.Need-add-put-left Inv-loop μ-loop
+add-put-left c = search needs
+
+-- src/lib.rt:490:41
+mul-num : tie.Need-mul-num Inv-loop μ-loop
+mul-num c = search needs
+
+-- src/lib.rt:490:41
+shared-slice-read-num : tie.Need-shared-slice-read-num Inv-loop μ-loop
+shared-slice-read-num c = search needs
+
+-- src/lib.rt:490:37
+num-requires : tie.Need-num-requires Inv-loop μ-loop
+num-requires c κs = search needs
+
+-- src/lib.rt:490:32
+less-requires : tie.Need-less-requires Inv-loop μ-loop
+less-requires c κs = search needs
+
+-- src/lib.rt:490:9
+put-left-requires : tie.Need-put-left-requires Inv-loop μ-loop
+put-left-requires c κs = search needs
+
+-- src/lib.rt:491:24
+add-put-left-2 : tie.Need-add-put-left-2 Inv-loop μ-loop
+add-put-left-2 c = search needs
+
+-- src/lib.rt:491:9
+put-left-requires-2 : tie.Need-put-left-requires-2 Inv-loop μ-loop
+put-left-requires-2 c κs = search needs
+
+-- src/lib.rt:492:9
+add-j : tie.Need-add-j Inv-loop μ-loop
+add-j c = search needs
+
+-- src/lib.rt:488:5
+loop-less : tie.Need-loop-less Inv-loop μ-loop
+loop-less c = search needs
+
+-- src/lib.rt:488:5
+loop-again : tie.Need-loop-again Inv-loop μ-loop
+loop-again c = let a = c .before .before .before .before .before .before .before .before .before .before .before .before .args in let l = c .before .before .before .before .before .before .before .before .before .loop in
+    let s : c .before .before .before .before .before .before .before .sum-every .result ≡ columnSum (a .flow .now) (a .r) (a .c) (l .j) = c .before .before .before .before .before .before .before .sum-every .ensures in
+    let e : c .put-left2 .last .0 ≡ set (set (l .left) (65 + l .j) (getD (a .demand .now) (l .j) 0 - columnSum (a .flow .now) (a .r) (a .c) (l .j))) (130 + l .j) (columnSum (a .flow .now) (a .r) (a .c) (l .j))
+    = c .put-left2 .ensures ∙ (λ k. set ((c .before .before .put-left .ensures ∙ ap (λ (x : ℕ). set (l .left) (65 + l .j) x) (c .before .before .before .less .ensures ∙ (λ k. c .before .before .before .before .num .ensures k - s k))) k) (130 + l .j) (s k)) in
+    (omega arith, rw e (columns-turn (a .r) (a .c) (a .demand .now) (a .flow .now) (l .left) (l .j) (omega arith) (l .inv .1)))
+
+-- src/lib.rt:483:1
+returns : tie.Need-returns Inv-loop μ-loop
+returns c = let l = c .before .loop in let e : l .j ≡ c .before .before .before .before .args .c = omega arith in rw e at (l .inv .1)
+
+pub fill-columns-spec : {M : Type 1} → statement M
+fill-columns-spec =
+    tie.close
+    (tie.spec
+    Inv-loop
+    μ-loop
+    loop-holds
+    sum-every-requires
+    add-put-left
+    mul-num
+    shared-slice-read-num
+    num-requires
+    less-requires
+    put-left-requires
+    add-put-left-2
+    put-left-requires-2
+    add-j
+    loop-less
+    loop-again
+    returns)

@@ -1,0 +1,97 @@
+use Rattle.transport.proofs.Laws.{row-fits}
+use Rattle.transport.proofs.PathLaws.{sum-turn, next-place, first-place, row-reads, column-reads, rows-turn, columns-turn, balanced}
+use Rattle.transport.specs.Path.{Low, RowsLeft, ColumnsLeft, Balanced, rowSum, columnSum}
+use Rattle.spec.specs.Bytes.{sumTo}
+use borrow.Author.Needs.{needs}
+use borrow.Author.Tests.{lt-ltb, le-ltb, le-leb, lt-leb, eq-eqb, ne-eqb}
+use Prim.Native.Nat.{ℕ, zero, suc, _≤_, _<_, _-_, _+_, _*_, _^_}
+use native.Mathlib.Omega.{arith}
+use native.Mathlib.Numerals.{add-one}
+use mathlib.Core.Path.{_≡_, refl, ap, sym, _∙_}
+use mathlib.Core.Logic.{⊎-elim}
+use mathlib.Core.List.{List, [], _∷_, _++_, append-nil}
+use lib.ListN.{length, take, drop, getD, set, length-set, length-take, length-drop, length-append, drop-of-length-le}
+use Rattle.transport.proofs.fill_rows.Statement.{statement}
+use Rattle.transport.proofs.fill_rows.Tie as tie
+use Rattle.transport.proofs.fill_rows.Reads as reads
+use Rattle.transport.proofs.fill_rows.Lts as lts
+use Rattle.transport.proofs.less.Reads as less-reads
+use Rattle.transport.proofs.num.Reads as num-reads
+use Rattle.transport.proofs.put_left.Reads as put-left-reads
+use Rattle.transport.proofs.sum_every.Reads as sum-every-reads
+
+abbrev Inv-loop : tie.InvT-loop
+Inv-loop supply flow left₀ r c i₀ left i = (i ≤ r) × RowsLeft r c supply flow left₀ left i
+
+abbrev μ-loop : tie.MeasureT-loop
+μ-loop supply flow left₀ r c i₀ left i = r - i
+
+-- src/lib.rt:475:5
+loop-holds : tie.Need-loop-holds Inv-loop μ-loop
+loop-holds c = (omega arith, record { size = c .before .before .pre .3; supplies = λ i h. absurd (omega arith); other = λ k h. refl })
+
+-- src/lib.rt:476:33
+mul-sum-every : tie.Need-mul-sum-every Inv-loop μ-loop
+mul-sum-every c = let a = c .before .before .before .before .args in let h = row-fits (c .before .loop .i) (a .r) (a .c) (omega arith) (omega arith) (omega arith) in search needs
+
+-- src/lib.rt:476:13
+sum-every-requires : tie.Need-sum-every-requires Inv-loop μ-loop
+sum-every-requires c κs = let h = row-fits (c .before .loop .i) (c .before .before .before .before .args .r) (c .before .before .before .before .args .c) (omega arith) (omega arith) (omega arith) in (c .before .before .before .before .pre .1, omega arith, c .before .before .before .before .pre .4 .room, (λ j hj. row-reads (c .before .before .before .before .args .r) (c .before .before .before .before .args .c) (c .before .before .before .before .args .flow .now) (c .before .before .before .before .pre .4) (c .before .before .before .before .pre .0) (c .before .before .before .before .pre .1) (c .before .loop .i) (omega arith) j hj), omega arith)
+
+-- src/lib.rt:477:36
+mul-num : tie.Need-mul-num Inv-loop μ-loop
+mul-num c = search needs
+
+-- src/lib.rt:477:36
+shared-slice-read-num : tie.Need-shared-slice-read-num Inv-loop μ-loop
+shared-slice-read-num c = search needs
+
+-- src/lib.rt:477:32
+num-requires : tie.Need-num-requires Inv-loop μ-loop
+num-requires c κs = search needs
+
+-- src/lib.rt:477:27
+less-requires : tie.Need-less-requires Inv-loop μ-loop
+less-requires c κs = search needs
+
+-- src/lib.rt:477:9
+put-left-requires : tie.Need-put-left-requires Inv-loop μ-loop
+put-left-requires c κs = search needs
+
+-- src/lib.rt:478:9
+add-i : tie.Need-add-i Inv-loop μ-loop
+add-i c = search needs
+
+-- src/lib.rt:475:5
+loop-less : tie.Need-loop-less Inv-loop μ-loop
+loop-less c = search needs
+
+-- src/lib.rt:475:5
+loop-again : tie.Need-loop-again Inv-loop μ-loop
+loop-again c = let a = c .before .before .before .before .before .before .before .before .before .before .args in let l = c .before .before .before .before .before .before .before .loop in
+    let e : c .put-left .last .0 ≡ set (l .left) (l .i) (getD (a .supply .now) (l .i) 0 - rowSum (a .flow .now) (a .c) (l .i))
+    = c .put-left .ensures ∙ ap (λ (x : ℕ). set (l .left) (l .i) x) (c .before .less .ensures ∙ (λ k. c .before .before .num .ensures k - c .before .before .before .before .before .sum-every .ensures k)) in
+    (omega arith, rw e (rows-turn (a .r) (a .c) (a .supply .now) (a .flow .now) (a .left .now) (l .left) (l .i) (omega arith) (l .inv .1)))
+
+-- src/lib.rt:470:1
+returns : tie.Need-returns Inv-loop μ-loop
+returns c = let l = c .before .loop in let e : l .i ≡ c .before .before .before .before .args .r = omega arith in rw e at (l .inv .1)
+
+pub fill-rows-spec : {M : Type 1} → statement M
+fill-rows-spec =
+    tie.close
+    (tie.spec
+    Inv-loop
+    μ-loop
+    loop-holds
+    mul-sum-every
+    sum-every-requires
+    mul-num
+    shared-slice-read-num
+    num-requires
+    less-requires
+    put-left-requires
+    add-i
+    loop-less
+    loop-again
+    returns)

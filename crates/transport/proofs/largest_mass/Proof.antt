@@ -1,0 +1,90 @@
+use Rattle.transport.proofs.CellLaws.{sum-start, sum-next, sum-end, largest-start, largest-next, largest-end, total-turn, total-end, laid-turn, nothing-costs, w-within, weighed, min-allowed, div-in, product-fits, Summed, summed-start, summed-turn, summed-end}
+use Rattle.transport.specs.Cells.{cellsFrom, ifAllowed, LaidTo, celled, totalFrom}
+use Rattle.wide.specs.Value.{unsigned}
+use Rattle.wide.specs.declared.Wide.{Wide}
+use Rattle.spec.specs.Transport.{largest, massOf}
+use mathlib.Core.List.{map}
+use Rattle.spec.specs.Bytes.{pick, sum}
+use lib.Dec.{eqb}
+use lib.ListN.{drop}
+use Prim.Native.Nat.{min, max, _/_, _%_}
+use borrow.Author.Needs.{needs}
+use borrow.Author.Tests.{lt-ltb, le-ltb, le-leb, lt-leb, eq-eqb, ne-eqb}
+use Prim.Native.Nat.{ℕ, zero, suc, _≤_, _<_, _-_, _+_, _*_, _^_}
+use native.Mathlib.Omega.{arith}
+use native.Mathlib.Numerals.{add-one}
+use mathlib.Core.Path.{_≡_, refl, ap, sym, _∙_}
+use mathlib.Core.Logic.{⊎-elim}
+use mathlib.Core.List.{List, [], _∷_, _++_, append-nil}
+use lib.ListN.{length, take, drop, getD, set, length-set, length-take, length-drop, length-append, drop-of-length-le}
+use Rattle.transport.proofs.largest_mass.Statement.{statement}
+use Rattle.transport.proofs.largest_mass.Tie as tie
+use Rattle.transport.proofs.largest_mass.Reads as reads
+use Rattle.transport.proofs.largest_mass.Lts as lts
+use Rattle.transport.proofs.if_allowed.Reads as if-allowed-reads
+use Rattle.transport.proofs.larger.Reads as larger-reads
+
+abbrev Inv-loop : tie.InvT-loop
+Inv-loop masses allowed v₀ i₀ v i = (i ≤ length masses) × ((z : List ℕ) → max v (largest (map massOf (cellsFrom z masses allowed (length masses - i) i))) ≡ largest (map massOf (cellsFrom z masses allowed (length masses) 0))) × (v < 2 ^ 32)
+
+abbrev μ-loop : tie.MeasureT-loop
+μ-loop masses allowed v₀ i₀ v i = length masses - i
+
+-- src/lib.rt:602:5
+loop-holds : tie.Need-loop-holds Inv-loop μ-loop
+loop-holds c = (omega arith, (λ z. largest-start z (c .before .before .args .masses .now) (c .before .before .args .allowed .now) (length (c .before .before .args .masses .now))), omega arith)
+
+-- src/lib.rt:603:34
+shared-slice-read-if-allowed : tie.Need-shared-slice-read-if-allowed Inv-loop μ-loop
+shared-slice-read-if-allowed c = search needs
+
+-- src/lib.rt:603:46
+mul-if-allowed : tie.Need-mul-if-allowed Inv-loop μ-loop
+mul-if-allowed c = search needs
+
+-- src/lib.rt:603:46
+shared-slice-read-if-allowed-2 : tie.Need-shared-slice-read-if-allowed-2 Inv-loop μ-loop
+shared-slice-read-if-allowed-2 c = search needs
+
+-- src/lib.rt:603:23
+if-allowed-requires : tie.Need-if-allowed-requires Inv-loop μ-loop
+if-allowed-requires c κs = search needs
+
+-- src/lib.rt:603:9
+larger-requires : tie.Need-larger-requires Inv-loop μ-loop
+larger-requires c κs = search needs
+
+-- src/lib.rt:604:9
+add-i : tie.Need-add-i Inv-loop μ-loop
+add-i c = search needs
+
+-- src/lib.rt:602:5
+loop-less : tie.Need-loop-less Inv-loop μ-loop
+loop-less c = search needs
+
+-- src/lib.rt:602:5
+loop-again : tie.Need-loop-again Inv-loop μ-loop
+loop-again c = let l = c .before .before .before .before .before .loop in let m = c .before .before .before .before .before .before .before .before .args .masses .now in let f = c .before .before .before .before .before .before .before .before .args .allowed .now in
+    let e : c .larger .result ≡ max (l .v) (ifAllowed f (l .i) (getD m (l .i) 0)) = c .larger .ensures ∙ ap (λ (z : ℕ). max (l .v) z) (c .before .if-allowed .ensures .0) in
+    (omega arith, (λ z. rw e (largest-next z m f (length m) (l .i) (l .v) (largest (map massOf (cellsFrom z m f (length m) 0))) (omega arith) (l .inv .1 z))), omega (arith, c .larger .ensures, c .before .if-allowed .ensures .1))
+
+-- src/lib.rt:596:1
+returns : tie.Need-returns Inv-loop μ-loop
+returns c = let l = c .before .loop in let m = c .before .before .before .before .args .masses .now in let f = c .before .before .before .before .args .allowed .now in ((λ z. largest-end z m f (length m) (l .i) (l .v) (largest (map massOf (cellsFrom z m f (length m) 0))) (omega arith) (l .inv .1 z)), l .inv .2)
+
+pub largest-mass-spec : {M : Type 1} → statement M
+largest-mass-spec =
+    tie.close
+    (tie.spec
+    Inv-loop
+    μ-loop
+    loop-holds
+    shared-slice-read-if-allowed
+    mul-if-allowed
+    shared-slice-read-if-allowed-2
+    if-allowed-requires
+    larger-requires
+    add-i
+    loop-less
+    loop-again
+    returns)

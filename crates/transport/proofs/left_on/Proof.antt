@@ -1,0 +1,176 @@
+use lib.Arith.{digits-lt}
+use Rattle.transport.proofs.PathLaws.{place-fits, left-source, left-row, left-sink, left-back, sent-source, sent-row, sent-sink, sent-back, here, step-here, steps-next, least-turn, least-end, sent-turn, sent-end, sent-more, room-next, room-here, room-first, Walking, walk-start, walk-facts, walk-turn, walk-end}
+use Rattle.transport.specs.Path.{stepsFrom, walkNet, Leads, Step, Steps, leftOn, leastOn, sentOn, sent}
+use Rattle.transport.specs.Net.{predOf, capOf}
+use borrow.Author.Tests.{lt-ltb, le-ltb, le-leb, lt-leb, eq-eqb, ne-eqb}
+use Prim.Native.Nat.{ℕ, zero, suc, _≤_, _<_, _-_, _+_, _*_, _^_}
+use native.Mathlib.Omega.{arith}
+use native.Mathlib.Numerals.{add-one}
+use mathlib.Core.Path.{_≡_, refl, ap, sym, _∙_}
+use mathlib.Core.Logic.{⊎-elim}
+use mathlib.Core.List.{List, [], _∷_, _++_, append-nil}
+use lib.ListN.{length, take, drop, getD, set, length-set, length-take, length-drop, length-append, drop-of-length-le}
+use borrow.Author.Needs.{needs}
+use Rattle.transport.proofs.left_on.Statement.{statement}
+use Rattle.transport.proofs.left_on.Tie as tie
+use Rattle.transport.proofs.left_on.Reads as reads
+use Rattle.transport.proofs.left_on.Lts as lts
+use Rattle.transport.proofs.less.Reads as less-reads
+use Rattle.transport.proofs.place.Reads as place-reads
+
+-- src/lib.rt:347:21
+sub-result : tie.Need-sub-result
+sub-result c = let h = c .before .before .before .pre .4 .fromSource (c .if1 .taken) in search needs
+
+-- src/lib.rt:347:16
+mul-result : tie.Need-mul-result
+mul-result c = let h = c .before .before .before .pre .4 .fromSource (c .if1 .taken) in search needs
+
+-- src/lib.rt:347:16
+element-copy-out-result : tie.Need-element-copy-out-result
+element-copy-out-result c = let h = c .before .before .before .pre .4 .fromSource (c .if1 .taken) in search needs
+
+-- src/lib.rt:347:9
+returns : tie.Need-returns
+returns c = let a = c .before .before .before .before .args in left-source (a .costs .now) (a .flow .now) (a .left .now) (a .r) (a .c) (a .u) (a .v) (c .before .if1 .taken)
+
+-- src/lib.rt:350:23
+sub-place : tie.Need-sub-place
+sub-place c = search needs
+
+-- src/lib.rt:350:30
+sub-place-2 : tie.Need-sub-place-2
+sub-place-2 c = let h = c .before .before .before .before .pre .4 .fromRow (omega arith) (c .if2 .taken) in search needs
+
+-- src/lib.rt:350:30
+sub-place-3 : tie.Need-sub-place-3
+sub-place-3 c = let h = c .before .before .before .before .pre .4 .fromRow (omega arith) (c .if2 .taken) in search needs
+
+-- src/lib.rt:350:13
+place-requires : tie.Need-place-requires
+place-requires c κs = let h = c .before .before .before .before .pre .4 .fromRow (omega arith) (c .if2 .taken) in (omega arith, omega arith, omega arith)
+
+-- src/lib.rt:351:27
+add-less : tie.Need-add-less
+add-less c = search needs
+
+-- src/lib.rt:351:21
+mul-less : tie.Need-mul-less
+mul-less c = search needs
+
+-- src/lib.rt:351:21
+shared-slice-read-less : tie.Need-shared-slice-read-less
+shared-slice-read-less c = search needs
+
+-- src/lib.rt:351:38
+mul-less-2 : tie.Need-mul-less-2
+mul-less-2 c = search needs
+
+-- src/lib.rt:351:38
+shared-slice-read-less-2 : tie.Need-shared-slice-read-less-2
+shared-slice-read-less-2 c = search needs
+
+-- src/lib.rt:351:9
+less-requires : tie.Need-less-requires
+less-requires c κs = search needs
+
+-- src/lib.rt:351:9
+returns-2 : tie.Need-returns-2
+returns-2 c = let a = c .before .before .before .before .before .before .before .before .args in
+    c .less .ensures ∙ ap (λ (k : ℕ). capOf (a .costs .now) k - getD (a .flow .now) k 0) (c .before .before .before .place .ensures .0) ∙ left-row (a .costs .now) (a .flow .now) (a .left .now) (a .r) (a .c) (a .u) (a .v) (c .before .before .before .before .before .if1 .left) (c .before .before .before .before .if2 .taken)
+
+-- src/lib.rt:353:13
+add-if3 : tie.Need-add-if3
+add-if3 c = search needs
+
+-- src/lib.rt:353:13
+add-if3-2 : tie.Need-add-if3-2
+add-if3-2 c = search needs
+
+-- src/lib.rt:354:27
+sub-result-2 : tie.Need-sub-result-2
+sub-result-2 c = search needs
+
+-- src/lib.rt:354:27
+sub-result-3 : tie.Need-sub-result-3
+sub-result-3 c = search needs
+
+-- src/lib.rt:354:21
+add-result : tie.Need-add-result
+add-result c = let h = c .before .before .before .before .before .pre .4 .fromColumn (omega arith) in search needs
+
+-- src/lib.rt:354:16
+mul-result-2 : tie.Need-mul-result-2
+mul-result-2 c = let h = c .before .before .before .before .before .pre .4 .fromColumn (omega arith) in search needs
+
+-- src/lib.rt:354:16
+element-copy-out-result-2 : tie.Need-element-copy-out-result-2
+element-copy-out-result-2 c = let h = c .before .before .before .before .before .pre .4 .fromColumn (omega arith) in search needs
+
+-- src/lib.rt:354:9
+returns-3 : tie.Need-returns-3
+returns-3 c = let a = c .before .before .before .before .before .before .args in left-sink (a .costs .now) (a .flow .now) (a .left .now) (a .r) (a .c) (a .u) (a .v) (c .before .before .before .if1 .left) (omega arith) (c .before .if3 .taken)
+
+-- src/lib.rt:356:19
+sub-place-4 : tie.Need-sub-place-4
+sub-place-4 c = let h = c .before .before .before .before .before .pre .4 .fromColumn (omega arith) in let q = c .before .before .before .before .before .pre .4 .toRow (omega arith) (c .if3 .left) in search needs
+
+-- src/lib.rt:356:26
+sub-place-5 : tie.Need-sub-place-5
+sub-place-5 c = search needs
+
+-- src/lib.rt:356:26
+sub-place-6 : tie.Need-sub-place-6
+sub-place-6 c = search needs
+
+-- src/lib.rt:356:9
+place-requires-2 : tie.Need-place-requires-2
+place-requires-2 c κs = let h = c .before .before .before .before .before .pre .4 .fromColumn (omega arith) in let q = c .before .before .before .before .before .pre .4 .toRow (omega arith) (c .if3 .left) in (omega arith, omega arith, omega arith)
+
+-- src/lib.rt:357:5
+mul-result-3 : tie.Need-mul-result-3
+mul-result-3 c = search needs
+
+-- src/lib.rt:357:5
+shared-slice-read-result : tie.Need-shared-slice-read-result
+shared-slice-read-result c = search needs
+
+-- src/lib.rt:342:1
+returns-4 : tie.Need-returns-4
+returns-4 c = let a = c .before .before .before .before .before .before .before .args in
+    ap (λ (k : ℕ). getD (a .flow .now) k 0) (c .before .place2 .ensures .0) ∙ left-back (a .costs .now) (a .flow .now) (a .left .now) (a .r) (a .c) (a .u) (a .v) (c .before .before .before .before .if1 .left) (omega arith) (c .before .before .if3 .left)
+
+pub left-on-spec : {M : Type 1} → statement M
+left-on-spec =
+    tie.close
+    (tie.spec
+    sub-result
+    mul-result
+    element-copy-out-result
+    returns
+    sub-place
+    sub-place-2
+    sub-place-3
+    place-requires
+    add-less
+    mul-less
+    shared-slice-read-less
+    mul-less-2
+    shared-slice-read-less-2
+    less-requires
+    returns-2
+    add-if3
+    add-if3-2
+    sub-result-2
+    sub-result-3
+    add-result
+    mul-result-2
+    element-copy-out-result-2
+    returns-3
+    sub-place-4
+    sub-place-5
+    sub-place-6
+    place-requires-2
+    mul-result-3
+    shared-slice-read-result
+    returns-4)

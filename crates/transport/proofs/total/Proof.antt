@@ -1,0 +1,82 @@
+use Rattle.transport.proofs.CellLaws.{sum-start, sum-next, sum-end, largest-start, largest-next, largest-end, total-turn, total-end, laid-turn, nothing-costs, w-within, weighed, min-allowed, div-in, product-fits, Summed, summed-start, summed-turn, summed-end}
+use Rattle.transport.specs.Cells.{cellsFrom, ifAllowed, LaidTo, celled, totalFrom}
+use Rattle.wide.specs.Value.{unsigned}
+use Rattle.wide.specs.declared.Wide.{Wide}
+use Rattle.spec.specs.Transport.{largest, massOf}
+use mathlib.Core.List.{map}
+use Rattle.spec.specs.Bytes.{pick, sum}
+use lib.Dec.{eqb}
+use lib.ListN.{drop}
+use Prim.Native.Nat.{min, max, _/_, _%_}
+use borrow.Author.Needs.{needs}
+use borrow.Author.Tests.{lt-ltb, le-ltb, le-leb, lt-leb, eq-eqb, ne-eqb}
+use Prim.Native.Nat.{ℕ, zero, suc, _≤_, _<_, _-_, _+_, _*_, _^_}
+use native.Mathlib.Omega.{arith}
+use native.Mathlib.Numerals.{add-one}
+use mathlib.Core.Path.{_≡_, refl, ap, sym, _∙_}
+use mathlib.Core.Logic.{⊎-elim}
+use mathlib.Core.List.{List, [], _∷_, _++_, append-nil}
+use lib.ListN.{length, take, drop, getD, set, length-set, length-take, length-drop, length-append, drop-of-length-le}
+use Rattle.transport.proofs.total.Statement.{statement}
+use Rattle.transport.proofs.total.Tie as tie
+use Rattle.transport.proofs.total.Reads as reads
+use Rattle.transport.proofs.total.Lts as lts
+use Rattle.transport.proofs.wide32.Reads as wide32-reads
+
+abbrev Inv-loop : tie.InvT-loop
+Inv-loop s t₀ i₀ t i = (i ≤ length s) × (t + sum (drop i s) ≡ sum s) × (t ≤ i * 2 ^ 32)
+
+abbrev μ-loop : tie.MeasureT-loop
+μ-loop s t₀ i₀ t i = length s - i
+
+-- src/lib.rt:566:5
+loop-holds : tie.Need-loop-holds Inv-loop μ-loop
+loop-holds c = (omega arith, sum-start (c .before .args .s .now), omega arith)
+
+-- src/lib.rt:567:21
+mul-wide32 : tie.Need-mul-wide32 Inv-loop μ-loop
+mul-wide32 c = search needs
+
+-- src/lib.rt:567:21
+shared-slice-read-wide32 : tie.Need-shared-slice-read-wide32 Inv-loop μ-loop
+shared-slice-read-wide32 c = search needs
+
+-- src/lib.rt:567:14
+wide32-requires : tie.Need-wide32-requires Inv-loop μ-loop
+wide32-requires c κs = search needs
+
+-- src/lib.rt:567:9
+add-t : tie.Need-add-t Inv-loop μ-loop
+add-t c = let l = c .before .before .before .loop in let w = c .wide32 .ensures .1 in record { fits = omega arith }
+
+-- src/lib.rt:568:9
+add-i : tie.Need-add-i Inv-loop μ-loop
+add-i c = search needs
+
+-- src/lib.rt:566:5
+loop-less : tie.Need-loop-less Inv-loop μ-loop
+loop-less c = search needs
+
+-- src/lib.rt:566:5
+loop-again : tie.Need-loop-again Inv-loop μ-loop
+loop-again c = let l = c .before .before .before .loop in let s = c .before .before .before .before .before .args .s .now in (omega arith, (rw (c .wide32 .ensures .0) (sum-next s (l .i) (l .t) (omega arith) (l .inv .1))), omega (arith, c .wide32 .ensures .1))
+
+-- src/lib.rt:560:1
+returns : tie.Need-returns Inv-loop μ-loop
+returns c = let l = c .before .loop in let s = c .before .before .before .args .s .now in let e = sum-end s (l .i) (l .t) (omega arith) (l .inv .1) in (e, omega arith)
+
+pub total-spec : {M : Type 1} → statement M
+total-spec =
+    tie.close
+    (tie.spec
+    Inv-loop
+    μ-loop
+    loop-holds
+    mul-wide32
+    shared-slice-read-wide32
+    wide32-requires
+    add-t
+    add-i
+    loop-less
+    loop-again
+    returns)

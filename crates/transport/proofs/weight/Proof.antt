@@ -1,0 +1,31 @@
+use Rattle.transport.proofs.Solves.{none-row, none-column, none-uneven, small, start-of, start-problem, plan-in, emptied-next, weight-is}
+use Rattle.transport.specs.Solved.{Shaped, PlanIn, Emptied}
+use borrow.Author.Tests.{lt-ltb, le-ltb, le-leb, lt-leb, eq-eqb, ne-eqb}
+use Prim.Native.Nat.{ℕ, zero, suc, _≤_, _<_, _-_, _+_, _*_, _^_}
+use native.Mathlib.Omega.{arith}
+use native.Mathlib.Numerals.{add-one}
+use mathlib.Core.Path.{_≡_, refl, ap, sym, _∙_}
+use mathlib.Core.Logic.{⊎-elim}
+use mathlib.Core.List.{List, [], _∷_, _++_, append-nil}
+use lib.ListN.{length, take, drop, getD, set, length-set, length-take, length-drop, length-append, drop-of-length-le}
+use borrow.Author.Needs.{needs}
+use Rattle.transport.proofs.weight.Statement.{statement}
+use Rattle.transport.proofs.weight.Tie as tie
+use Rattle.transport.proofs.weight.Reads as reads
+use Rattle.transport.proofs.weight.Lts as lts
+use Rattle.wide.proofs.Wide.weight.Reads as weight-reads
+
+-- src/lib.rt:685:21
+cast-weight : tie.Need-cast-weight
+cast-weight c = search needs
+
+-- src/lib.rt:685:5
+weight-requires : tie.Need-weight-requires
+weight-requires c κs = search needs
+
+-- src/lib.rt:681:1
+returns : tie.Need-returns
+returns c = let a = c .before .args in weight-is (a .f) (a .v) (c .weight .result) (c .before .pre .0) (c .before .pre .1) (omega arith) (omega arith) (c .weight .ensures)
+
+pub weight-spec : {M : Type 1} → statement M
+weight-spec = tie.close (tie.spec cast-weight weight-requires returns)

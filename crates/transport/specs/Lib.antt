@@ -1,0 +1,7 @@
+pub mod Net
+pub mod Holds
+pub mod Path
+pub mod Cells
+pub mod Solved
+pub mod Public
+pub mod Promise
