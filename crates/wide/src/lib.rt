@@ -136,22 +136,22 @@ impl Wide {
     pub fn wrapping_add(self, b: Wide) -> Wide
         ensures { λ r. ⌜ r ≡ addWords self b ⌝ }
     {
-        let l = add_word(self.lo, b.lo, 0);
-        let h = add_word(self.hi, b.hi, l.carry);
+        let under = add_word(self.lo, b.lo, 0);
+        let over = add_word(self.hi, b.hi, under.carry);
         Wide {
-            lo: l.word,
-            hi: h.word,
+            lo: under.word,
+            hi: over.word,
         }
     }
 
     pub fn wrapping_neg(self) -> Wide
         ensures { λ r. ⌜ r ≡ negWords self ⌝ }
     {
-        let l = sub_word(0, self.lo, 0);
-        let h = sub_word(0, self.hi, l.carry);
+        let under = sub_word(0, self.lo, 0);
+        let over = sub_word(0, self.hi, under.carry);
         Wide {
-            lo: l.word,
-            hi: h.word,
+            lo: under.word,
+            hi: over.word,
         }
     }
 
