@@ -1,6 +1,6 @@
 -- `pair_table::enter_from` meets its contract: a walk of its MIR, by hand: a loop whose turn calls a covered function on each of the two plain slices, lends the table again for a call of `enter`, and calls a covered function on what came of it.
 -- Assumes nothing.
-use Rattle.pair_table.proofs.Walk.{_≡_, refl, sym, _∙_, ap, subst, ℕ, zero, suc, _+_, _<_, _≤_, _^_, lt-suc-self, arith, Bool, true, false, List, [], _∷_, length, getD, Nat·lt-wfRel, ltb, URA, fullShare}
+use Rattle.pair_table.proofs.Walk.{_≡_, refl, sym, _∙_, ap, subst, ℕ, zero, suc, _+_, _<_, _≤_, _^_, lt-suc-self, arith, Bool, true, List, [], _∷_, length, getD, Nat·lt-wfRel, URA, fullShare}
 use Rattle.pair_table.proofs.Walk.{Ty, named, erased, imm, mut, w16, w64, tyInt, tyBool, tyRef, Val, vint, vbool, SProp, ent, sep, emp, fst∗, id⊢, via, snd∗, exI, exE, guardI, Lft, GName, Share, Fml, ftrue, fsep, fat, froom, fdies, flft}
 use Rattle.pair_table.proofs.Walk.{Memory, Routine, Heap, Calls, Loops, Env, Wp, WpFn, Tables, atReturn, afterSeq, afterBlock, afterTurn, Atoms, sem, Fun, fact, givenOf, tables, tablesOf, Given, Item, ‵, raw, some, given, later, _⊛_, ⋆, anyQ, atRet, runs, Sq, _$_, _∵_, !, qed, by, move, drop, use1, use2, use3, split, join, group, pick, learn, await, rewrite, fsplit, fjoin, feqL, suffices, frame, done}
 use Rattle.pair_table.proofs.Walk.{whole, sub, look-in, agg, look, init, store, forget, stop, hop, fld, from, load, lit, of-opd, bin, addr, and-then, no-more, assigns, assigns-last, land, first, blocks, stays, leaves-loop, returns, exec, Below, again, loops, enter, alloc1, alloc0, params1, pass1, pass0, free1, free0, lft-new, lft-end, WpFn-mono, fmOf}

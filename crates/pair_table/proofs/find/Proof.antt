@@ -1,7 +1,7 @@
 -- `pair_table::find` meets its contract: a walk of its MIR, by hand: a call for the end, then a loop with a call in its turn.
 -- The slice is looked into and shut again in each turn, so the invariant has what the slice owns whole. What a record is compared by is `is_pair`, a covered function.
 -- Assumes nothing.
-use Rattle.pair_table.proofs.Walk.{_≡_, refl, sym, _∙_, ap, ℕ, zero, suc, _+_, _<_, _≤_, _*_, _^_, lt-suc-self, arith, Bool, true, false, List, [], _∷_, length, getD, Nat·lt-wfRel, ltb, lit<, URA, fullShare}
+use Rattle.pair_table.proofs.Walk.{_≡_, refl, sym, _∙_, ap, ℕ, zero, suc, _+_, _<_, _≤_, _*_, _^_, lt-suc-self, arith, Bool, List, [], _∷_, length, getD, Nat·lt-wfRel, lit<, URA, fullShare}
 use Rattle.pair_table.proofs.Walk.{Ty, Body, assign, place, op2, add, unsigned, copy, int, named, imm, w16, w64, tyInt, tyBool, tyPtr, tyRef, Val, vint, vptr, vbool}
 use Rattle.pair_table.proofs.Walk.{SProp, ent, emp, fst∗, id⊢, via, snd∗, exI, exE, guardI, Lft, GName, Share, Fml, ftrue, fsep, fat, froom, fdies, flft, Memory, Routine, Heap, Calls, Loops, Env, Wp, WpFn, Tables, atReturn, afterSeq, afterBlock, afterTurn}
 use Rattle.pair_table.proofs.Walk.{Atoms, sem, Fun, fact, givenOf, tables, tablesOf, Given, Item, ‵, raw, some, given, later, _⊛_, ⋆, anyQ, atRet, runs, Sq, _$_, _∵_, !, qed, by, move, drop, use0, use1, split, join, pick, learn, await, rewrite, fsplit, fjoin, suffices, frame, done}
@@ -12,8 +12,8 @@ use Prim.Native.Nat.{min}
 use native.Mathlib.Nat.{min-le-left, min-le-right}
 use types.Kit as Kit
 use denote.Struct.Laws as LL
-use Rattle.spec.specs.Bytes.{Two, sameTwo}
-use Rattle.pair_table.specs.Table.{none, twoOf, findOf}
+use Rattle.spec.specs.Bytes.{sameTwo}
+use Rattle.pair_table.specs.Table.{none, twoOf}
 use Rattle.pair_table.specs.Lists.{is-true, is-false}
 use Rattle.pair_table.specs.Search.{seek, seek-here, seek-on, seek-finds}
 use Rattle.pair_table.specs.declared.Pair.{Pair}
