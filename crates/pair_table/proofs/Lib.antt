@@ -1,3 +1,4 @@
 pub mod Again
+pub mod Numbers
 pub mod Shared
 pub mod Walk

@@ -2,7 +2,6 @@
 use mathlib.Core.Path.{_≡_, refl, sym, ap, _∙_}
 use mathlib.Core.List.{List, [], _∷_, _++_, append-assoc}
 use Prim.Native.Nat.{ℕ, zero, suc, _+_}
-use native.Mathlib.Omega.{arith}
 use lib.ListN.{length, set, replicate, length-append}
 use Rattle.pair_table.specs.declared.Pair.{Pair}
 use Rattle.pair_table.specs.Table.{none}

@@ -1,22 +1,19 @@
 -- What the search, the writing and the outcome come to; and that entering a record is `enter` of spec's Graph. Assumes nothing.
 use mathlib.Core.Path.{_≡_, refl, sym, ap, _∙_}
 use mathlib.Core.Bool.{Bool, true, false}
-use mathlib.Core.List.{List, [], _∷_, _++_, map}
-use Prim.Native.Nat.{ℕ, zero, suc, _≤_, _<_, min}
-use native.Mathlib.Nat.{min-le-left, min-le-right, min-eq-left, min-eq-right}
+use mathlib.Core.List.{List}
+use Prim.Native.Nat.{ℕ, _≤_, _<_, min}
+use native.Mathlib.Nat.{min-eq-left, min-eq-right}
 use native.Mathlib.Decide.{decLt}
 use native.Mathlib.Omega.{arith}
-use lib.Dec.{ltb}
 use lib.ListN.{length, getD, take, set, length-map, length-take, List·getD-map}
-use borrow.Author.Tests.{lt-ltb, le-ltb, ltb-true, ltb-false}
-use Rattle.spec.specs.Bytes.{pick, any, place, Two, sameTwo, Res, ok, refused}
+use borrow.Author.Tests.{lt-ltb, le-ltb}
+use Rattle.spec.specs.Bytes.{pick, any, Two, sameTwo}
 use Rattle.spec.specs.Graph.{PAIRS}
-use Rattle.spec.specs.Graph as Graph
 use Rattle.pair_table.specs.declared.Pair.{Pair}
-use Rattle.pair_table.specs.declared.Entered.{Entered}
 use Rattle.pair_table.specs.declared.Entered.the-variants.{At, New, Full}
 use Rattle.pair_table.specs.Table.{none, twoOf, recordOf, held, findOf, hasRoom, enterOf, tableAfter, putIn, outcomeOf}
-use Rattle.pair_table.specs.Lists.{same-eq, getD-take, set-same, set-past, take-set, place-some, place-none, place-passes}
+use Rattle.pair_table.specs.Lists.{same-eq, getD-take, set-same, set-past, place-some, place-none, place-passes}
 
 -- ---- the outcome, by the ends that the code computes
 pub outcome-at : (at count len m : ℕ) → m ≡ min count len → at < m → At at ≡ outcomeOf at count len

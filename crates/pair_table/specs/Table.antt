@@ -1,6 +1,6 @@
 -- "The pair table is a lent slice of records, searched from its start": what the functions on it give, and what they leave.
 use Prim.Native.Nat.{ℕ, zero, suc, _+_, min}
-use mathlib.Core.Bool.{Bool, true, false}
+use mathlib.Core.Bool.{Bool, false}
 use mathlib.Core.List.{List, map}
 use lib.Dec.{ltb}
 use lib.ListN.{getD, set, length, take}

@@ -69,7 +69,7 @@ pub fn length_of(table: &[Pair]) -> usize
     table.len()
 }
 
-// The place of the first of `count` records that is the pair, or `count`.
+// The place of the first of `count` records that is the pair; where none is, the place after them.
 pub fn find(table: &[Pair], count: usize, left: u16, right: u16) -> usize
     ensures { λ r. ⌜ r ≡ findOf (now (table .entry)) count (left, right) ⌝ }
 {

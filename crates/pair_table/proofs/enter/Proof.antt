@@ -7,7 +7,7 @@ use Rattle.pair_table.proofs.Walk.{RattleType, owns, Is, shows, uint-va
 use Rattle.pair_table.proofs.Walk.{Contract, Triple, calls-at, ensured, lasts, Vals, onEntry, Meets, tripleOf, entered, cited, says, Stays, gave-slice, stay-none, walkOf, Walks, ends-at, walked, goes-gave-slice, goes-none, walk-meets, yes}
 use denote.Struct.Laws as LL
 use denote.Enum.Laws as NL
-use Rattle.pair_table.specs.Table.{findOf, putIn, outcomeOf, enterOf, tableAfter}
+use Rattle.pair_table.specs.Table.{findOf, putIn, outcomeOf}
 use Rattle.pair_table.specs.Enter.{outcome-is, put-is}
 use Rattle.pair_table.specs.declared.Pair.{Pair}
 use Rattle.pair_table.specs.declared.Entered.{Entered}

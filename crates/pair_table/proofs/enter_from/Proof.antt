@@ -1,6 +1,6 @@
 -- `pair_table::enter_from` meets its contract: a walk of its MIR, by hand: a loop whose turn calls a covered function on each of the two plain slices, lends the table again for a call of `enter`, and calls a covered function on what came of it.
 -- Assumes nothing.
-use Rattle.pair_table.proofs.Walk.{_≡_, refl, sym, _∙_, ap, subst, ℕ, zero, suc, _+_, _<_, _≤_, _^_, lt-suc-self, arith, Bool, true, false, List, [], _∷_, length, getD, Nat·lt-wfRel, ltb, URA, fullShare}
+use Rattle.pair_table.proofs.Walk.{_≡_, refl, sym, _∙_, ap, subst, ℕ, zero, suc, _+_, _<_, _^_, lt-suc-self, Bool, true, List, [], _∷_, length, getD, Nat·lt-wfRel, URA, fullShare}
 use Rattle.pair_table.proofs.Walk.{Ty, named, erased, imm, mut, w16, w64, tyInt, tyBool, tyRef, Val, vint, vbool, SProp, ent, sep, emp, fst∗, id⊢, via, snd∗, exI, exE, guardI, Lft, GName, Share, Fml, ftrue, fsep, fat, froom, fdies, flft}
 use Rattle.pair_table.proofs.Walk.{Memory, Routine, Heap, Calls, Loops, Env, Wp, WpFn, Tables, atReturn, afterSeq, afterBlock, afterTurn, Atoms, sem, Fun, fact, givenOf, tables, tablesOf, Given, Item, ‵, raw, some, given, later, _⊛_, ⋆, anyQ, atRet, runs, Sq, _$_, _∵_, !, qed, by, move, drop, use1, use2, use3, split, join, group, pick, learn, await, rewrite, fsplit, fjoin, feqL, suffices, frame, done}
 use Rattle.pair_table.proofs.Walk.{whole, sub, look-in, agg, look, init, store, forget, stop, hop, fld, from, load, lit, of-opd, bin, addr, and-then, no-more, assigns, assigns-last, land, first, blocks, stays, leaves-loop, returns, exec, Below, again, loops, enter, alloc1, alloc0, params1, pass1, pass0, free1, free0, lft-new, lft-end, WpFn-mono, fmOf}
@@ -15,6 +15,7 @@ use Rattle.pair_table.specs.Table.{enterOf, tableAfter, stillNew, enterF
 use Rattle.pair_table.specs.declared.Pair.{Pair}
 use Rattle.pair_table.specs.declared.Entered.{Entered}
 use Rattle.pair_table.proofs.Again.{LentAgain, lends-again, comes-back}
+use Rattle.pair_table.proofs.Numbers.{below-from, end-from, next-from, step-from}
 use Rattle.pair_table.proofs.Pair as P
 use Rattle.pair_table.proofs.Entered as N
 use Rattle.pair_table.proofs.Entered.Laws as N′
@@ -67,19 +68,6 @@ lefts = sliceTy (tyRef (named 1) imm half)
 
 abbrev rights : Ty
 rights = sliceTy (tyRef (named 2) imm half)
-
--- numbers
-below-end : (n k t : ℕ) → n - k ≡ suc t → k < n
-below-end n k t e = omega (arith, e)
-
-at-end : (n k : ℕ) → n - k ≡ 0 → n ≤ k
-at-end n k e = omega (arith, e)
-
-next-fits : (n k t : ℕ) → n - k ≡ suc t → n < 2 ^ 64 → k + 1 < 2 ^ 64
-next-fits n k t e l = omega (arith, e, l)
-
-step-on : (n k t : ℕ) → n - k ≡ suc t → n - (k + 1) ≡ t
-step-on n k t e = omega (arith, e)
 
 module _ {M : Type 1} (𝓤 : URA M) (H : Heap 𝓤) (A : Atoms 𝓤) (mem : Memory → SProp 𝓤) (run : Routine → Fun 𝓤) where
   -- the contracts that the proof cites
@@ -241,7 +229,7 @@ module _ {M : Type 1} (𝓤 : URA M) (H : Heap 𝓤) (A : Atoms 𝓤) (W : Given
     unfolding afterTurn
     turn zero k fr zs f =
         assigns ! (bin ! (load ! (from ! (stop !)) (look ! 0 refl)) (load ! (from ! (stop !)) (look ! 23 refl)) tt) (from ! (stop !)) (init ! 13 refl (tt, tt)) $
-        rewrite ! 13 (λ (t : Bool). ‵ (fat fullShare tyBool l₁₁ 0 (vbool t))) (le-ltb k end (at-end end k (f .0))) refl $
+        rewrite ! 13 (λ (t : Bool). ‵ (fat fullShare tyBool l₁₁ 0 (vbool t))) (le-ltb k end (end-from end k (f .0))) refl $
         leaves-loop ! (load ! (from ! (stop !)) (look ! 13 refl)) $ exec ! C Λ En m.t-4 (atRet En Post) $
         assigns ! (of-opd ! (load ! (from ! (stop !)) (look ! 1 refl))) (from ! (stop !)) (init ! 33 refl (tt, tt)) $
         returns ! (look ! 33 refl) $ forget ! 0 refl $ forget ! 1 refl $ forget ! 13 refl $ forget ! 23 refl $ forget ! 25 refl $ forget ! 27 refl $ forget ! 29 refl $ forget ! 31 refl $ forget ! 33 refl $
@@ -250,7 +238,7 @@ module _ {M : Type 1} (𝓤 : URA M) (H : Heap 𝓤) (A : Atoms 𝓤) (W : Given
         by ! (exits fr zs (f .2) (f .3))
     turn (suc t) k fr zs f =
         assigns ! (bin ! (load ! (from ! (stop !)) (look ! 0 refl)) (load ! (from ! (stop !)) (look ! 23 refl)) tt) (from ! (stop !)) (init ! 13 refl (tt, tt)) $
-        rewrite ! 13 (λ (t : Bool). ‵ (fat fullShare tyBool l₁₁ 0 (vbool t))) (lt-ltb k end (below-end end k t (f .0))) refl $
+        rewrite ! 13 (λ (t : Bool). ‵ (fat fullShare tyBool l₁₁ 0 (vbool t))) (lt-ltb k end (below-from end k t (f .0))) refl $
         stays ! (load ! (from ! (stop !)) (look ! 13 refl)) $
         -- `word_at` of the lefts: the slice is Copy, and one copy is passed
         move ! (6 ∷ []) $ use1 W (‵ OwnL ⊛ ‵ OwnL) (shr-slice-copy 𝓤 H A W (named 1) κ₂ u16 .twice y₂ (s₂ ∷ [])) $ split ! $ move ! (6 ∷ 0 ∷ []) $ use2 W (raw (Word 𝓤 H A mem run .pre (to-left k))) (goes-left k (f .1)) $
@@ -293,11 +281,11 @@ module _ {M : Type 1} (𝓤 : URA M) (H : Heap 𝓤) (A : Atoms 𝓤) (W : Given
         split ! $ move ! (1 ∷ []) $ use1 W (raw (fact 𝓤 (n ≡ stillNew fr g))) (still-of 𝓤 H A mem run fr g n) $ heard ! (n ≡ stillNew fr g) (λ e₃. split ! $ drop ! $ facts ! bool (Is bool) (shows 𝓤 H A bool) n (v₃ ∷ []) (λ is₃.
         -- [the table; its token; true; …; 4 k; 5 fresh; two tokens; the plain slices; the numbers; 11 _13; …]
         land ! (from ! (stop !)) (store ! 5 refl (bool-lawful 𝓤 H A W .typed n _ is₃ .0)) $ rewrite ! 5 (λ (z : Val). ‵ (fat fullShare tyBool l₆ 0 z)) (ap only is₃ ∙ ap vbool (e₃ ∙ ap (stillNew fr) (e₂ .0))) refl $
-        assigns-last ! (bin ! (load ! (from ! (stop !)) (look ! 4 refl)) (lit ! tt) (record { fits = next-fits end k t (f .0) ge })) (from ! (stop !)) (store ! 4 refl (tt, record { fits = next-fits end k t (f .0) ge })) $
+        assigns-last ! (bin ! (load ! (from ! (stop !)) (look ! 4 refl)) (lit ! tt) (record { fits = next-from end k t (f .0) ge })) (from ! (stop !)) (store ! 4 refl (tt, record { fits = next-from end k t (f .0) ge })) $
         forget ! 11 refl $ forget ! 13 refl $ forget ! 15 refl $ forget ! 17 refl $ forget ! 19 refl $ forget ! 21 refl $
         move ! (2 ∷ 3 ∷ []) $ drop ! $ drop ! $ move ! (2 ∷ 3 ∷ 0 ∷ []) $ group ! 3 $
         use1 W (some (λ (z : State). given (Facts t (z .0) (z .1) (z .2)) (Cells (z .0) (z .1) (z .2)))) (packs t (k + 1) (stillNew fr (enterOf zs k (left k, right k))) (tableAfter zs k (left k, right k))
-        (step-on end k t (f .0), next-fits end k t (f .0) ge, ap (λ (l : List Pair). length l) (sym (e₂ .1)) ∙ same ∙ f .2, f .3)) $
+        (step-from end k t (f .0), next-from end k t (f .0) ge, ap (λ (l : List Pair). length l) (sym (e₂ .1)) ∙ same ∙ f .2, f .3)) $
         again ! _<_ Inv (suc t) t (lt-suc-self t)))))))))))))))))))))
 
     turns : (t : ℕ) → Sq W (Inv t) (runs C Λ En m.turn-1 (Turn t))

@@ -1,7 +1,7 @@
 -- `pair_table::find` meets its contract: a walk of its MIR, by hand: a call for the end, then a loop with a call in its turn.
 -- The slice is looked into and shut again in each turn, so the invariant has what the slice owns whole. What a record is compared by is `is_pair`, a covered function.
 -- Assumes nothing.
-use Rattle.pair_table.proofs.Walk.{_≡_, refl, sym, _∙_, ap, ℕ, zero, suc, _+_, _<_, _≤_, _*_, _^_, lt-suc-self, arith, Bool, true, false, List, [], _∷_, length, getD, Nat·lt-wfRel, ltb, lit<, URA, fullShare}
+use Rattle.pair_table.proofs.Walk.{_≡_, refl, sym, _∙_, ap, ℕ, zero, suc, _+_, _<_, _*_, _^_, lt-suc-self, arith, Bool, List, [], _∷_, length, getD, Nat·lt-wfRel, lit<, URA, fullShare}
 use Rattle.pair_table.proofs.Walk.{Ty, Body, assign, place, op2, add, unsigned, copy, int, named, imm, w16, w64, tyInt, tyBool, tyPtr, tyRef, Val, vint, vptr, vbool}
 use Rattle.pair_table.proofs.Walk.{SProp, ent, emp, fst∗, id⊢, via, snd∗, exI, exE, guardI, Lft, GName, Share, Fml, ftrue, fsep, fat, froom, fdies, flft, Memory, Routine, Heap, Calls, Loops, Env, Wp, WpFn, Tables, atReturn, afterSeq, afterBlock, afterTurn}
 use Rattle.pair_table.proofs.Walk.{Atoms, sem, Fun, fact, givenOf, tables, tablesOf, Given, Item, ‵, raw, some, given, later, _⊛_, ⋆, anyQ, atRet, runs, Sq, _$_, _∵_, !, qed, by, move, drop, use0, use1, split, join, pick, learn, await, rewrite, fsplit, fjoin, suffices, frame, done}
@@ -12,11 +12,12 @@ use Prim.Native.Nat.{min}
 use native.Mathlib.Nat.{min-le-left, min-le-right}
 use types.Kit as Kit
 use denote.Struct.Laws as LL
-use Rattle.spec.specs.Bytes.{Two, sameTwo}
-use Rattle.pair_table.specs.Table.{none, twoOf, findOf}
+use Rattle.spec.specs.Bytes.{sameTwo}
+use Rattle.pair_table.specs.Table.{none, twoOf}
 use Rattle.pair_table.specs.Lists.{is-true, is-false}
 use Rattle.pair_table.specs.Search.{seek, seek-here, seek-on, seek-finds}
 use Rattle.pair_table.specs.declared.Pair.{Pair}
+use Rattle.pair_table.proofs.Numbers.{offset-fits, lt-le, le-lt, below-end, at-end, i-fits, next-fits, step-on}
 use Rattle.pair_table.proofs.Pair as P
 use Rattle.pair_table.proofs.Pair.Laws as P′
 use Rattle.pair_table.proofs.is_pair as is′
@@ -51,31 +52,6 @@ half = tyInt w16
 
 abbrev slice : Ty
 slice = sliceTy (tyRef (named 0) imm (pointee (R .written)))
-
--- numbers
-offset-fits : (n i : ℕ) → i < n → n * 4 < 2 ^ 63 → i * 4 < 2 ^ 64
-offset-fits n i l r = omega (arith, l, r)
-
-within : (c n i m : ℕ) → i + suc m ≡ c → c ≤ n → i < n
-within c n i m e l = omega (arith, e, l)
-
-below-end : (c i m : ℕ) → i + suc m ≡ c → i < c
-below-end c i m e = omega (arith, e)
-
-next-fits : (c i m : ℕ) → i + suc m ≡ c → c < 2 ^ 64 → i + 1 < 2 ^ 64
-next-fits c i m e l = omega (arith, e, l)
-
-at-end : (c i : ℕ) → i + 0 ≡ c → c ≤ i
-at-end c i e = omega (arith, e)
-
-i-fits : (c i t : ℕ) → i + t ≡ c → c < 2 ^ 64 → i < 2 ^ 64
-i-fits c i t e l = omega (arith, e, l)
-
-step-on : (c i m : ℕ) → i + suc m ≡ c → (i + 1) + m ≡ c
-step-on c i m e = omega (arith, e)
-
-le-lt : (a b n : ℕ) → a ≤ b → b < n → a < n
-le-lt a b n h k = omega (arith, h, k)
 
 -- the turn's last statement, which the generated MIR has under no name
 abbrev onward : Body
@@ -237,7 +213,7 @@ module _ {M : Type 1} (𝓤 : URA M) (H : Heap 𝓤) (A : Atoms 𝓤) (W : Given
         again ! _<_ Inv (suc m) m (lt-suc-self m))))))))
       where
         ins : i < length ys
-        ins = within end (length ys) i m (f .0) (min-le-right c (length ys))
+        ins = lt-le i end (length ys) (below-end end i m (f .0)) (min-le-right c (length ys))
 
         off : i * 4 < 2 ^ 64
         off = offset-fits (length ys) i ins (gn .1)

@@ -1,7 +1,7 @@
 -- `pair_table::length_of` meets its contract: a walk of its MIR, by hand.
 -- Assumes nothing.
-use Rattle.pair_table.proofs.Walk.{_≡_, refl, ℕ, _<_, _^_, List, [], _∷_, length, URA, fullShare, Ty, named, imm, w64, tyInt, tyRef, Val, vint, SProp, ent, via, emp, fst∗, Lft, GName, Share, Fml, ftrue, fsep, flft}
-use Rattle.pair_table.proofs.Walk.{Memory, Routine, Heap, Calls, Loops, WpFn, Tables, Atoms, Fun, givenOf, tables, tablesOf, Given, Item, ‵, _⊛_, ⋆, _$_, _∵_, !, qed, by, move, drop, split, join, fsplit, fjoin, suffices, frame, done}
+use Rattle.pair_table.proofs.Walk.{refl, ℕ, List, [], _∷_, length, URA, named, w64, Val, vint, SProp, ent, via, emp, fst∗, Lft, GName, Share, Fml, ftrue, flft}
+use Rattle.pair_table.proofs.Walk.{Memory, Routine, Heap, Calls, Loops, WpFn, Tables, Atoms, Fun, givenOf, tables, tablesOf, Given, ‵, _⊛_, ⋆, _$_, _∵_, !, qed, by, move, drop, split, join, fsplit, fjoin, suffices, frame, done}
 use Rattle.pair_table.proofs.Walk.{whole, sub, look-in, look, init, forget, stop, fld, from, load, of-opd, assigns, returns, enter, alloc1, alloc0, params1, pass1, pass0, free1, free0, WpFn-mono}
 use Rattle.pair_table.proofs.Walk.{RattleType, owns, Is, uint-makes, usize, RefT, sliceVal, ShrSlice, Room, slice-vals, shr-slice-tells, plain, nothing, owned}
 use Rattle.pair_table.proofs.Walk.{Vals, onEntry, Meets, tripleOf, entered, says, Stays, stay-none-slice, walkOf, Walks, ends-at, walked, goes-none-slice, walk-meets, yes}

@@ -1,6 +1,6 @@
 -- `pair_table::put_in` meets its contract: a walk of its MIR, by hand, with a branch whose arms meet. The rest of the body after the branch is walked once (`leaves`).
 -- Assumes nothing.
-use Rattle.pair_table.proofs.Walk.{_≡_, refl, sym, _∙_, ap, subst, ℕ, _<_, _≤_, _*_, _^_, arith, Bool, true, false, List, [], _∷_, length, set, length-set, T, ltb, ltb→lt, URA, fullShare}
+use Rattle.pair_table.proofs.Walk.{_≡_, refl, sym, _∙_, ap, subst, ℕ, _<_, _^_, Bool, true, false, List, [], _∷_, length, set, length-set, T, ltb, ltb→lt, URA, fullShare}
 use Rattle.pair_table.proofs.Walk.{Ty, named, mut, w64, tyInt, tyBool, tyPtr, tyRef, Val, vint, vptr, vbool, SProp, ent, emp, fst∗, id⊢, via, snd∗, exE, Lft, GName, Share, Fml, ftrue, fsep, fat, froom, fdies, flft, fobs, fbor}
 use Rattle.pair_table.proofs.Walk.{Memory, Routine, Heap, Calls, Loops, Env, WpFn, Tables, Atoms, sem, Fun, fact, givenOf, tables, tablesOf, FmC, fmOf, Given, Item, ‵, raw, some, later, _⊛_, ⋆, atRet, runs, Sq, _$_, _∵_, !, qed, by, move, drop, use0, use1, split, join, pick, await, rewrite, fsplit, fjoin, suffices, frame, done}
 use Rattle.pair_table.proofs.Walk.{whole, sub, look-in, look, store-raw, init, forget, stop, hop, fld, from, load, lit, of-opd, bin, and-then, no-more, land, assigns, assigns-last, first, branches, skips, exec, returns, enter, alloc1, alloc0, params1, pass1, pass0, free1, free0, WpFn-mono}
@@ -14,6 +14,7 @@ use Rattle.spec.specs.Graph.{PAIRS}
 use Rattle.pair_table.specs.Table.{none, hasRoom, putIn}
 use Rattle.pair_table.specs.Lists.{is-true, is-false}
 use Rattle.pair_table.specs.declared.Pair.{Pair}
+use Rattle.pair_table.proofs.Numbers.{offset-fits, lt-le}
 use Rattle.pair_table.proofs.Pair as P
 use Rattle.pair_table.proofs.Pair.Laws as P′
 use Rattle.pair_table.proofs.room as room′
@@ -40,12 +41,6 @@ word = tyInt w64
 
 abbrev slice : Ty
 slice = sliceTy (tyRef (named 0) mut (pointee (R .written)))
-
-offset-fits : (n i : ℕ) → i < n → n * 4 < 2 ^ 63 → i * 4 < 2 ^ 64
-offset-fits n i l r = omega (arith, l, r)
-
-below : (i m n : ℕ) → i < m → m ≤ n → i < n
-below i m n h k = omega (arith, h, k)
 
 -- what is put by the test
 put-by : (ys : List Pair) (i : ℕ) (p : Pair) (t : Bool) → hasRoom i (length ys) ≡ t → choose t (set ys i p) ys ≡ putIn ys i p
@@ -154,7 +149,7 @@ module _ {M : Type 1} (𝓤 : URA M) (H : Heap 𝓤) (A : Atoms 𝓤) (W : Given
         leaves l₀ l₁ l₂ l₃ l₄ l₅ l₆ l₇ l₈ (ltb i end) ys refl (put-by ys i p false (is-false _ h))))))))))))))))
       where
         inside : T (ltb i end) → i < length ys
-        inside h = below i end (length ys) (ltb→lt i end h) (min-le-right PAIRS (length ys))
+        inside h = lt-le i end (length ys) (ltb→lt i end h) (min-le-right PAIRS (length ys))
 
 module _ {M : Type 1} (𝓤 : URA M) (H : Heap 𝓤) (A : Atoms 𝓤) (W : Given 𝓤 H A) (mem : Memory → SProp 𝓤) (run : Routine → Fun 𝓤) (𝓣 : Tables 𝓤 H) (known : Triple 𝓤 (𝓣 .C #room) (RoomOf 𝓤 H A mem run)) where
   put-walks : Walks 𝓤 H A f.ended stayed (WpFn 𝓤 H (𝓣 .C) (𝓣 .Λ) code.function) (f.clauses 𝓤 H A mem run)
