@@ -726,7 +726,7 @@ fn solve_even(
 }
 
 // The least plan, in the first rows * columns numbers of `flow`: whether there is one. Costs and flow are work buffers.
-pub fn solve_cells(
+fn solve_cells(
     supply: &[u32],
     demand: &[u32],
     sizes: &[u32],
