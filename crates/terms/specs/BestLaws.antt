@@ -15,32 +15,32 @@ use Rattle.spec.specs.Image.{Tables, Member, Lit, kindOf, bestSize, childrenOf,
 use Rattle.spec.specs.Pool.{Pool, Node, nodeAt, opNode, litNode, Interned, interned, intern, Children, childTerms, bestTermIn, bestTerm}
 use Rattle.spec.specs.Meaning.{In, here, there}
 use Rattle.laws.specs.Valid.{Valid}
-use Rattle.lgg.specs.Bag.{bind-ok, ok-inj}
-use Rattle.lgg.specs.Pool.{Below, below-nil, below-cons, PoolValid, op-valid, lit-valid}
-use Rattle.lgg.specs.PoolIntern.{Grown, grown-refl, grown-trans, grown-within, Entered, intern-enters, intern-there}
+use Rattle.lgg.specs.Results.{bind-ok, ok-inj}
+use Rattle.lgg.specs.Pool.{RunsBelow, runs-below-nil, runs-below-cons, PoolValid, op-valid, lit-valid}
+use Rattle.lgg.specs.PoolIntern.{Extends, extends-refl, extends-trans, extends-within, Interns, intern-enters, intern-there}
 use Rattle.lgg.specs.BestMembers.{best-in, best-falls, child-within, child-counted}
 use Rattle.lgg.specs.Best.{best-fuel}
 
-grown-node : {p q : Pool} → Grown p q → (a : ℕ) → a < length p → nodeAt q a ≡ nodeAt p a
+grown-node : {p q : Pool} → Extends p q → (a : ℕ) → a < length p → nodeAt q a ≡ nodeAt p a
 grown-node {p} g a h = rw (g .is) (List·getD-append p (g .later) _ a h)
 
 -- what building a class's term in pool p gives: built again, in any later pool, it is the same term, and the pool stays as it is
 pub record Again (best : Pool → ℕ → Res Interned) (p : Pool) (c : ℕ) (r : Interned) : Type 0 where
   pub valid : PoolValid (r .pool)
-  pub grown : Grown p (r .pool)
+  pub grown : Extends p (r .pool)
   pub within : r .term < length (r .pool)
-  pub again : (q : Pool) → Grown (r .pool) q → PoolValid q → best q c ≡ ok (interned q (r .term))
+  pub again : (q : Pool) → Extends (r .pool) q → PoolValid q → best q c ≡ ok (interned q (r .term))
 
 record AgainAll (best : Pool → ℕ → Res Interned) (p : Pool) (l : List Two) (k : Children) : Type 0 where
   valid : PoolValid (k .pool)
-  grown : Grown p (k .pool)
-  below : Below (length (k .pool)) (k .runs)
-  again : (q : Pool) → Grown (k .pool) q → PoolValid q → childTerms best q l ≡ ok (record { pool = q; runs = k .runs })
+  grown : Extends p (k .pool)
+  below : RunsBelow (length (k .pool)) (k .runs)
+  again : (q : Pool) → Extends (k .pool) q → PoolValid q → childTerms best q l ≡ ok (record { pool = q; runs = k .runs })
 
 children-again : (best : Pool → ℕ → Res Interned) (l : List Two) → ((e : Two) → In e l → (p : Pool) (r : Interned) → PoolValid p → best p (e .0) ≡ ok r → Again best p (e .0) r)
     → ((e : Two) → In e l → 1 ≤ e .1) → (p : Pool) (k : Children) → PoolValid p → childTerms best p l ≡ ok k → AgainAll best p l k
 unfolding childTerms
-children-again best [] h n p k v e = rw (← ok-inj e) (record { valid = v; grown = grown-refl p; below = below-nil (length p); again = λ q g w. refl })
+children-again best [] h n p k v e = rw (← ok-inj e) (record { valid = v; grown = extends-refl p; below = runs-below-nil (length p); again = λ q g w. refl })
 children-again best (c ∷ l) h n p k v e =
     let (a, ea, e′) = bind-ok (best p (c .0)) _ k e in
     let (m, em, e″) = bind-ok (childTerms best (a .pool) l) _ k e′ in
@@ -48,9 +48,9 @@ children-again best (c ∷ l) h n p k v e =
     let M = children-again best l (λ d i. h d (there i)) (λ d i. n d (there i)) (a .pool) m (A .valid) em in
     rw (← ok-inj e″) (record {
       valid = M .valid;
-      grown = grown-trans (A .grown) (M .grown);
-      below = below-cons {r = (a .term, c .1)} (grown-within (M .grown) (a .term) (A .within)) (n c here) (M .below);
-      again = λ q g w. rw (A .again q (grown-trans (M .grown) g) w, M .again q g w) refl;
+      grown = extends-trans (A .grown) (M .grown);
+      below = runs-below-cons {r = (a .term, c .1)} (extends-within (M .grown) (a .term) (A .within)) (n c here) (M .below);
+      again = λ q g w. rw (A .again q (extends-trans (M .grown) g) w, M .again q g w) refl;
     })
 
 module _ (t : Tables) (v : Valid t) where
@@ -95,8 +95,8 @@ module _ (t : Tables) (v : Valid t) where
       go (ℕ-discrete (kindOf t (opOf c)) Lit)
       (λ d i q s y u. let f = best-falls t v c h d i in again-in N (d .0) (omega arith) (child-within t v (bestMember t c) c (best-in t v c h) d i) q s y u)
     where
-      there-again : (n : Node) (q : Pool) → nodeAt (r .pool) (r .term) ≡ n → r .term < length (r .pool) → Grown (r .pool) q → PoolValid q → intern q n ≡ ok (interned q (r .term))
-      there-again n q e h g w = intern-there q n (r .term) w (grown-within g (r .term) h) (grown-node g (r .term) h ∙ e)
+      there-again : (n : Node) (q : Pool) → nodeAt (r .pool) (r .term) ≡ n → r .term < length (r .pool) → Extends (r .pool) q → PoolValid q → intern q n ≡ ok (interned q (r .term))
+      there-again n q e h g w = intern-there q n (r .term) w (extends-within g (r .term) h) (grown-node g (r .term) h ∙ e)
 
       go : Dec (kindOf t (opOf c) ≡ Lit) → ((d : Two) → In d (kids c) → (q : Pool) (s : Interned) → PoolValid q → bestTerm t q (d .0) ≡ ok s → Again (bestTerm t) q (d .0) s) → Again (bestTerm t) p c r
       go (yes k) ih =
@@ -111,9 +111,9 @@ module _ (t : Tables) (v : Valid t) where
           let M = children-again (bestTerm t) (kids c) ih (child-counted t v (bestMember t c) c (best-in t v c h)) p m w em in
           let E = intern-enters (m .pool) (opNode (opOf c) (m .runs)) r (M .valid) (op-valid (length (m .pool)) (opOf c) (m .runs) (M .below)) e′ in record {
             valid = E .valid;
-            grown = grown-trans (M .grown) (E .grown);
+            grown = extends-trans (M .grown) (E .grown);
             within = E .within;
-            again = λ q g y. best-node q c h k ∙ rw (M .again q (grown-trans (E .grown) g) y) (there-again (opNode (opOf c) (m .runs)) q (E .entry) (E .within) g y);
+            again = λ q g y. best-node q c h k ∙ rw (M .again q (extends-trans (E .grown) g) y) (there-again (opNode (opOf c) (m .runs)) q (E .entry) (E .within) g y);
           }
 
   -- A class's best term, built again in a later pool, is the same term, and the pool stays as it is.
@@ -125,7 +125,7 @@ module _ (t : Tables) (v : Valid t) where
     first-ok : (a : Interned) → bestTerm t p (x .0) ≡ ok a → (es ls : List Two) → ((e : Two) → In e es → (e .0 < length (t .classes)) × (bestTerm t p (e .0) ≡ ok (interned p (T (e .0)))))
         → childTerms (bestTerm t) p (es ++ (x ∷ ls)) ≡ childTerms (bestTerm t) (a .pool) (es ++ (x ∷ ls))
     unfolding childTerms
-    first-ok a q [] ls h = let A = best-again p (x .0) a hx w q in rw (q, A .again (a .pool) (grown-refl (a .pool)) (A .valid)) refl
+    first-ok a q [] ls h = let A = best-again p (x .0) a hx w q in rw (q, A .again (a .pool) (extends-refl (a .pool)) (A .valid)) refl
     first-ok a q (e ∷ es) ls h =
         let A = best-again p (x .0) a hx w q in
         let (he, be) = h e here in

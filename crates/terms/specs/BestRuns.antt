@@ -14,7 +14,7 @@ use Rattle.spec.specs.Bytes.{Two, pick, sum}
 use Rattle.spec.specs.Image.{Tables, Member, Lit, kindOf, childrenOf, theMember, tablesOf}
 use Rattle.spec.specs.Pool.{Pool, Node, litNode, opNode, variantsNode, joinRuns, intern}
 use Rattle.spec.specs.Meaning.{In, here, there}
-use Rattle.lgg.specs.Pool.{Below, below-nil, below-cons, NodeValid, lit-valid, op-valid, variants-valid}
+use Rattle.lgg.specs.Pool.{RunsBelow, runs-below-nil, runs-below-cons, NodeValid, lit-valid, op-valid, variants-valid}
 use Rattle.image.specs.Loaded.{Loaded, theChild, children-many}
 use Rattle.image.specs.declared.Image.{Image}
 use Rattle.terms.specs.Buffers.{part, unpack, nodesIn, poolOf, nodeOf, countIn}
@@ -84,9 +84,9 @@ in-at [] i h = absurd (not-suc-le-zero h)
 in-at (x ∷ l) zero h = here
 in-at (x ∷ l) (suc i) h = there (in-at l i (omega arith))
 
-in-map : (g : Two → Two) (l : List Two) (N : ℕ) → ((e : Two) → In e l → (g e .0 < N) × (1 ≤ g e .1)) → Below N (map g l)
-in-map g [] N h = below-nil N
-in-map g (x ∷ l) N h = let (a, b) = h x here in below-cons {r = g x} a b (in-map g l N (λ e i. h e (there i)))
+in-map : (g : Two → Two) (l : List Two) (N : ℕ) → ((e : Two) → In e l → (g e .0 < N) × (1 ≤ g e .1)) → RunsBelow N (map g l)
+in-map g [] N h = runs-below-nil N
+in-map g (x ∷ l) N h = let (a, b) = h x here in runs-below-cons {r = g x} a b (in-map g l N (λ e i. h e (there i)))
 
 module _ (t : Tables) (best : List ℕ) (N m : ℕ) (R : MemberReady t best N m) where
   abbrev L : List Two
@@ -115,7 +115,7 @@ module _ (t : Tables) (best : List ℕ) (N m : ℕ) (R : MemberReady t best N m)
       → (first + i < im .children) × (theChild t (first + i) .0 < length best) × (0 < getD best (theChild t (first + i) .0) 0) × (getD best (theChild t (first + i) .0) 0 ≤ 16384)
   ready h im e i k = let (x, y, z) = child-ready h i k in (omega (arith, child-there i k), x, y, z)
 
-  kept-below : Below N (map (keptRun best) L)
+  kept-below : RunsBelow N (map (keptRun best) L)
   kept-below = in-map (keptRun best) L N (λ e i. let (a, b) = R .built e i in (omega arith, R .counted e i))
 
   module _ (few : N ≤ 16384) (list : List ℕ) (F : (i : ℕ) → i < count → (getD list i 0 ≡ keptNumber best (theChild t (first + i))) × (getD list i 0 < 2 ^ 47)) where

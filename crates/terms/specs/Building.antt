@@ -19,9 +19,10 @@ use Rattle.laws.specs.Valid.{Valid}
 use Rattle.laws.specs.AcceptedUses.{membersWithin, childrenWithin, child-of-at, children-length-at}
 use Rattle.image.specs.Loaded.{Loaded, theChild, operations-many, classes-many, members-many, children-many}
 use Rattle.image.specs.declared.Image.{Image}
-use Rattle.lgg.specs.Bag.{ok-inj, refused-ok, in-nil}
+use Rattle.lgg.specs.Results.{ok-inj, refused-ok}
+use Rattle.lgg.specs.Lists.{in-nil}
 use Rattle.lgg.specs.Pool.{PoolValid}
-use Rattle.lgg.specs.PoolIntern.{Grown, grown-refl}
+use Rattle.lgg.specs.PoolIntern.{Extends, extends-refl}
 use Rattle.lgg.specs.BestMembers.{best-in, best-falls, child-within, child-counted, member-arity, children-length}
 use Rattle.terms.specs.Buffers.{poolOf, nodesIn, countIn}
 use Rattle.terms.specs.Chains.{Holds}
@@ -42,7 +43,7 @@ module _ (t : Tables) (v : Valid t) where
   kept-within : (terms runs best : List ℕ) → Holds terms runs → Kept t (poolOf terms runs) best → (c : ℕ) → c < length (t .classes) → 0 < getD best c 0 → getD best c 0 ≤ countIn terms
   kept-within terms runs best H K c h z = omega (arith, best-again t v (poolOf terms runs) c _ h (H .valid) (K c h z) .within, pool-length terms runs)
 
-  pub kept-grows : (p q : Pool) (best : List ℕ) → PoolValid p → PoolValid q → Grown p q → Kept t p best → Kept t q best
+  pub kept-grows : (p q : Pool) (best : List ℕ) → PoolValid p → PoolValid q → Extends p q → Kept t p best → Kept t q best
   kept-grows p q best w y g K c h z = best-again t v p c _ h w (K c h z) .again q g y
 
   -- the first class that is built of a kept list
@@ -115,7 +116,7 @@ pub record Walk (t : Tables) (p : Pool) (class : ℕ) (terms runs best waiting :
 shift : (t : Tables) (c : ℕ) {x y : Pool} {a b : ℕ} → y ≡ x → b ≡ a → bestTerm t x c ≡ ok (interned x b) → bestTerm t y c ≡ ok (interned y a)
 shift t c e f h = rw (e, ← f) h
 
-pub grown-to : {x y z : Pool} → y ≡ z → Grown x z → Grown x y
+pub grown-to : {x y z : Pool} → y ≡ z → Extends x z → Extends x y
 grown-to e g = rw e g
 
 -- what `build_best_term` gives
@@ -229,7 +230,7 @@ module _ (t : Tables) (v : Valid t) (p : Pool) (class : ℕ) (terms runs best wa
       done-again =
           let (r, e, f, g) = told in
           let A = best-again t v (poolOf terms runs) c r (W .within) (W .holds .valid) e in
-          shift t c g f (A .again (r .pool) (grown-refl (r .pool)) (A .valid))
+          shift t c g f (A .again (r .pool) (extends-refl (r .pool)) (A .valid))
 
       done-kept : Kept t (poolOf terms′ runs′) (set best c (a + 1))
       done-kept =

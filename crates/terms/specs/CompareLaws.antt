@@ -13,7 +13,7 @@ use lib.ListN.{length, getD}
 use Rattle.spec.specs.Bytes.{pick, sum, Two}
 use Rattle.spec.specs.Pool.{Order, less, equal, greater, past, runsCmp, expandedLength}
 use Rattle.spec.specs.Meaning.{In, here, there}
-use Rattle.lgg.specs.Pool.{Joined, none, one, more, Below, below-tail}
+use Rattle.lgg.specs.Pool.{Joined, none, one, more, RunsBelow, runs-below-tail}
 use Rattle.terms.specs.Buffers.{part, unpack}
 use Rattle.terms.specs.Comparing.{timesOf, headChild, apartNumbers, diffNumbers, Differs}
 use Rattle.terms.specs.PartLaws.{part-cons}
@@ -119,7 +119,7 @@ module _ (cmp : ℕ → ℕ → Order) where
 
 module _ (cmp : ℕ → ℕ → Order) (i j : ℕ) where
   -- the runs have one child, and the left one is shorter: the next child on the left decides
-  shorter : (f x : ℕ) (l : List ℕ) (y : ℕ) (m : List ℕ) → Joined (map unpack (x ∷ l)) → Below i (map unpack (x ∷ l)) → Below j (map unpack (y ∷ m)) → timesOf (x ∷ l) ≡ timesOf (y ∷ m)
+  shorter : (f x : ℕ) (l : List ℕ) (y : ℕ) (m : List ℕ) → Joined (map unpack (x ∷ l)) → RunsBelow i (map unpack (x ∷ l)) → RunsBelow j (map unpack (y ∷ m)) → timesOf (x ∷ l) ≡ timesOf (y ∷ m)
       → x % 16384 ≡ y % 16384 → x / 16384 < y / 16384 → length (x ∷ l) + length (y ∷ m) ≤ suc f → Decides (suc f) cmp (x ∷ l) (y ∷ m) i j (headChild l, y % 16384)
   unfolding timesOf
   shorter f x [] y m J A B e c h n = absurd (omega arith)
@@ -134,7 +134,7 @@ module _ (cmp : ℕ → ℕ → Order) (i j : ℕ) where
         apart = d;
       }
 
-  longer : (f x : ℕ) (l : List ℕ) (y : ℕ) (m : List ℕ) → Joined (map unpack (y ∷ m)) → Below i (map unpack (x ∷ l)) → Below j (map unpack (y ∷ m)) → timesOf (x ∷ l) ≡ timesOf (y ∷ m)
+  longer : (f x : ℕ) (l : List ℕ) (y : ℕ) (m : List ℕ) → Joined (map unpack (y ∷ m)) → RunsBelow i (map unpack (x ∷ l)) → RunsBelow j (map unpack (y ∷ m)) → timesOf (x ∷ l) ≡ timesOf (y ∷ m)
       → x % 16384 ≡ y % 16384 → y / 16384 < x / 16384 → length (x ∷ l) + length (y ∷ m) ≤ suc f → Decides (suc f) cmp (x ∷ l) (y ∷ m) i j (x % 16384, headChild m)
   unfolding timesOf
   longer f x l y [] K A B e c h n = absurd (omega arith)
@@ -149,7 +149,7 @@ module _ (cmp : ℕ → ℕ → Order) (i j : ℕ) where
         apart = d;
       }
 
-  pub decides : (f : ℕ) (l m : List ℕ) → Joined (map unpack l) → Joined (map unpack m) → Below i (map unpack l) → Below j (map unpack m) → timesOf l ≡ timesOf m → (l ≡ m → ⊥)
+  pub decides : (f : ℕ) (l m : List ℕ) → Joined (map unpack l) → Joined (map unpack m) → RunsBelow i (map unpack l) → RunsBelow j (map unpack m) → timesOf l ≡ timesOf m → (l ≡ m → ⊥)
       → length l + length m ≤ f → Decides f cmp l m i j (diffNumbers l m)
   unfolding timesOf
   decides f [] [] J K A B e d h = absurd (d refl)
@@ -158,7 +158,7 @@ module _ (cmp : ℕ → ℕ → Order) (i j : ℕ) where
   decides zero (x ∷ l) (y ∷ m) J K A B e d h = absurd (omega arith)
   decides (suc f) (x ∷ l) (y ∷ m) J K A B e d h =
       go (ℕ-discrete x y) (ℕ-discrete (x % 16384) (y % 16384)) (decLt (x / 16384) (y / 16384))
-      (λ q. decides f l m (joined-tail J) (joined-tail K) (below-tail A) (below-tail B) (same-rest q) (λ z. d (ap₂ (λ (a : ℕ) (t : List ℕ). a ∷ t) q z)) (omega arith))
+      (λ q. decides f l m (joined-tail J) (joined-tail K) (runs-below-tail A) (runs-below-tail B) (same-rest q) (λ z. d (ap₂ (λ (a : ℕ) (t : List ℕ). a ∷ t) q z)) (omega arith))
     where
       same-rest : x ≡ y → timesOf l ≡ timesOf m
       same-rest q = let z : x / 16384 ≡ y / 16384 = ap (λ (k : ℕ). k / 16384) q in omega arith

@@ -7,7 +7,7 @@ use native.Mathlib.Omega.{arith}
 use lib.ListN.{length, getD, take, drop, take-append-drop, length-append}
 use Rattle.spec.specs.Bytes.{pick, sum, Two}
 use Rattle.spec.specs.Pool.{Pool, Node, opNode, joinRuns, sortRuns, intern}
-use Rattle.lgg.specs.Pool.{Below, NodeValid, op-valid}
+use Rattle.lgg.specs.Pool.{RunsBelow, NodeValid, op-valid}
 use Rattle.lgg.specs.PoolSort.{sort-perm, perm-below}
 use Rattle.terms.specs.Buffers.{part, unpack, nodesIn, poolOf, nodeOf, countIn}
 use Rattle.terms.specs.Chains.{Holds}
@@ -43,7 +43,7 @@ module _ (p : Pool) (list : List ℕ) (n : ℕ) where
   ordered-runs true = sorted-runs p (part list 0 n)
   ordered-runs false = refl
 
-  ordered-below : (N : ℕ) (t : Bool) → Below N (map unpack (part list 0 n)) → Below N (pick t (sortRuns p (map unpack (part list 0 n))) (map unpack (part list 0 n)))
+  ordered-below : (N : ℕ) (t : Bool) → RunsBelow N (map unpack (part list 0 n)) → RunsBelow N (pick t (sortRuns p (map unpack (part list 0 n))) (map unpack (part list 0 n)))
   ordered-below N true b = perm-below (sort-perm p (map unpack (part list 0 n))) b
   ordered-below N false b = b
 
@@ -64,7 +64,7 @@ module _ (p : Pool) (list : List ℕ) (n : ℕ) (t : Bool) (list₁ : List ℕ) 
     pub action-node : (o : ℕ) → o < 64 → nodeOf o 0 (part list₂ 0 m) ≡ opNode o (pick t (sortRuns p (map unpack (part list 0 n))) (map unpack (part list 0 n)))
     action-node o h = op-node o (part list₂ 0 m) _ h (ap (map unpack) joined ∙ joined-runs list₁ n ∙ ap (λ (l : List ℕ). joinRuns (map unpack l)) front ∙ ap joinRuns (ordered-runs p list n t))
 
-    pub action-valid : (N o : ℕ) → o < 64 → Below N (map unpack (part list 0 n)) → NodeValid N (nodeOf o 0 (part list₂ 0 m))
+    pub action-valid : (N o : ℕ) → o < 64 → RunsBelow N (map unpack (part list 0 n)) → NodeValid N (nodeOf o 0 (part list₂ 0 m))
     action-valid N o h b = rw (action-node o h) (op-valid N o _ (ordered-below p list n N t b))
 
     many-is : m ≡ length (joinNumbers [] (orderedIn t p list n))

@@ -12,7 +12,7 @@ use Rattle.terms.specs.Comparing.{orderOf}
 use Rattle.terms.specs.declared.Order.the-variants as O
 use Rattle.spec.specs.Pool.{Pool, Order, less, equal, greater, structuralCmp, isGreater, insertRun, sortRuns}
 use Rattle.spec.specs.Meaning.{In, here, there}
-use Rattle.lgg.specs.Pool.{Below, below-cons, below-tail, below-nil}
+use Rattle.lgg.specs.Pool.{RunsBelow, runs-below-cons, runs-below-tail, runs-below-nil}
 use Rattle.lgg.specs.PoolSort.{sort-perm, perm-below}
 use Rattle.terms.specs.Buffers.{part, unpack}
 use Rattle.terms.specs.Sorting.{insertNumber, sortNumbers, within}
@@ -56,7 +56,7 @@ unfolding sortNumbers sum
 sort-sum p [] = refl
 sort-sum p (x ∷ l) = omega (arith, insert-measures p x (sortNumbers p l) .1, sort-sum p l)
 
-pub sort-below : (p : Pool) (i : ℕ) (l : List ℕ) → Below i (map unpack l) → Below i (map unpack (sortNumbers p l))
+pub sort-below : (p : Pool) (i : ℕ) (l : List ℕ) → RunsBelow i (map unpack l) → RunsBelow i (map unpack (sortNumbers p l))
 sort-below p i l b = rw (sorted-runs p l) (perm-below (sort-perm p (map unpack l)) b)
 
 pub part-in : (l : List ℕ) (a n k : ℕ) → k < n → In (unpack (getD l (a + k) 0)) (map unpack (part l a n))
@@ -68,18 +68,18 @@ part-in l a (suc n) (suc k) h = let e : a + suc k ≡ suc a + k = omega arith in
 pub in-part : (l : List ℕ) (n k : ℕ) → k < n → In (unpack (getD l k 0)) (map unpack (part l 0 n))
 in-part l n k h = let e : 0 + k ≡ k = omega arith in rw e at (part-in l 0 n k h)
 
-below-of : (N : ℕ) (l : List ℕ) (a n : ℕ) → ((k : ℕ) → k < n → (unpack (getD l (a + k) 0) .0 < N) × (1 ≤ unpack (getD l (a + k) 0) .1)) → Below N (map unpack (part l a n))
+below-of : (N : ℕ) (l : List ℕ) (a n : ℕ) → ((k : ℕ) → k < n → (unpack (getD l (a + k) 0) .0 < N) × (1 ≤ unpack (getD l (a + k) 0) .1)) → RunsBelow N (map unpack (part l a n))
 unfolding part
-below-of N l a zero h = below-nil N
+below-of N l a zero h = runs-below-nil N
 below-of N l a (suc n) h =
     let e : a + 0 ≡ a = omega arith in
     let (x, y) = rw e at (h 0 (omega arith)) in
-    below-cons {r = unpack (getD l a 0)} x y (below-of N l (suc a) n (λ k q. rest k q))
+    runs-below-cons {r = unpack (getD l a 0)} x y (below-of N l (suc a) n (λ k q. rest k q))
   where
     rest : (k : ℕ) → k < n → (unpack (getD l (suc a + k) 0) .0 < N) × (1 ≤ unpack (getD l (suc a + k) 0) .1)
     rest k q = let e : suc a + k ≡ a + suc k = omega arith in rw e (h (suc k) (omega arith))
 
-pub below-parts : (N : ℕ) (l : List ℕ) (n i : ℕ) → i ≤ n → Below N (map unpack (part l 0 n)) → Below N (map unpack (part l i (n - i)))
+pub below-parts : (N : ℕ) (l : List ℕ) (n i : ℕ) → i ≤ n → RunsBelow N (map unpack (part l 0 n)) → RunsBelow N (map unpack (part l i (n - i)))
 below-parts N l n i h b = below-of N l i (n - i) (λ k q. (b .earlier _ (in-part l n (i + k) (omega arith)), b .counted _ (in-part l n (i + k) (omega arith))))
 
 -- ---- one step of an insertion
@@ -134,10 +134,10 @@ module _ (p : Pool) (l₀ : List ℕ) (i n x : ℕ) (list : List ℕ) (j : ℕ) 
       at l = let z : j + 1 + 0 ≡ j + 1 = omega arith in rw z at (getD-drop (j + 1) l 0 0)
 
   -- both runs that are compared name terms
-  pub moving-left : (N : ℕ) → Below N (map unpack (part l₀ i (n - i))) → getD l₀ i 0 % 16384 < N
+  pub moving-left : (N : ℕ) → RunsBelow N (map unpack (part l₀ i (n - i))) → getD l₀ i 0 % 16384 < N
   moving-left N b = let h = M .before in let f = M .from in let e : i + 0 ≡ i = omega arith in b .earlier (unpack (getD l₀ i 0)) (rw e at (part-in l₀ i (n - i) 0 (omega arith)))
 
-  pub moving-right : (N : ℕ) → j + 1 < n → Below N (map unpack (part l₀ i (n - i))) → getD list (j + 1) 0 % 16384 < N
+  pub moving-right : (N : ℕ) → j + 1 < n → RunsBelow N (map unpack (part l₀ i (n - i))) → getD list (j + 1) 0 % 16384 < N
   moving-right N h b =
       let f = M .from in
       let e : i + (j + 1 - i) ≡ j + 1 = omega arith in
@@ -207,10 +207,10 @@ module _ (p : Pool) (l₀ list : List ℕ) (i k n : ℕ) (e : i ≡ k + 1) (h : 
       let b : drop n list ≡ drop n l₀ = rw W (within-drop l₀ i n (sortNumbers p (part l₀ i (n - i))) long h fits) in
       q ∙ rw (a, b, head-is, rest-is, part-cons l₀ k n (omega arith)) refl
 
-  pub sort-requires : (N : ℕ) → Below N (map unpack (part l₀ 0 n)) → Below N (map unpack (part list k (n - k)))
+  pub sort-requires : (N : ℕ) → RunsBelow N (map unpack (part l₀ 0 n)) → RunsBelow N (map unpack (part list k (n - k)))
   sort-requires N b =
       rw (part-cons list k n (omega arith), head-is, rest-is)
-      (below-cons {r = unpack (getD l₀ k 0)} (b .earlier _ (in-part l₀ n k (omega arith))) (b .counted _ (in-part l₀ n k (omega arith)))
+      (runs-below-cons {r = unpack (getD l₀ k 0)} (b .earlier _ (in-part l₀ n k (omega arith))) (b .counted _ (in-part l₀ n k (omega arith)))
       (sort-below p N (part l₀ (k + 1) (n - (k + 1))) (below-parts N l₀ n (k + 1) (omega arith) b)))
 
 pub sort-end : (p : Pool) (l₀ : List ℕ) (n : ℕ) → within l₀ 0 n (sortNumbers p (part l₀ 0 (n - 0))) ≡ sortNumbers p (part l₀ 0 n) ++ drop (length (sortNumbers p (part l₀ 0 n))) l₀

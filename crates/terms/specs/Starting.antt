@@ -12,9 +12,9 @@ use Rattle.spec.specs.Bytes.{Two, Res, ok, refused, _>>=_}
 use Rattle.spec.specs.Image.{Tables}
 use Rattle.spec.specs.Pool.{Pool, Node, variantsNode, Interned, interned, intern, bestTerm, bestTermIn, startingTerm, joinRuns}
 use Rattle.laws.specs.Valid.{Valid}
-use Rattle.lgg.specs.Bag.{ok-inj, refused-ok}
+use Rattle.lgg.specs.Results.{ok-inj, refused-ok}
 use Rattle.lgg.specs.Pool.{PoolValid, variants-valid}
-use Rattle.lgg.specs.PoolIntern.{Grown, grown-within, intern-enters}
+use Rattle.lgg.specs.PoolIntern.{Extends, extends-within, intern-enters}
 use Rattle.terms.specs.Buffers.{poolOf, nodesIn, countIn}
 use Rattle.terms.specs.Chains.{Holds}
 use Rattle.terms.specs.Interning.{enteredOf, poolAfter}
@@ -77,7 +77,7 @@ module _ (t : Tables) (p : Pool) (l r : ℕ) (terms₁ runs₁ best₁ : List �
             let A = best-again t v p l x hl w e in
             let B = best-again t v (poolOf terms₁ runs₁) r y hr (X .holds .valid) k in
             let i : x .term < length (poolOf terms₁ runs₁) = omega (arith, A .within, ap length g) in
-            (omega (arith, grown-within (B .grown) (x .term) i, ap length n, pool-length terms₂ runs₂), omega (arith, B .within, ap length n, pool-length terms₂ runs₂))
+            (omega (arith, extends-within (B .grown) (x .term) i, ap length n, pool-length terms₂ runs₂), omega (arith, B .within, ap length n, pool-length terms₂ runs₂))
 
         pub start-marked : (terms₃ runs₃ : List ℕ) (o : Entered) → Gives terms₂ runs₂ terms₃ runs₃ (intern (poolOf terms₂ runs₂) (variantsNode a b)) o → Starts t p (l, r) terms₃ runs₃ best₂ o
         start-marked terms₃ runs₃ o G = record { answer = G .answer ∙ sym (ap enteredOf is); holds = G .holds; kept = keeps (intern (poolOf terms₂ runs₂) (variantsNode a b)) refl; pool = λ x q. G .pool ∙ ap (poolAfter (poolOf terms₂ runs₂)) (sym is ∙ q) }

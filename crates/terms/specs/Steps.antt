@@ -25,7 +25,7 @@ use Rattle.terms.specs.declared.Step.the-variants as S
 abbrev pub Steps : List ℕ → List ℕ → ℕ → ℕ → Step → Type 0
 Steps terms runs a b S.Before = (f : ℕ) → structuralCmp (suc f) (poolOf terms runs) a b ≡ less
 Steps terms runs a b S.After = (f : ℕ) → structuralCmp (suc f) (poolOf terms runs) a b ≡ greater
-Steps terms runs a b (S.Below c d) = (c < a) × (d < b) × (c ≢ d) × ((f : ℕ) → structuralCmp (suc f) (poolOf terms runs) a b ≡ structuralCmp f (poolOf terms runs) c d)
+Steps terms runs a b (S.RunsBelow c d) = (c < a) × (d < b) × (c ≢ d) × ((f : ℕ) → structuralCmp (suc f) (poolOf terms runs) a b ≡ structuralCmp f (poolOf terms runs) c d)
 
 -- ---- the definition's step
 abbrev decide : Order → Order → Order
@@ -113,7 +113,7 @@ module _ (terms runs : List ℕ) (H : Holds terms runs) (a b : ℕ) (ha : a < co
   valid-at i h = rw (pool-at terms runs i h) at (H .valid .nodes i (omega (arith, pool-length terms runs)))
 
   pub step-below : headIn terms a ≡ headIn terms b → valueIn terms a ≡ valueIn terms b → timesOf (partIn terms runs a) ≡ timesOf (partIn terms runs b) → (c d : ℕ)
-      → c ≡ diffNumbers (partIn terms runs a) (partIn terms runs b) .0 → d ≡ diffNumbers (partIn terms runs a) (partIn terms runs b) .1 → Steps terms runs a b (S.Below c d)
+      → c ≡ diffNumbers (partIn terms runs a) (partIn terms runs b) .0 → d ≡ diffNumbers (partIn terms runs a) (partIn terms runs b) .1 → Steps terms runs a b (S.RunsBelow c d)
   step-below e v h c d ec ed =
       rw (ec, ed) (D 0 .left, D 0 .right, D 0 .apart, λ f. step f ∙ rw (heads-level e v, compare-equal (timesOf (partIn terms runs a)) (timesOf (partIn terms runs b)) h) (D f .order))
     where
@@ -144,7 +144,7 @@ module _ (terms runs : List ℕ) (x y a b : ℕ) (G : Going terms runs x y a b) 
   fuel-is : G .fuel ≡ suc (G .fuel - 1)
   fuel-is = let h = G .above in omega arith
 
-  pub going-down : (c d : ℕ) → Steps terms runs a b (S.Below c d) → Going terms runs x y c d
+  pub going-down : (c d : ℕ) → Steps terms runs a b (S.RunsBelow c d) → Going terms runs x y c d
   going-down c d (h, k, n, e) = record {
     left = let z = G .left in omega arith;
     right = let z = G .right in omega arith;

@@ -13,7 +13,7 @@ ghost use Rattle.terms.specs.Comparing.{timesOf, headChild, apartNumbers
 ghost use Rattle.terms.specs.Steps.{Steps};
 ghost use Rattle.terms.specs.Sorting.{insertNumber, sortNumbers, within, orderedIn};
 ghost use mathlib.Core.List.{map};
-ghost use Rattle.lgg.specs.Pool.{Below};
+ghost use Rattle.lgg.specs.Pool.{RunsBelow};
 ghost use Rattle.spec.specs.Pool.{structuralCmp, isGreater, intern, litNode, opNode, variantsNode};
 ghost use mathlib.Core.Logic.{_≢_};
 ghost use Rattle.terms.specs.Interning.{Tells, Sought, putTerm, putChain, enterTerm, enterRuns, Interning};
@@ -311,7 +311,7 @@ pub enum Order {
 enum Step {
     Before,
     After,
-    Below(usize, usize),
+    RunsBelow(usize, usize),
 }
 
 struct Children {
@@ -415,7 +415,7 @@ fn compare_runs(terms: &[u32], runs: &[u64], a: usize, b: usize) -> Step
         return Step::After;
     }
     let d = differ(runs, i, m, j, n);
-    Step::Below(d.left, d.right)
+    Step::RunsBelow(d.left, d.right)
 }
 
 // of two different terms
@@ -461,7 +461,7 @@ pub fn structural_cmp(terms: &[u32], runs: &[u64], x: usize, y: usize) -> Order
             Step::After => {
                 return Order::Greater;
             }
-            Step::Below(c, d) => {
+            Step::RunsBelow(c, d) => {
                 a = c;
                 b = d;
             }
@@ -484,7 +484,7 @@ fn is_greater(terms: &[u32], runs: &[u64], a: usize, b: usize) -> bool
 
 // the run at i moved behind the runs before n that come before it
 fn insert(terms: &[u32], runs: &[u64], list: &mut [u64], i: usize, n: usize)
-    requires { ⌜ Holds (now terms) (now runs) × (i < n) × (n ≤ length (now list)) × Below (countIn (now terms)) (map unpack (part (now list) i (n - i))) ⌝ }
+    requires { ⌜ Holds (now terms) (now runs) × (i < n) × (n ≤ length (now list)) × RunsBelow (countIn (now terms)) (map unpack (part (now list) i (n - i))) ⌝ }
     ensures { λ _. ⌜ now (list .exit) ≡ within (now (list .entry)) i n (insertNumber (poolOf (now (terms .entry)) (now (runs .entry))) (getD (now (list .entry)) i 0) (part (now (list .entry)) (i + 1) (n - (i + 1)))) ⌝ }
 {
     let x = list[i];
@@ -503,7 +503,7 @@ fn insert(terms: &[u32], runs: &[u64], list: &mut [u64], i: usize, n: usize)
 
 // the first n runs of list in the structural order of their children
 fn sort(terms: &[u32], runs: &[u64], list: &mut [u64], n: usize)
-    requires { ⌜ Holds (now terms) (now runs) × (n ≤ length (now list)) × Below (countIn (now terms)) (map unpack (part (now list) 0 n)) ⌝ }
+    requires { ⌜ Holds (now terms) (now runs) × (n ≤ length (now list)) × RunsBelow (countIn (now terms)) (map unpack (part (now list) 0 n)) ⌝ }
     ensures { λ _. ⌜ now (list .exit) ≡ over (sortNumbers (poolOf (now (terms .entry)) (now (runs .entry))) (part (now (list .entry)) 0 n)) (now (list .entry)) ⌝ }
 {
     let mut i = n;
@@ -515,7 +515,7 @@ fn sort(terms: &[u32], runs: &[u64], list: &mut [u64], n: usize)
 
 // children of commutative kinds are sorted, others keep their order
 fn order_children(terms: &[u32], runs: &[u64], list: &mut [u64], n: usize, commutative: bool)
-    requires { ⌜ Holds (now terms) (now runs) × (n ≤ length (now list)) × Below (countIn (now terms)) (map unpack (part (now list) 0 n)) ⌝ }
+    requires { ⌜ Holds (now terms) (now runs) × (n ≤ length (now list)) × RunsBelow (countIn (now terms)) (map unpack (part (now list) 0 n)) ⌝ }
     ensures { λ _. ⌜ now (list .exit) ≡ over (orderedIn commutative (poolOf (now (terms .entry)) (now (runs .entry))) (now (list .entry)) n) (now (list .entry)) ⌝ }
 {
     if commutative {
@@ -532,7 +532,7 @@ pub fn intern_action_result(
     op: u32,
     commutative: bool,
 ) -> Entered
-    requires { ⌜ Holds (now terms) (now runs) × (n ≤ length (now list)) × Below (countIn (now terms)) (map unpack (part (now list) 0 n)) × (sum (part (now list) 0 n) < 2 ^ 64) × (op < 64) ⌝ }
+    requires { ⌜ Holds (now terms) (now runs) × (n ≤ length (now list)) × RunsBelow (countIn (now terms)) (map unpack (part (now list) 0 n)) × (sum (part (now list) 0 n) < 2 ^ 64) × (op < 64) ⌝ }
     ensures { λ r. ⌜ ActionResult (now (terms .entry)) (now (runs .entry)) (now (list .entry)) n op commutative (now (terms .exit)) (now (runs .exit)) (now (list .exit)) r ⌝ }
 {
     order_children(terms, runs, list, n, commutative);
