@@ -693,7 +693,7 @@ fn build_best_term(
 }
 
 // The best term of a class, built once.
-pub fn best_term(
+fn best_term(
     s: &[u8],
     im: Image,
     terms: &mut [u32],
@@ -724,7 +724,7 @@ fn variants(terms: &mut [u32], runs: &mut [u64], a: usize, b: usize) -> Entered
 }
 
 // The starting term of a pair of classes: the best term of one class, or the marked place of two best terms.
-pub fn evaluate_generalize_action(
+fn evaluate_generalize_action(
     s: &[u8],
     im: Image,
     terms: &mut [u32],
