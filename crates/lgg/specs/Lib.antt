@@ -35,3 +35,5 @@ pub mod Order
 pub mod OrderSort
 pub mod OrderPools
 pub mod OrderListing
+pub mod TurnAgree
+pub mod TurnBounds
