@@ -37,3 +37,4 @@ pub mod OrderPools
 pub mod OrderListing
 pub mod TurnAgree
 pub mod TurnBounds
+pub mod TurnPlaces

@@ -1,6 +1,6 @@
 -- A turn's quality: the mass is at most the size where it is so of all that the turn reads, and the size does not grow.
 use mathlib.Core.List.{List, [], _∷_, map}
-use Prim.Native.Nat.{ℕ, _*_, _+_, _≤_, _<_}
+use Prim.Native.Nat.{ℕ, _≤_, _<_}
 use native.Mathlib.Nat.{mul-le-mul-right}
 use native.Mathlib.Omega.{arith}
 use Rattle.spec.specs.Bytes.{Two}
