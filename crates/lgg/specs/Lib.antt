@@ -38,3 +38,5 @@ pub mod OrderListing
 pub mod TurnAgree
 pub mod TurnBounds
 pub mod TurnPlaces
+pub mod TurnsFrom
+pub mod RoundsFrom
