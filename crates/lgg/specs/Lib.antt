@@ -40,3 +40,4 @@ pub mod TurnBounds
 pub mod TurnPlaces
 pub mod TurnsFrom
 pub mod RoundsFrom
+pub mod Standing
