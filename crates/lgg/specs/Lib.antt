@@ -41,3 +41,5 @@ pub mod TurnPlaces
 pub mod TurnsFrom
 pub mod RoundsFrom
 pub mod Standing
+pub mod TurnRead
+pub mod RunFrom

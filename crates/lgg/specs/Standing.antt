@@ -1,25 +1,23 @@
 -- What holds of the state between two rounds, and of the pool in the middle of one.
-use mathlib.Core.Path.{_≡_, refl, sym, ap, _∙_}
+use mathlib.Core.Path.{_≡_, refl, sym, _∙_}
 use mathlib.Core.Logic.{_⊎_, inl, inr}
 use mathlib.Core.Bool.{Bool, true, false}
 use mathlib.Core.List.{List, [], _∷_, _++_, map}
 use Prim.Native.Nat.{ℕ, zero, suc, _+_, _^_, _≤_, _<_}
 use native.Mathlib.Nat.{not-suc-le-zero, eq-or-lt-of-le}
-use native.Mathlib.Numerals.{add-one}
 use native.Mathlib.Omega.{arith}
 use lib.Dec.{eqb}
 use lib.ListN.{length, getD, length-append, List·getD-append}
 use Rattle.spec.specs.Bytes.{pick, place, Two, sameTwo, Res, ok, refused, Checked, passed, cutShort}
 use Rattle.spec.specs.Image.{Tables, bestSize}
-use Rattle.spec.specs.Action.{joins}
 use Rattle.spec.specs.Graph.{build}
-use Rattle.spec.specs.Pool.{Pool, Interned, interned, startingTerm}
-use Rattle.spec.specs.Round.{startingQuality, lookUp, Choice, stay, act, Turn, turnOf, turnsOf, planRuns, choiceTerm, Terms, turnsTerms}
-use Rattle.spec.specs.Run.{State, startingTerms, Outcome, outcome, started}
+use Rattle.spec.specs.Pool.{Pool, Interned, startingTerm}
+use Rattle.spec.specs.Round.{startingQuality, lookUp, Choice, stay, act, turnOf, planRuns, choiceTerm, Terms}
+use Rattle.spec.specs.Run.{State, startingTerms, outcome, started}
 use Rattle.spec.specs.Listing.{listingOf}
 use Rattle.spec.specs.Meaning.{In, here, there, Reachable, queried, joined}
 use Rattle.laws.specs.Valid.{Valid}
-use Rattle.lgg.specs.Lists.{clash, length-map, get-in, in-get, in-cons, same-refl}
+use Rattle.lgg.specs.Lists.{length-map, get-in, same-refl}
 use Rattle.lgg.specs.Results.{ok-inj, refused-ok, passed-inj, cut-passed}
 use Rattle.lgg.specs.Rounds.{Closed}
 use Rattle.lgg.specs.Graph.{build-whole}
