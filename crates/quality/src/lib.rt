@@ -58,6 +58,13 @@ fn put8(s: &mut [u64], at: usize, v: u64)
 }
 
 // ---- what is known of a pair
+// where each field of `pairs` begins
+const SIZE: usize = 0;
+
+const MASS: usize = 4096;
+
+const TERM: usize = 8192;
+
 fn number_of(index: &[u16], l: usize, r: usize) -> usize
     requires { ⌜ (65536 ≤ length (now index)) × (l < 256) × (r < 256) ⌝ }
     ensures { λ x. ⌜ x ≡ numberIn (now (index .entry)) (l, r) ⌝ }
@@ -65,28 +72,34 @@ fn number_of(index: &[u16], l: usize, r: usize) -> usize
     num(index[l * 256 + r])
 }
 
+// The number of the pair (l, r) in the field that begins at `at`.
+fn field(index: &[u16], pairs: &[u32], n: usize, l: usize, r: usize, at: usize) -> u32
+    requires { ⌜ Known n (now index) (now pairs) × (l < 256) × (r < 256) × (at ≤ 8192) ⌝ }
+    ensures { λ x. ⌜ x ≡ getD (now (pairs .entry)) (at + numberIn (now (index .entry)) (l, r)) 0 ⌝ }
+{
+    let k = number_of(index, l, r);
+    pairs[at + k]
+}
+
 pub fn size_of(index: &[u16], pairs: &[u32], n: usize, l: usize, r: usize) -> u32
     requires { ⌜ Known n (now index) (now pairs) × (l < 256) × (r < 256) ⌝ }
     ensures { λ x. ⌜ x ≡ qualityIn (now (index .entry)) (now (pairs .entry)) (l, r) .0 ⌝ }
 {
-    let k = number_of(index, l, r);
-    pairs[k]
+    field(index, pairs, n, l, r, SIZE)
 }
 
 pub fn mass_of(index: &[u16], pairs: &[u32], n: usize, l: usize, r: usize) -> u32
     requires { ⌜ Known n (now index) (now pairs) × (l < 256) × (r < 256) ⌝ }
     ensures { λ x. ⌜ x ≡ qualityIn (now (index .entry)) (now (pairs .entry)) (l, r) .1 ⌝ }
 {
-    let k = number_of(index, l, r);
-    pairs[4096 + k]
+    field(index, pairs, n, l, r, MASS)
 }
 
 pub fn term_of(index: &[u16], pairs: &[u32], n: usize, l: usize, r: usize) -> u32
     requires { ⌜ Known n (now index) (now pairs) × (l < 256) × (r < 256) ⌝ }
     ensures { λ x. ⌜ x ≡ termIn (now (index .entry)) (now (pairs .entry)) (l, r) ⌝ }
 {
-    let k = number_of(index, l, r);
-    pairs[8192 + k]
+    field(index, pairs, n, l, r, TERM)
 }
 
 // "compared by size, then mass"
