@@ -155,7 +155,15 @@ fn offer(s: &[u8], im: Image, v: State, index: &[u16], pairs: &[u32], n: usize, 
 }
 
 // The pair's own quality, or the first strictly best of its structural actions.
-pub fn best_aligned(s: &[u8], im: Image, index: &[u16], pairs: &[u32], n: usize, l: usize, r: usize) -> Best
+pub fn best_aligned(
+    s: &[u8],
+    im: Image,
+    index: &[u16],
+    pairs: &[u32],
+    n: usize,
+    l: usize,
+    r: usize,
+) -> Best
     requires { ⌜ Loaded (now s) im × Valid (tablesOf (now s)) × (l < im .classes) × (r < im .classes) × Known n (now index) (now pairs) ⌝ }
     ensures { λ x. ⌜ Aligns (tablesOf (now (s .entry))) (qualityIn (now (index .entry)) (now (pairs .entry))) (l, r) x ⌝ }
 {
@@ -179,7 +187,15 @@ pub fn best_aligned(s: &[u8], im: Image, index: &[u16], pairs: &[u32], n: usize,
 }
 
 // The terms of a structural action's pairs, each once: how many.
-pub fn list_action(s: &[u8], im: Image, v: State, index: &[u16], pairs: &[u32], n: usize, list: &mut [u64]) -> usize
+pub fn list_action(
+    s: &[u8],
+    im: Image,
+    v: State,
+    index: &[u16],
+    pairs: &[u32],
+    n: usize,
+    list: &mut [u64],
+) -> usize
     requires { ⌜ Loaded (now s) im × Valid (tablesOf (now s)) × Stands (tablesOf (now s)) v × Known n (now index) (now pairs) × (64 ≤ length (now list)) ⌝ }
     ensures { λ m. ⌜ (m ≡ length (runsOf (termIn (now (index .entry)) (now (pairs .entry))) (actionAt (tablesOf (now (s .entry))) v .pairs))) × (now (list .exit) ≡ over (runsOf (termIn (now (index .entry)) (now (pairs .entry))) (actionAt (tablesOf (now (s .entry))) v .pairs)) (now (list .entry))) ⌝ }
 {

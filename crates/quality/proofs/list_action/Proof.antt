@@ -9,14 +9,6 @@ use mathlib.Core.Path.{sym, _∙_}
 use borrow.Author.Needs.{needs}
 use Rattle.quality.proofs.list_action.Statement.{statement}
 use Rattle.quality.proofs.list_action.Tie as tie
-use Rattle.quality.proofs.list_action.Reads as reads
-use Rattle.quality.proofs.list_action.Lts as lts
-use Rattle.actions.proofs.count.Reads as count-reads
-use Rattle.actions.proofs.left_class.Reads as left-class-reads
-use Rattle.actions.proofs.right_class.Reads as right-class-reads
-use Rattle.quality.proofs.num8.Reads as num8-reads
-use Rattle.quality.proofs.put8.Reads as put8-reads
-use Rattle.quality.proofs.term_of.Reads as term-of-reads
 
 abbrev Inv-loop : tie.InvT-loop
 Inv-loop s im v index pairs n list₀ m k₀ list k = Listed (termIn index pairs) (actionAt (tablesOf s) v .pairs) list₀ k list
@@ -30,19 +22,23 @@ count-requires c κs = search needs
 
 -- src/lib.rt:175:5
 loop-holds : tie.Need-loop-holds Inv-loop μ-loop
-loop-holds c = search needs
+loop-holds c =
+    let a = c .before .before .before .before .before in listed-none (termIn (a .args .index .now) (a .args .pairs .now)) (actionAt (tablesOf (a .args .s .now)) (a .args .v) .pairs) (a .args .list .now)
 
 -- src/lib.rt:176:13
 left-class-requires : tie.Need-left-class-requires Inv-loop μ-loop
-left-class-requires c κs = search needs
+left-class-requires c κs =
+    let a = c .before .before .before .before .before .before .before in (a .pre .0, a .pre .1, a .pre .2, omega (arith, c .loop-test .taken, c .before .before .count .ensures .0))
 
 -- src/lib.rt:177:13
 right-class-requires : tie.Need-right-class-requires Inv-loop μ-loop
-right-class-requires c κs = search needs
+right-class-requires c κs =
+    let a = c .before .before .before .before .before .before .before .before in (a .pre .0, a .pre .1, a .pre .2, omega (arith, c .before .loop-test .taken, c .before .before .before .count .ensures .0))
 
 -- src/lib.rt:178:36
 term-of-requires : tie.Need-term-of-requires Inv-loop μ-loop
-term-of-requires c κs = search needs
+term-of-requires c κs =
+    let a = c .before .before .before .before .before .before .before .before .before .before in (a .pre .3, class-few (a .args .s .now) (a .args .im) (a .pre .0) (a .pre .1) _ (c .before .before .left-class .ensures .1), class-few (a .args .s .now) (a .args .im) (a .pre .0) (a .pre .1) _ (c .before .right-class .ensures .1))
 
 -- src/lib.rt:178:31
 num8-requires : tie.Need-num8-requires Inv-loop μ-loop
@@ -66,7 +62,11 @@ loop-less c = search needs
 
 -- src/lib.rt:175:5
 loop-again : tie.Need-loop-again Inv-loop μ-loop
-loop-again c = ?
+loop-again c =
+    let l = c .before .before .before .before .before .before .before .before .before in let a = l .before .before .before .before .before .before in
+    listed-more (termIn (a .args .index .now) (a .args .pairs .now)) (actionAt (tablesOf (a .args .s .now)) (a .args .v) .pairs) (a .args .list .now) (l .loop .k) (l .loop .list) (l .loop .inv) (omega (arith, c .before .before .before .before .before .before .before .before .loop-test .taken, l .before .count .ensures .0))
+    (omega (arith, c .before .before .before .before .before .before .before .before .loop-test .taken, l .before .count .ensures .1, l .loop .inv .same, a .pre .4)) _ _ _ _
+    (c .before .before .before .before .before .before .before .left-class .ensures .0) (c .before .before .before .before .before .before .right-class .ensures .0) (c .before .before .before .num8 .ensures .0 ∙ c .before .before .before .before .term-of .ensures) (c .before .before .put8 .ensures)
 
 -- src/lib.rt:169:1
 same-length : tie.Need-same-length Inv-loop μ-loop
@@ -74,7 +74,11 @@ same-length c = search needs
 
 -- src/lib.rt:169:1
 returns : tie.Need-returns Inv-loop μ-loop
-returns c = ?
+returns c =
+    let l = c .before in let a = l .before .before .before .before .before .before in (
+      l .before .count .ensures .0 ∙ sym (many-runs (termIn (a .args .index .now) (a .args .pairs .now)) (actionAt (tablesOf (a .args .s .now)) (a .args .v) .pairs)),
+      listed-all (termIn (a .args .index .now) (a .args .pairs .now)) (actionAt (tablesOf (a .args .s .now)) (a .args .v) .pairs) (a .args .list .now) (l .loop .k) (l .loop .list) (l .loop .inv) (omega (arith, c .loop-test .left, l .before .count .ensures .0)),
+    )
 
 pub list-action-spec : {M : Type 1} → statement M
 list-action-spec =
