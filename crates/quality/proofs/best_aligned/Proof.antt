@@ -1,7 +1,7 @@
 use Rattle.quality.specs.Known.{qualityIn}
 use Rattle.quality.specs.Offers.{Going, going-first, going-on, going-last, fewer}
-use Rattle.quality.proofs.Within.{class-few}
-use Rattle.actions.specs.Remaining.{StandsFound, foundIn, listFrom}
+use Rattle.quality.specs.Within.{class-few}
+use Rattle.actions.specs.Remaining.{listFrom}
 use Rattle.spec.specs.Image.{tablesOf}
 use mathlib.Core.Path.{_∙_}
 use lib.ListN.{length}
@@ -79,7 +79,7 @@ loop-less : tie.Need-loop-less Inv-loop μ-loop
 loop-less c =
     let l = c .before .before .before .before .before .before in let a = l .before .before .before .before .before .before .before .before .before in
     let k = rw (c .before .before .before .v .given .1) at (c .before .before .before .before .before .seek .ensures) in
-    fewer (tablesOf (a .args .s .now)) (qualityIn (a .args .index .now) (a .args .pairs .now)) (a .args .l) (a .args .r) (l .loop .w) _ _ (k .0) (c .after .ensures)
+    fewer (tablesOf (a .args .s .now)) (a .args .l) (a .args .r) (l .loop .w) _ _ (k .0) (c .after .ensures)
 
 -- src/lib.rt:168:5
 loop-again : tie.Need-loop-again Inv-loop μ-loop

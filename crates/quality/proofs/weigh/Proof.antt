@@ -1,6 +1,6 @@
 use Rattle.quality.specs.Known.{qualityIn}
 use Rattle.quality.specs.Sums.{Summed, summed-none, summed-more, summed-all}
-use Rattle.quality.proofs.Within.{class-few}
+use Rattle.quality.specs.Within.{class-few}
 use Rattle.actions.specs.Remaining.{actionAt}
 use Rattle.spec.specs.Image.{tablesOf}
 use Prim.Native.Nat.{_-_}
