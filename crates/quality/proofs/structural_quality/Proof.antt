@@ -16,60 +16,60 @@ Inv-loop s im v index pairs n m size₀ mass₀ k₀ size mass k = Summed (quali
 abbrev μ-loop : tie.MeasureT-loop
 μ-loop s im v index pairs n m size₀ mass₀ k₀ size mass k = m - k
 
--- src/lib.rt:124:9
+-- src/lib.rt:131:9
 count-requires : tie.Need-count-requires Inv-loop μ-loop
 count-requires c κs = search needs
 
--- src/lib.rt:128:5
+-- src/lib.rt:135:5
 loop-holds : tie.Need-loop-holds Inv-loop μ-loop
 loop-holds c =
     let a = c .before .before .before .before in summed-none (qualityIn (a .args .index .now) (a .args .pairs .now)) (actionAt (tablesOf (a .args .s .now)) (a .args .v) .pairs)
 
--- src/lib.rt:129:13
+-- src/lib.rt:136:13
 left-class-requires : tie.Need-left-class-requires Inv-loop μ-loop
 left-class-requires c κs =
     let a = c .before .before .before .before .before .before in (a .pre .0, a .pre .1, a .pre .2, omega (arith, c .loop-test .taken, c .before .before .count .ensures .0))
 
--- src/lib.rt:130:13
+-- src/lib.rt:137:13
 right-class-requires : tie.Need-right-class-requires Inv-loop μ-loop
 right-class-requires c κs =
     let a = c .before .before .before .before .before .before .before in (a .pre .0, a .pre .1, a .pre .2, omega (arith, c .before .loop-test .taken, c .before .before .before .count .ensures .0))
 
--- src/lib.rt:131:22
+-- src/lib.rt:138:22
 size-of-requires : tie.Need-size-of-requires Inv-loop μ-loop
 size-of-requires c κs =
     let a = c .before .before .before .before .before .before .before .before in (a .pre .3, class-few (a .args .s .now) (a .args .im) (a .pre .0) (a .pre .1) _ (c .before .left-class .ensures .1), class-few (a .args .s .now) (a .args .im) (a .pre .0) (a .pre .1) _ (c .right-class .ensures .1))
 
--- src/lib.rt:131:17
+-- src/lib.rt:138:17
 num8-requires : tie.Need-num8-requires Inv-loop μ-loop
 num8-requires c κs = search needs
 
--- src/lib.rt:131:9
+-- src/lib.rt:138:9
 add-size : tie.Need-add-size Inv-loop μ-loop
 add-size c = search needs
 
--- src/lib.rt:132:22
+-- src/lib.rt:139:22
 mass-of-requires : tie.Need-mass-of-requires Inv-loop μ-loop
 mass-of-requires c κs =
     let a = c .before .before .before .before .before .before .before .before .before .before in (a .pre .3, class-few (a .args .s .now) (a .args .im) (a .pre .0) (a .pre .1) _ (c .before .before .before .left-class .ensures .1), class-few (a .args .s .now) (a .args .im) (a .pre .0) (a .pre .1) _ (c .before .before .right-class .ensures .1))
 
--- src/lib.rt:132:17
+-- src/lib.rt:139:17
 num8-requires-2 : tie.Need-num8-requires-2 Inv-loop μ-loop
 num8-requires-2 c κs = search needs
 
--- src/lib.rt:132:9
+-- src/lib.rt:139:9
 add-mass : tie.Need-add-mass Inv-loop μ-loop
 add-mass c = search needs
 
--- src/lib.rt:133:9
+-- src/lib.rt:140:9
 add-k : tie.Need-add-k Inv-loop μ-loop
 add-k c = search needs
 
--- src/lib.rt:128:5
+-- src/lib.rt:135:5
 loop-less : tie.Need-loop-less Inv-loop μ-loop
 loop-less c = search needs
 
--- src/lib.rt:128:5
+-- src/lib.rt:135:5
 loop-again : tie.Need-loop-again Inv-loop μ-loop
 loop-again c =
     let l = c .before .before .before .before .before .before .before in let a = l .before .before .before .before .before in
