@@ -5,7 +5,7 @@ ghost use Prim.Native.Nat.{ℕ, suc, _+_, _*_, _-_, _^_, _/_, _%_, _≤_, _<_};
 ghost use lib.ListN.{length, getD, set};
 ghost use lib.Seq.{paste};
 ghost use Rattle.lgg.specs.Pool.{NodeValid};
-ghost use Rattle.terms.specs.Buffers.{COUNT, NUMBERS, firstIn, headIn, valueIn, chainIn, bucketIn, countIn, part, unpack, poolOf, nodeOf, nodeIn};
+ghost use Rattle.terms.specs.Buffers.{BUCKETS, BUCKET, COUNT, NUMBERS, firstIn, headIn, valueIn, chainIn, bucketIn, countIn, part, unpack, poolOf, nodeOf, nodeIn};
 ghost use Rattle.terms.specs.Chains.{mixOf, fold, keyOf, keyIn, Holds};
 ghost use Rattle.terms.specs.Joining.{appendNumber, joinedIn, over, Begins};
 ghost use Rattle.spec.specs.Bytes.{sum};
@@ -17,6 +17,7 @@ ghost use Rattle.lgg.specs.Pool.{RunsBelow};
 ghost use Rattle.spec.specs.Pool.{structuralCmp, isGreater, intern, litNode, opNode, variantsNode};
 ghost use mathlib.Core.Logic.{_≢_};
 ghost use Rattle.terms.specs.Interning.{Tells, Sought, putTerm, putChain, enterTerm, enterRuns, Interning};
+ghost use Rattle.terms.specs.Emptying.{zeroed, emptied};
 ghost use Rattle.terms.specs.Results.{ActionResult};
 ghost use Rattle.terms.specs.Bests.{Gives, Kept, Built, keptRun, keptNumber, memberNode, MemberReady};
 ghost use Rattle.terms.specs.Building.{Builds};
@@ -31,6 +32,8 @@ pub const RUNS: usize = 65536;
 
 // the numbers of `terms`: four a term, the end of the runs, the chains' last terms, the count
 pub const BUCKET: usize = 65537;
+
+const BUCKETS: usize = 4096;
 
 pub const COUNT: usize = 69633;
 
@@ -102,6 +105,28 @@ pub fn value(terms: &[u32], t: usize) -> u32
     ensures { λ r. ⌜ r ≡ valueIn (now (terms .entry)) t ⌝ }
 {
     terms[t * 4 + 2]
+}
+
+// ---- the empty pool
+fn clear_chains(terms: &mut [u32])
+    requires { ⌜ NUMBERS ≤ length (now terms) ⌝ }
+    ensures { λ _. ⌜ now (terms .exit) ≡ zeroed BUCKET BUCKETS (now (terms .entry)) ⌝ }
+{
+    let mut b = 0;
+    while b < BUCKETS {
+        put(terms, BUCKET + b, 0);
+        b += 1;
+    }
+}
+
+// No term, whatever the buffer held.
+pub fn empty(terms: &mut [u32])
+    requires { ⌜ NUMBERS ≤ length (now terms) ⌝ }
+    ensures { λ _. ⌜ now (terms .exit) ≡ emptied (now (terms .entry)) ⌝ }
+{
+    put(terms, 0, 0);
+    clear_chains(terms);
+    put(terms, COUNT, 0);
 }
 
 // ---- the key of a node
