@@ -20,6 +20,8 @@ pub mod Results
 pub mod ResultLaws
 pub mod BestLaws
 pub mod Bests
+pub mod Reaching
+pub mod ReachLaws
 pub mod BestRuns
 pub mod Building
 pub mod Starting
