@@ -176,8 +176,7 @@ fn run(words: &[&str]) -> Result<(), String> {
         }
         ["pairs", path] => {
             let frames = unpack(&read(path)?)?;
-            let text: String = frames.iter().map(|frame| pairs::of_frame(frame)).collect();
-            stdout(text.as_bytes())
+            stdout(pairs::of_frames(&frames, Slip::None).as_bytes())
         }
         ["bytes"] => {
             let text = String::from_utf8(stdin()?).map_err(|why| why.to_string())?;
