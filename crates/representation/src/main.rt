@@ -190,7 +190,7 @@ fn front(s: &[u8], n: usize) {
     }
 }
 
-// the frames of the input, which is read into a lent array
+// the frames of the input's first 262,144 bytes
 fn run(input: &mut [u8; 262144]) {
     let n = io::read_full(STDIN_FILENO, input);
     front(input, n);

@@ -1,6 +1,5 @@
 use Rattle.laws.specs.Accepted.{valid}
 use Rattle.spec.specs.Image.{tablesOf}
-use Prim.Native.Nat.{_-_}
 use mathlib.Core.Path.{sym}
 use borrow.Author.Needs.{needs}
 use Rattle.representation.proofs.query.Statement.{statement}
