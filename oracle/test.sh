@@ -11,6 +11,8 @@ cargo build --release --offline --quiet
 cargo test --release --offline --quiet -p harness
 bin=target/release
 $bin/model --stream <sample/frames.bin | cmp - sample/answers.bin
+cmp sample/frames.bin ../crates/representation/stdin
+$bin/harness pairs sample/frames.bin | cmp - ../crates/representation/stdout
 for name in E airport night luggage cap zones; do
     $bin/harness bytes <"../examples/$name.txt" | $bin/listed | cmp - "../examples/$name.listing"
 done

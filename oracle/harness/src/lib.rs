@@ -7,6 +7,7 @@ pub mod r#gen;
 pub mod img;
 pub mod judge;
 pub mod limits;
+pub mod pairs;
 pub mod plans;
 pub mod rng;
 pub mod sample;

@@ -6,7 +6,7 @@ use std::io::{Read, Write};
 use harness::drive::{Counts, compare};
 use harness::img::{Img, Query};
 use harness::judge::{Judge, pack, unpack};
-use harness::{damage, draw, limits, plans, sample, small, text};
+use harness::{damage, draw, limits, pairs, plans, sample, small, text};
 use model::slip::Slip;
 
 fn stdin() -> Result<Vec<u8>, String> {
@@ -173,6 +173,10 @@ fn run(words: &[&str]) -> Result<(), String> {
                 .flat_map(|(frame, answer)| [frame, answer])
                 .collect();
             stdout(&pack(&both))
+        }
+        ["pairs", path] => {
+            let frames = unpack(&read(path)?)?;
+            stdout(pairs::of_frames(&frames, Slip::None).as_bytes())
         }
         ["bytes"] => {
             let text = String::from_utf8(stdin()?).map_err(|why| why.to_string())?;

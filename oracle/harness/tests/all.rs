@@ -4,7 +4,7 @@
 use harness::drive::{Counts, compare};
 use harness::img::Img;
 use harness::judge::{Judge, unpack};
-use harness::{damage, draw, limits, plans, sample, small, text};
+use harness::{damage, draw, limits, pairs, plans, sample, small, text};
 use model::belongs::{Belongs, Reading};
 use model::brute::Derivations;
 use model::slip::{SLIPS, Slip};
@@ -149,6 +149,26 @@ fn every_slip_is_caught_by_the_sample() {
     for &(slip, name, _) in SLIPS {
         let equal = sample::EQUAL.contains(&name);
         assert!(equal || sample::catches(&stored, slip), "{name}");
+    }
+}
+
+/// What program `representation` is held to tells the model from its slips.
+#[test]
+fn stored_pairs_catch_the_slips_of_monomials() {
+    let frames = unpack(&bytes("sample/frames.bin")).unwrap();
+    let stored = file("../crates/representation/stdout");
+    assert!(pairs::of_frames(&frames, Slip::None) == stored);
+    for slip in [
+        Slip::NoSelfMonomial,
+        Slip::SelfOnlyWithoutMember,
+        Slip::SelfFirst,
+        Slip::SetAsOnce,
+        Slip::PadLeftOnly,
+        Slip::SkipAtLimit,
+        Slip::OneSidedMissing,
+        Slip::OperationsAsMet,
+    ] {
+        assert!(pairs::of_frames(&frames, slip) != stored, "{slip:?}");
     }
 }
 
