@@ -1,0 +1,4 @@
+pub mod Building
+pub mod Growing
+pub mod ListLaws
+pub mod GrowLaws
