@@ -2,3 +2,4 @@ pub mod Building
 pub mod Growing
 pub mod ListLaws
 pub mod GrowLaws
+pub mod JoinLaws
