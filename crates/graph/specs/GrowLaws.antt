@@ -2,7 +2,7 @@
 use mathlib.Core.Path.{_≡_, refl, sym, ap, _∙_}
 use mathlib.Core.Logic.{inl, inr, ⊎-elim}
 use mathlib.Core.Bool.{Bool, true, false}
-use mathlib.Core.List.{List, [], _∷_, _++_}
+use mathlib.Core.List.{List, [], _∷_, _++_, append-nil}
 use Prim.Native.Nat.{ℕ, zero, suc, _+_, _*_, _≤_, _<_}
 use native.Mathlib.Nat.{le-refl, le-trans}
 use native.Mathlib.Numerals.{add-one}
@@ -213,3 +213,8 @@ module _ {g : Res (List Two)} {rest : List Two} {n₀ : ℕ} {lefts₀ rights₀
   -- nothing is left
   pub going-end : rest ≡ [] → Grows g n₀ lefts₀ rights₀ lefts rights index (To n)
   going-end e = record { says = rw e at d }
+
+  -- the rest as one list, whatever the answer
+  pub going-last : {lefts′ rights′ index′ : List ℕ} (x : Grown) → Grows (enterAll (pairsIn n lefts rights) rest) n lefts rights lefts′ rights′ index′ x → Grows g n₀ lefts₀ rights₀ lefts′ rights′ index′ x
+  going-last (To m) w = record { says = going-on rest [] (sym (append-nil rest)) (To m) w refl }
+  going-last Full w = going-full rest [] (sym (append-nil rest)) Full w refl

@@ -151,6 +151,9 @@ module _ (t : Tables) (v : Valid t) (l r : ℕ) (a : l < length (t .classes)) (b
   pub small-pair : (p : Two) → IsPair t p → Small p
   small-pair p (x, y) = (omega (arith, x, v .counts .fewClasses), omega (arith, y, v .counts .fewClasses))
 
+  pub joins-small : AllSmall (joins t (l, r))
+  joins-small p i = small-pair p (joins-within t v (l, r) (a, b) p i)
+
   pub structural-small : AllSmall (pairsOf (structural t l r))
   unfolding joins
   structural-small p i = small-pair p (joins-within t v (l, r) (a, b) p (in-left (cellsOf (transports t l r)) i))

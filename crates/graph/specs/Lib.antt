@@ -3,3 +3,4 @@ pub mod Growing
 pub mod ListLaws
 pub mod GrowLaws
 pub mod JoinLaws
+pub mod TurnLaws
