@@ -4,3 +4,4 @@ pub mod ListLaws
 pub mod GrowLaws
 pub mod JoinLaws
 pub mod TurnLaws
+pub mod Built
