@@ -1,7 +1,7 @@
 -- "Graph. Built in full, it holds the queried pair and, with each pair, every pair of classes that an action of it joins": what `build` leaves in its three buffers.
 use mathlib.Core.Path.{_≡_}
 use mathlib.Core.List.{List, [], _∷_, _++_, map}
-use Prim.Native.Nat.{ℕ, zero, suc, _+_, _*_}
+use Prim.Native.Nat.{ℕ, suc, _+_, _*_}
 use lib.ListN.{length, drop, set, replicate}
 use Rattle.spec.specs.Bytes.{Two, Res, ok, refused, Checked, passed, cutShort}
 use Rattle.budget.specs.Budget.{budgetOf}

@@ -1,7 +1,7 @@
 -- What holds of a graph that is built in full: "it holds the queried pair and, with each pair, every pair of classes that an action of it joins. Its n pairs are counted once each."
-use mathlib.Core.Path.{_≡_, refl, sym, ap, _∙_}
+use mathlib.Core.Path.{_≡_, refl, ap, _∙_}
 use mathlib.Core.Bool.{Bool, true, false}
-use mathlib.Core.List.{List, [], _∷_, _++_, map}
+use mathlib.Core.List.{List, [], _∷_, map}
 use Prim.Native.Nat.{ℕ, zero, suc, _+_, _*_, _≤_, _<_}
 use native.Mathlib.Nat.{not-suc-le-zero}
 use native.Mathlib.Decide.{decLt}
@@ -10,15 +10,15 @@ use lib.ListN.{length, getD, take, replicate, length-map, length-replicate, getD
 use Rattle.spec.specs.Bytes.{Two, any, place, sameTwo, Res, ok, passed, Checked}
 use Rattle.spec.specs.Image.{Tables}
 use Rattle.spec.specs.Graph.{PAIRS, build}
-use Rattle.spec.specs.Meaning.{In, here, there, Reachable, queried, joined}
+use Rattle.spec.specs.Meaning.{In, Reachable, queried, joined}
 use Rattle.laws.specs.Valid.{Valid}
-use Rattle.lgg.specs.Lists.{in-nil, get-in, same-refl, same-eq, Distinct, none, more, clash}
+use Rattle.lgg.specs.Lists.{get-in, same-refl, same-eq, Distinct, none, more}
 use Rattle.lgg.specs.Results.{refused-ok, ok-inj, passed-inj, cut-passed}
 use Rattle.lgg.specs.BestMembers.{IsPair}
 use Rattle.lgg.specs.ReadingsWithin.{joins-within}
 use Rattle.lgg.specs.Graph as L
 use Rattle.graph.specs.Building.{code, numbered, over}
-use Rattle.graph.specs.Growing.{Small, AllSmall}
+use Rattle.graph.specs.Growing.{AllSmall}
 use Rattle.graph.specs.ListLaws.{numbered-length, Numbered, kept, given, numbered-at, code-one}
 
 -- ---- lists without repeats

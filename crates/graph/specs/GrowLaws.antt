@@ -1,25 +1,25 @@
 -- Entering pairs: one pair, by what the index says; then list after list. Assumes nothing.
 use mathlib.Core.Path.{_≡_, refl, sym, ap, _∙_}
-use mathlib.Core.Logic.{inl, inr, ⊎-elim}
+use mathlib.Core.Logic.{⊎-elim}
 use mathlib.Core.Bool.{Bool, true, false}
 use mathlib.Core.List.{List, [], _∷_, _++_, append-nil}
-use Prim.Native.Nat.{ℕ, zero, suc, _+_, _*_, _≤_, _<_}
+use Prim.Native.Nat.{ℕ, _+_, _*_, _≤_, _<_}
 use native.Mathlib.Nat.{le-refl, le-trans}
 use native.Mathlib.Numerals.{add-one}
 use native.Mathlib.Omega.{arith}
-use borrow.Author.Tests.{lt-ltb, le-ltb, eq-eqb, ne-eqb, eqb-true, eqb-false}
-use lib.Dec.{ltb, eqb}
-use lib.ListN.{length, getD, drop, set, length-set, length-append, length-replicate, replicate}
+use borrow.Author.Tests.{lt-ltb, le-ltb, eqb-true, eqb-false}
+use lib.Dec.{eqb}
+use lib.ListN.{length, getD, set, length-set, length-replicate, replicate}
 use lib.Seq.{drop-set-lt}
-use Rattle.spec.specs.Bytes.{Two, any, pick, sameTwo, Res, ok, refused, _>>=_}
+use Rattle.spec.specs.Bytes.{Two, any, sameTwo, Res, ok, refused, _>>=_}
 use Rattle.spec.specs.Graph.{PAIRS, enter, enterAll}
-use Rattle.spec.specs.Meaning.{In, here, there}
+use Rattle.spec.specs.Meaning.{In, there}
 use Rattle.lgg.specs.Lists.{in-left, in-right, in-append, in-cons, in-nil, is-in, in-any, get-in}
 use Rattle.graph.specs.declared.Grown.{Grown}
 use Rattle.graph.specs.declared.Grown.the-variants.{To, Full}
-use Rattle.graph.specs.Building.{code, numbered, cleared}
-use Rattle.graph.specs.Growing.{pairsIn, Small, AllSmall, Graph, Going, GrowsTo, Grows}
-use Rattle.graph.specs.ListLaws.{drop-later, pairs-length, pairs-at, pairs-set, numbered-length, numbered-last, Numbered, kept, given, numbered-at, code-one}
+use Rattle.graph.specs.Building.{numbered, cleared}
+use Rattle.graph.specs.Growing.{pairsIn, AllSmall, Graph, Going, Grows}
+use Rattle.graph.specs.ListLaws.{drop-later, pairs-length, pairs-at, pairs-set, numbered-last, Numbered, kept, given, numbered-at, code-one}
 
 -- ---- whether a pair is known
 module _ {n : ℕ} {lefts rights index : List ℕ} (g : Graph n lefts rights index) (l r : ℕ) (a : l < 256) (b : r < 256) where

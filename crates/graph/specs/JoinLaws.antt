@@ -1,18 +1,15 @@
 -- What is left to be entered at each turn: pairs of an action, actions, columns, rows, transports. Assumes nothing.
-use mathlib.Core.Path.{_≡_, refl, sym, ap, _∙_}
-use mathlib.Core.List.{List, [], _∷_, _++_, map, append-nil}
-use Prim.Native.Nat.{ℕ, zero, suc, _+_, _*_, _≤_, _<_}
-use native.Mathlib.Nat.{min-eq-left}
+use mathlib.Core.Path.{_≡_, refl, ap, _∙_}
+use mathlib.Core.List.{List, [], _∷_, _++_, map}
+use Prim.Native.Nat.{ℕ, suc, _+_, _≤_, _<_}
 use native.Mathlib.Numerals.{add-one}
 use native.Mathlib.Omega.{arith}
-use lib.ListN.{length, getD, take, drop, drop-of-length-le}
+use lib.ListN.{length, getD, drop, drop-of-length-le}
 use lib.Seq.{drop-cons, getD-take, length-take-le}
 use Rattle.spec.specs.Bytes.{Two, each}
 use Rattle.spec.specs.Image.{Tables}
 use Rattle.spec.specs.Monomial.{Monomial, classes, pairOf}
 use Rattle.spec.specs.Action.{Action, TransportAction, structural, transports, cellPairs, joins}
-use Rattle.spec.specs.Graph.{enterAll}
-use Rattle.spec.specs.Meaning.{In}
 use Rattle.laws.specs.Valid.{Valid}
 use Rattle.lgg.specs.Lists.{in-left, in-right}
 use Rattle.lgg.specs.BestMembers.{IsPair}

@@ -1,17 +1,16 @@
 -- Laws of lists that the graph rests on: pairs in two buffers, and numbers in the index. Assumes nothing.
 use mathlib.Core.Path.{_≡_, refl, sym, ap, _∙_}
-use mathlib.Core.Logic.{_⊎_, inl, inr}
 use mathlib.Core.List.{List, [], _∷_, _++_, map, append-assoc}
 use Prim.Native.Nat.{ℕ, zero, suc, _+_, _-_, _≤_, _<_}
 use native.Mathlib.Nat.{not-suc-le-zero, le-of-suc-le-suc}
 use native.Mathlib.Decide.{ℕ-discrete}
 use native.Mathlib.Omega.{arith}
-use lib.ListN.{length, getD, take, drop, set, replicate, length-set, length-append}
+use lib.ListN.{length, getD, take, drop, set, length-set}
 use lib.Seq.{getD-set-same, getD-set-other, drop-drop}
 use Rattle.spec.specs.Bytes.{Two, each}
 use Rattle.spec.specs.Meaning.{In, here, there}
 use Rattle.graph.specs.Building.{code, numbered}
-use Rattle.graph.specs.Growing.{pairsIn, Small, AllSmall}
+use Rattle.graph.specs.Growing.{pairsIn, Small}
 
 -- ---- lists, one after the other
 pub each-append : {A B : Type 0} (f : A → List B) (a b : List A) → each f (a ++ b) ≡ each f a ++ each f b

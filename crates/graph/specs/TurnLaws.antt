@@ -1,20 +1,19 @@
 -- Building: pair after pair, with a check before each one's turn. Assumes nothing.
 use mathlib.Core.Path.{_≡_, refl, sym, ap, _∙_}
-use mathlib.Core.Logic.{inl, inr, ⊎-elim}
-use mathlib.Core.Bool.{Bool, true, false, not}
+use mathlib.Core.Logic.{⊎-elim}
+use mathlib.Core.Bool.{true, false, not}
 use mathlib.Core.List.{List, [], _∷_, _++_, map}
 use Prim.Native.Nat.{ℕ, zero, suc, _+_, _*_, _-_, _≤_, _<_}
 use native.Mathlib.Numerals.{add-one}
 use native.Mathlib.Omega.{arith}
 use borrow.Author.Tests.{lt-ltb, le-ltb}
-use lib.Dec.{ltb}
-use lib.ListN.{length, getD, take, drop, set, replicate, length-set, length-map, length-replicate, take-append-drop}
+use lib.ListN.{length, getD, drop, set, replicate, length-map, length-replicate, take-append-drop}
 use lib.Seq.{drop-set-lt}
 use Rattle.spec.specs.Bytes.{Two, Res, ok, refused, _>>=_, Checked, passed, cutShort}
 use Rattle.spec.specs.Image.{Tables}
 use Rattle.spec.specs.Action.{joins}
 use Rattle.spec.specs.Graph.{PAIRS, enterAll, buildFrom, build}
-use Rattle.spec.specs.Meaning.{In, here, there}
+use Rattle.spec.specs.Meaning.{In, there}
 use Rattle.laws.specs.Valid.{Valid}
 use Rattle.lgg.specs.Lists.{in-nil, in-cons, get-in, clash}
 use Rattle.lgg.specs.Results.{refused-ok, ok-inj}
@@ -23,13 +22,13 @@ use Rattle.lgg.specs.BestMembers.{IsPair}
 use Rattle.lgg.specs.ReadingsWithin.{joins-within}
 use Rattle.budget.specs.declared.Budget.{Budget}
 use Rattle.budget.specs.declared.Spent.{Spent}
-use Rattle.budget.specs.Budget.{budgetOf, spendAt, spendOf}
+use Rattle.budget.specs.Budget.{spendAt, spendOf}
 use Rattle.graph.specs.declared.Grown as G
 use Rattle.graph.specs.declared.Grown.the-variants as K
 use Rattle.graph.specs.declared.Built.{Built}
 use Rattle.graph.specs.declared.Built.the-variants.{All, Cut, Full}
-use Rattle.graph.specs.Building.{code, numbered, over, cleared, builtOf, leftsAfter, rightsAfter, indexAfter, Builds}
-use Rattle.graph.specs.Growing.{pairsIn, Small, AllSmall, AllPairs, Graph, Going, Grows, Whole, Ends}
+use Rattle.graph.specs.Building.{numbered, over, cleared, Builds}
+use Rattle.graph.specs.Growing.{pairsIn, Small, AllPairs, Graph, Going, Grows, Whole, Ends}
 use Rattle.graph.specs.ListLaws.{drop-later, pairs-length, pairs-at, pairs-lefts, pairs-rights, pairs-set}
 use Rattle.graph.specs.GrowLaws.{graph-more}
 

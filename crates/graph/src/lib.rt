@@ -285,8 +285,8 @@ fn enter_transport(
     requires { ⌜ Loaded (now s) im × Valid (tablesOf (now s)) × (l < im .classes) × (r < im .classes) × (w .op < im .operations) × Graph n (now lefts) (now rights) (now index) × AllSmall (each (λ a. cellPairs (a .sides)) (actionsAt (tablesOf (now s)) l r w)) ⌝ }
     ensures { λ x. ⌜ Grows (enterAll (pairsIn n (now (lefts .entry)) (now (rights .entry))) (each (λ a. cellPairs (a .sides)) (actionsAt (tablesOf (now (s .entry))) l r w))) n (now (lefts .entry)) (now (rights .entry)) (now (lefts .exit)) (now (rights .exit)) (now (index .exit)) x ⌝ }
 {
-    let mut left = [0u64; 130];
-    let mut right = [0u64; 130];
+    let mut left = [0u64; ac_repr::NUMBERS];
+    let mut right = [0u64; ac_repr::NUMBERS];
     match monomials(s, im, l, r, w, &mut left, &mut right) {
         Padded::Nothing => Grown::To(n),
         Padded::Pair(rows, cols) => enter_cells(&left, rows, &right, cols, lefts, rights, index, n),

@@ -3,23 +3,13 @@ use Rattle.image.specs.Loaded.{classes-many}
 use Rattle.graph.specs.TurnLaws.{begin-graph, begin-pairs, finish-all, finish-cut, finish-full}
 use Rattle.graph.specs.JoinLaws.{small-pair}
 use Rattle.spec.specs.Image.{tablesOf}
-use borrow.Author.Tests.{lt-ltb, le-ltb, le-leb, lt-leb, eq-eqb, ne-eqb}
-use Prim.Native.Nat.{ℕ, zero, suc, _≤_, _<_, _-_, _+_, _*_, _^_}
+use Prim.Native.Nat.{ℕ, _<_, _-_}
 use native.Mathlib.Omega.{arith}
-use native.Mathlib.Numerals.{add-one}
-use mathlib.Core.Path.{_≡_, refl, ap, sym, _∙_}
-use mathlib.Core.Logic.{⊎-elim}
-use mathlib.Core.List.{List, [], _∷_, _++_, append-nil}
-use lib.ListN.{length, take, drop, getD, set, length-set, length-take, length-drop, length-append, drop-of-length-le}
+use mathlib.Core.Path.{ap, _∙_}
+use lib.ListN.{length}
 use borrow.Author.Needs.{needs}
 use Rattle.graph.proofs.build.Statement.{statement}
 use Rattle.graph.proofs.build.Tie as tie
-use Rattle.graph.proofs.build.Reads as reads
-use Rattle.graph.proofs.build.Lts as lts
-use Rattle.graph.proofs.append.Reads as append-reads
-use Rattle.graph.proofs.build_from.Reads as build-from-reads
-use Rattle.graph.proofs.clear2.Reads as clear2-reads
-use Rattle.graph.proofs.clear_all.Reads as clear-all-reads
 
 -- src/lib.rt:403:5
 clear2-requires : tie.Need-clear2-requires
@@ -27,7 +17,8 @@ clear2-requires c κs = search needs
 
 -- src/lib.rt:404:5
 append-requires : tie.Need-append-requires
-append-requires c κs = let b = c .before .before .before .before .before .before .before .before .before .before .before in
+append-requires c κs =
+    let b = c .before .before .before .before .before .before .before .before .before .before .before in
     let t = tablesOf (b .args .s .now) in
     let l = b .args .l in
     let r = b .args .r in
@@ -38,7 +29,8 @@ append-requires c κs = let b = c .before .before .before .before .before .befor
 
 -- src/lib.rt:405:11
 build-from-requires : tie.Need-build-from-requires
-build-from-requires c κs = let b = c .before .before .before .before .before .before .before .before .before .before .before .before .before .before .before .before .before .before .before .before .before in
+build-from-requires c κs =
+    let b = c .before .before .before .before .before .before .before .before .before .before .before .before .before .before .before .before .before .before .before .before .before in
     let t = tablesOf (b .args .s .now) in
     let l = b .args .l in
     let r = b .args .r in
@@ -80,7 +72,8 @@ same-length-3 c = search needs
 
 -- src/lib.rt:390:1
 returns : tie.Need-returns
-returns c = let b = c .before .before .before .before .before .before .before .before .before .before .before .before .before .before .before .before .before .before .before .before .before .before .before .before .before .before .before .before .before .before .before in
+returns c =
+    let b = c .before .before .before .before .before .before .before .before .before .before .before .before .before .before .before .before .before .before .before .before .before .before .before .before .before .before .before .before .before .before .before in
     let t = tablesOf (b .args .s .now) in
     let l = b .args .l in
     let r = b .args .r in
@@ -102,7 +95,8 @@ same-length-6 c = search needs
 
 -- src/lib.rt:390:1
 returns-2 : tie.Need-returns-2
-returns-2 c = let b = c .before .before .before .before .before .before .before .before .before .before .before .before .before .before .before .before .before .before .before .before .before .before .before .before .before .before .before .before .before .before .before .before .before .before .before .before .before .before .before .before in
+returns-2 c =
+    let b = c .before .before .before .before .before .before .before .before .before .before .before .before .before .before .before .before .before .before .before .before .before .before .before .before .before .before .before .before .before .before .before .before .before .before .before .before .before .before .before .before in
     let t = tablesOf (b .args .s .now) in
     let l = b .args .l in
     let r = b .args .r in
@@ -124,7 +118,8 @@ same-length-9 c = search needs
 
 -- src/lib.rt:390:1
 returns-3 : tie.Need-returns-3
-returns-3 c = let b = c .before .before .before .before .before .before .before .before .before .before .before .before .before .before .before .before .before .before .before .before .before .before .before .before .before .before .before .before .before .before .before .before .before .before .before .before .before .before .before .before in
+returns-3 c =
+    let b = c .before .before .before .before .before .before .before .before .before .before .before .before .before .before .before .before .before .before .before .before .before .before .before .before .before .before .before .before .before .before .before .before .before .before .before .before .before .before .before .before in
     let t = tablesOf (b .args .s .now) in
     let l = b .args .l in
     let r = b .args .r in

@@ -1,18 +1,13 @@
 use lib.ListN.{replicate}
 use borrow.Author.Fill.{fill-more}
 use borrow.Author.Needs.{needs}
-use borrow.Author.Tests.{lt-ltb, le-ltb, le-leb, lt-leb, eq-eqb, ne-eqb}
-use Prim.Native.Nat.{ℕ, zero, suc, _≤_, _<_, _-_, _+_, _*_, _^_}
+use Prim.Native.Nat.{_≤_, _<_, _-_, _+_}
 use native.Mathlib.Omega.{arith}
-use native.Mathlib.Numerals.{add-one}
-use mathlib.Core.Path.{_≡_, refl, ap, sym, _∙_}
-use mathlib.Core.Logic.{⊎-elim}
-use mathlib.Core.List.{List, [], _∷_, _++_, append-nil}
-use lib.ListN.{length, take, drop, getD, set, length-set, length-take, length-drop, length-append, drop-of-length-le}
+use mathlib.Core.Path.{_≡_}
+use mathlib.Core.List.{_++_, append-nil}
+use lib.ListN.{length, drop, length-set, drop-of-length-le}
 use Rattle.graph.proofs.clear2.Statement.{statement}
 use Rattle.graph.proofs.clear2.Tie as tie
-use Rattle.graph.proofs.clear2.Reads as reads
-use Rattle.graph.proofs.clear2.Lts as lts
 
 abbrev Inv-loop : tie.InvT-loop
 Inv-loop s₀ k₀ s k = (k ≤ length s₀) × (length s ≡ length s₀) × (s ≡ replicate k 0 ++ drop k s₀)
@@ -56,7 +51,8 @@ same-length c = search needs
 
 -- src/lib.rt:78:1
 returns : tie.Need-returns Inv-loop μ-loop
-returns c = let e = c .before .loop .inv .2 in
+returns c =
+    let e = c .before .loop .inv .2 in
     let l : length (c .before .before .args .s .now) ≡ c .before .loop .k = omega arith in
     let d : length (c .before .before .args .s .now) ≤ c .before .loop .k = omega arith in
     simp (e, drop-of-length-le, append-nil, l)

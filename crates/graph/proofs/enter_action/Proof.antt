@@ -4,24 +4,15 @@ use Rattle.graph.specs.Growing.{pairsIn, Going}
 use Rattle.spec.specs.Image.{tablesOf}
 use Rattle.spec.specs.Graph.{enterAll}
 use Rattle.spec.specs.Meaning.{here}
-use Rattle.graph.specs.GrowLaws.{going-start, going-same, going-small, going-on, going-full, going-end}
+use Rattle.graph.specs.GrowLaws.{going-start, going-small, going-on, going-full, going-end}
 use borrow.Author.Needs.{needs}
-use borrow.Author.Tests.{lt-ltb, le-ltb, le-leb, lt-leb, eq-eqb, ne-eqb}
-use Prim.Native.Nat.{ℕ, zero, suc, _≤_, _<_, _-_, _+_, _*_, _^_}
+use Prim.Native.Nat.{_≤_, _<_, _-_, _+_}
 use native.Mathlib.Omega.{arith}
-use native.Mathlib.Numerals.{add-one}
-use mathlib.Core.Path.{_≡_, refl, ap, sym, _∙_}
-use mathlib.Core.Logic.{⊎-elim}
-use mathlib.Core.List.{List, [], _∷_, _++_, append-nil}
-use lib.ListN.{length, take, drop, getD, set, length-set, length-take, length-drop, length-append, drop-of-length-le}
+use mathlib.Core.Path.{_≡_, refl}
+use mathlib.Core.List.{[], _∷_}
+use lib.ListN.{length, drop}
 use Rattle.graph.proofs.enter_action.Statement.{statement}
 use Rattle.graph.proofs.enter_action.Tie as tie
-use Rattle.graph.proofs.enter_action.Reads as reads
-use Rattle.graph.proofs.enter_action.Lts as lts
-use Rattle.actions.proofs.count.Reads as count-reads
-use Rattle.actions.proofs.left_class.Reads as left-class-reads
-use Rattle.actions.proofs.right_class.Reads as right-class-reads
-use Rattle.graph.proofs.enter_pair.Reads as enter-pair-reads
 
 abbrev Inv-loop : tie.InvT-loop
 Inv-loop s im v lefts₀ rights₀ index₀ n0 many n₀ k₀ lefts rights index n k = (k ≤ many) × Going (enterAll (pairsIn n0 lefts₀ rights₀) (actionAt (tablesOf s) v .pairs)) (drop k (actionAt (tablesOf s) v .pairs)) n0 lefts₀ rights₀ n lefts rights index × (length lefts ≡ length lefts₀) × (length rights ≡ length rights₀) × (length index ≡ length index₀)
@@ -39,21 +30,24 @@ loop-holds c = let b = c .before .before .before .before .before in (omega arith
 
 -- src/lib.rt:162:13
 left-class-requires : tie.Need-left-class-requires Inv-loop μ-loop
-left-class-requires c κs = let b = c .before .before .before .before .before .before .before in
+left-class-requires c κs =
+    let b = c .before .before .before .before .before .before .before in
     let ps = actionAt (tablesOf (b .args .s .now)) (b .args .v) .pairs in
     let h : c .before .loop .k < length ps = omega (arith, c .before .before .count .ensures .0, c .loop-test .taken) in
     (b .pre .0, b .pre .1, b .pre .2, h)
 
 -- src/lib.rt:163:13
 right-class-requires : tie.Need-right-class-requires Inv-loop μ-loop
-right-class-requires c κs = let b = c .before .before .before .before .before .before .before .before in
+right-class-requires c κs =
+    let b = c .before .before .before .before .before .before .before .before in
     let ps = actionAt (tablesOf (b .args .s .now)) (b .args .v) .pairs in
     let h : c .before .before .loop .k < length ps = omega (arith, c .before .before .before .count .ensures .0, c .before .loop-test .taken) in
     (b .pre .0, b .pre .1, b .pre .2, h)
 
 -- src/lib.rt:164:15
 enter-pair-requires : tie.Need-enter-pair-requires Inv-loop μ-loop
-enter-pair-requires c κs = let b = c .before .before .before .before .before .before .before .before .before .before .before .before in
+enter-pair-requires c κs =
+    let b = c .before .before .before .before .before .before .before .before .before .before .before .before in
     let ps = actionAt (tablesOf (b .args .s .now)) (b .args .v) .pairs in
     let h : c .before .before .before .before .before .before .loop .k < length ps = omega (arith, c .before .before .before .before .before .before .before .count .ensures .0, c .before .before .before .before .before .loop-test .taken) in
     let p = going-small (c .before .before .before .before .before .before .loop .inv .1) ((c .before .before .before .before .left-class .result, c .before .before .before .right-class .result) ∷ []) (drop (c .before .before .before .before .before .before .loop .k + 1) ps) (pair-next ps (c .before .before .before .before .before .before .loop .k) (c .before .before .before .before .left-class .result) (c .before .before .before .right-class .result) h (c .before .before .before .before .left-class .ensures .0) (c .before .before .before .right-class .ensures .0)) (c .before .before .before .before .left-class .result, c .before .before .before .right-class .result) here in
@@ -77,7 +71,8 @@ same-length-3 c = search needs
 
 -- src/lib.rt:166:17
 returns : tie.Need-returns Inv-loop μ-loop
-returns c = let b = c .before .before .before .before .before .before .before .before .before .before .before .before .before .before .before .before .before .before .before .before .before in
+returns c =
+    let b = c .before .before .before .before .before .before .before .before .before .before .before .before .before .before .before .before .before .before .before .before .before in
     let ps = actionAt (tablesOf (b .args .s .now)) (b .args .v) .pairs in
     let h : c .before .before .before .before .before .before .before .before .before .before .before .before .before .before .before .loop .k < length ps = omega (arith, c .before .before .before .before .before .before .before .before .before .before .before .before .before .before .before .before .count .ensures .0, c .before .before .before .before .before .before .before .before .before .before .before .before .before .before .loop-test .taken) in
     going-full (c .before .before .before .before .before .before .before .before .before .before .before .before .before .before .before .loop .inv .1) ((c .before .before .before .before .before .before .before .before .before .before .before .before .before .left-class .result, c .before .before .before .before .before .before .before .before .before .before .before .before .right-class .result) ∷ []) (drop (c .before .before .before .before .before .before .before .before .before .before .before .before .before .before .before .loop .k + 1) ps) (pair-next ps (c .before .before .before .before .before .before .before .before .before .before .before .before .before .before .before .loop .k) (c .before .before .before .before .before .before .before .before .before .before .before .before .before .left-class .result) (c .before .before .before .before .before .before .before .before .before .before .before .before .right-class .result) h (c .before .before .before .before .before .before .before .before .before .before .before .before .before .left-class .ensures .0) (c .before .before .before .before .before .before .before .before .before .before .before .before .right-class .ensures .0)) (c .before .before .before .before .before .before .before .before .enter-pair .result) (c .before .before .before .before .before .before .before .before .enter-pair .ensures) (c .enum-told .given .1)
@@ -96,7 +91,8 @@ loop-less c = search needs
 
 -- src/lib.rt:161:5
 loop-again : tie.Need-loop-again Inv-loop μ-loop
-loop-again c = let b = c .before .before .before .before .before .before .before .before .before .before .before .before .before .before .before .before .before .before .before .before .before .before in
+loop-again c =
+    let b = c .before .before .before .before .before .before .before .before .before .before .before .before .before .before .before .before .before .before .before .before .before .before in
     let ps = actionAt (tablesOf (b .args .s .now)) (b .args .v) .pairs in
     let h : c .before .before .before .before .before .before .before .before .before .before .before .before .before .before .before .before .loop .k < length ps = omega (arith, c .before .before .before .before .before .before .before .before .before .before .before .before .before .before .before .before .before .count .ensures .0, c .before .before .before .before .before .before .before .before .before .before .before .before .before .before .before .loop-test .taken) in
     (omega (arith, c .before .before .before .before .before .before .before .before .before .before .before .before .before .before .before .loop-test .taken), going-on (c .before .before .before .before .before .before .before .before .before .before .before .before .before .before .before .before .loop .inv .1) ((c .before .before .before .before .before .before .before .before .before .before .before .before .before .before .left-class .result, c .before .before .before .before .before .before .before .before .before .before .before .before .before .right-class .result) ∷ []) (drop (c .before .before .before .before .before .before .before .before .before .before .before .before .before .before .before .before .loop .k + 1) ps) (pair-next ps (c .before .before .before .before .before .before .before .before .before .before .before .before .before .before .before .before .loop .k) (c .before .before .before .before .before .before .before .before .before .before .before .before .before .before .left-class .result) (c .before .before .before .before .before .before .before .before .before .before .before .before .before .right-class .result) h (c .before .before .before .before .before .before .before .before .before .before .before .before .before .before .left-class .ensures .0) (c .before .before .before .before .before .before .before .before .before .before .before .before .before .right-class .ensures .0)) (c .before .before .before .before .before .before .before .before .before .enter-pair .result) (c .before .before .before .before .before .before .before .before .before .enter-pair .ensures) (c .before .m .given .1), omega (arith, c .before .before .before .before .before .before .before .before .before .before .before .before .before .before .before .before .loop .inv .2, c .before .before .before .before .before .before .before .before .before .enter-pair .kept), omega (arith, c .before .before .before .before .before .before .before .before .before .before .before .before .before .before .before .before .loop .inv .3, c .before .before .before .before .before .before .before .before .before .enter-pair .kept), omega (arith, c .before .before .before .before .before .before .before .before .before .before .before .before .before .before .before .before .loop .inv .4, c .before .before .before .before .before .before .before .before .before .enter-pair .kept))
@@ -115,7 +111,8 @@ same-length-6 c = search needs
 
 -- src/lib.rt:146:1
 returns-2 : tie.Need-returns-2 Inv-loop μ-loop
-returns-2 c = let b = c .before .before .before .before .before .before .before in
+returns-2 c =
+    let b = c .before .before .before .before .before .before .before in
     let ps = actionAt (tablesOf (b .args .s .now)) (b .args .v) .pairs in
     going-end (c .before .loop .inv .1) (pair-end ps (c .before .loop .k) (omega (arith, c .before .before .count .ensures .0, c .loop-test .left)))
 

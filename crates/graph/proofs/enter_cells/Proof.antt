@@ -3,26 +3,15 @@ use Rattle.spec.specs.Action.{cellPairs}
 use Rattle.spec.specs.Monomial.{pairOf}
 use Rattle.graph.specs.JoinLaws.{rowFrom, cellsFrom, cells-start, cells-next, cells-end}
 use Rattle.graph.specs.Growing.{pairsIn, Going}
-use Rattle.spec.specs.Image.{tablesOf}
 use Rattle.spec.specs.Graph.{enterAll}
-use Rattle.spec.specs.Meaning.{here}
 use Rattle.graph.specs.GrowLaws.{going-start, going-same, going-small, going-on, going-full, going-end}
 use borrow.Author.Needs.{needs}
-use borrow.Author.Tests.{lt-ltb, le-ltb, le-leb, lt-leb, eq-eqb, ne-eqb}
-use Prim.Native.Nat.{ℕ, zero, suc, _≤_, _<_, _-_, _+_, _*_, _^_}
+use Prim.Native.Nat.{_≤_, _-_, _+_}
 use native.Mathlib.Omega.{arith}
-use native.Mathlib.Numerals.{add-one}
-use mathlib.Core.Path.{_≡_, refl, ap, sym, _∙_}
-use mathlib.Core.Logic.{⊎-elim}
-use mathlib.Core.List.{List, [], _∷_, _++_, append-nil}
-use lib.ListN.{length, take, drop, getD, set, length-set, length-take, length-drop, length-append, drop-of-length-le}
+use mathlib.Core.Path.{_≡_, refl}
+use lib.ListN.{length}
 use Rattle.graph.proofs.enter_cells.Statement.{statement}
 use Rattle.graph.proofs.enter_cells.Tie as tie
-use Rattle.graph.proofs.enter_cells.Reads as reads
-use Rattle.graph.proofs.enter_cells.Lts as lts
-use Rattle.ac_repr.proofs.class_at.Reads as class-at-reads
-use Rattle.graph.proofs.enter_row.Reads as enter-row-reads
-use Rattle.graph.proofs.short.Reads as short-reads
 
 abbrev Inv-loop : tie.InvT-loop
 Inv-loop left rows right cols lefts₀ rights₀ index₀ n0 n₀ i₀ lefts rights index n i = (i ≤ rows) × Going (enterAll (pairsIn n0 lefts₀ rights₀) (cellPairs (pairOf (held rows left) (held cols right)))) (cellsFrom rows left cols right i) n0 lefts₀ rights₀ n lefts rights index × (length lefts ≡ length lefts₀) × (length rights ≡ length rights₀) × (length index ≡ length index₀)
@@ -32,14 +21,16 @@ abbrev μ-loop : tie.MeasureT-loop
 
 -- src/lib.rt:258:5
 loop-holds : tie.Need-loop-holds Inv-loop μ-loop
-loop-holds c = let b = c .before .before .before .before .before in
+loop-holds c =
+    let b = c .before .before .before .before .before in
     let ls = b .args .left .now in
     let rs = b .args .right .now in
     (omega arith, going-same (going-start (cellPairs (pairOf (held (b .args .rows) ls) (held (b .args .cols) rs))) (b .pre .4) (b .pre .5)) (cellsFrom (b .args .rows) ls (b .args .cols) rs 0) (cells-start (b .args .rows) ls (b .args .cols) rs (b .pre .0) (b .pre .1)), refl, refl, refl)
 
 -- src/lib.rt:259:23
 class-at-requires : tie.Need-class-at-requires Inv-loop μ-loop
-class-at-requires c κs = let b = c .before .before .before .before .before .before .before in
+class-at-requires c κs =
+    let b = c .before .before .before .before .before .before .before in
     let ls = b .args .left .now in
     let rs = b .args .right .now in
     (b .pre .0, omega (arith, b .pre .1, c .loop-test .taken))
@@ -50,7 +41,8 @@ short-requires c κs = search needs
 
 -- src/lib.rt:260:15
 enter-row-requires : tie.Need-enter-row-requires Inv-loop μ-loop
-enter-row-requires c κs = let b = c .before .before .before .before .before .before .before .before .before .before .before .before in
+enter-row-requires c κs =
+    let b = c .before .before .before .before .before .before .before .before .before .before .before .before in
     let ls = b .args .left .now in
     let rs = b .args .right .now in
     (b .pre .2, b .pre .3, c .before .before .before .before .before .before .loop .inv .1 .graph, going-small (c .before .before .before .before .before .before .loop .inv .1) (rowFrom (c .before .before .before .short .result) (b .args .cols) rs 0) (cellsFrom (b .args .rows) ls (b .args .cols) rs (c .before .before .before .before .before .before .loop .i + 1)) (cells-next (b .args .rows) ls (b .args .cols) rs (b .pre .0) (b .pre .1) (c .before .before .before .before .before .before .loop .i) (c .before .before .before .short .result) (c .before .before .before .before .class-at .result) (c .before .before .before .before .before .loop-test .taken) (c .before .before .before .short .ensures) (c .before .before .before .before .class-at .ensures)))
@@ -73,7 +65,8 @@ same-length-3 c = search needs
 
 -- src/lib.rt:262:17
 returns : tie.Need-returns Inv-loop μ-loop
-returns c = let b = c .before .before .before .before .before .before .before .before .before .before .before .before .before .before .before .before .before .before .before .before .before in
+returns c =
+    let b = c .before .before .before .before .before .before .before .before .before .before .before .before .before .before .before .before .before .before .before .before .before in
     let ls = b .args .left .now in
     let rs = b .args .right .now in
     going-full (c .before .before .before .before .before .before .before .before .before .before .before .before .before .before .before .loop .inv .1) (rowFrom (c .before .before .before .before .before .before .before .before .before .before .before .before .short .result) (b .args .cols) rs 0) (cellsFrom (b .args .rows) ls (b .args .cols) rs (c .before .before .before .before .before .before .before .before .before .before .before .before .before .before .before .loop .i + 1)) (cells-next (b .args .rows) ls (b .args .cols) rs (b .pre .0) (b .pre .1) (c .before .before .before .before .before .before .before .before .before .before .before .before .before .before .before .loop .i) (c .before .before .before .before .before .before .before .before .before .before .before .before .short .result) (c .before .before .before .before .before .before .before .before .before .before .before .before .before .class-at .result) (c .before .before .before .before .before .before .before .before .before .before .before .before .before .before .loop-test .taken) (c .before .before .before .before .before .before .before .before .before .before .before .before .short .ensures) (c .before .before .before .before .before .before .before .before .before .before .before .before .before .class-at .ensures)) (c .before .before .before .before .before .before .before .before .enter-row .result) (c .before .before .before .before .before .before .before .before .enter-row .ensures) (c .enum-told .given .1)
@@ -92,7 +85,8 @@ loop-less c = search needs
 
 -- src/lib.rt:258:5
 loop-again : tie.Need-loop-again Inv-loop μ-loop
-loop-again c = let b = c .before .before .before .before .before .before .before .before .before .before .before .before .before .before .before .before .before .before .before .before .before .before in
+loop-again c =
+    let b = c .before .before .before .before .before .before .before .before .before .before .before .before .before .before .before .before .before .before .before .before .before .before in
     let ls = b .args .left .now in
     let rs = b .args .right .now in
     (omega (arith, c .before .before .before .before .before .before .before .before .before .before .before .before .before .before .before .loop-test .taken), going-on (c .before .before .before .before .before .before .before .before .before .before .before .before .before .before .before .before .loop .inv .1) (rowFrom (c .before .before .before .before .before .before .before .before .before .before .before .before .before .short .result) (b .args .cols) rs 0) (cellsFrom (b .args .rows) ls (b .args .cols) rs (c .before .before .before .before .before .before .before .before .before .before .before .before .before .before .before .before .loop .i + 1)) (cells-next (b .args .rows) ls (b .args .cols) rs (b .pre .0) (b .pre .1) (c .before .before .before .before .before .before .before .before .before .before .before .before .before .before .before .before .loop .i) (c .before .before .before .before .before .before .before .before .before .before .before .before .before .short .result) (c .before .before .before .before .before .before .before .before .before .before .before .before .before .before .class-at .result) (c .before .before .before .before .before .before .before .before .before .before .before .before .before .before .before .loop-test .taken) (c .before .before .before .before .before .before .before .before .before .before .before .before .before .short .ensures) (c .before .before .before .before .before .before .before .before .before .before .before .before .before .before .class-at .ensures)) (c .before .before .before .before .before .before .before .before .before .enter-row .result) (c .before .before .before .before .before .before .before .before .before .enter-row .ensures) (c .before .m .given .1), omega (arith, c .before .before .before .before .before .before .before .before .before .before .before .before .before .before .before .before .loop .inv .2, c .before .before .before .before .before .before .before .before .before .enter-row .kept), omega (arith, c .before .before .before .before .before .before .before .before .before .before .before .before .before .before .before .before .loop .inv .3, c .before .before .before .before .before .before .before .before .before .enter-row .kept), omega (arith, c .before .before .before .before .before .before .before .before .before .before .before .before .before .before .before .before .loop .inv .4, c .before .before .before .before .before .before .before .before .before .enter-row .kept))
@@ -111,7 +105,8 @@ same-length-6 c = search needs
 
 -- src/lib.rt:243:1
 returns-2 : tie.Need-returns-2 Inv-loop μ-loop
-returns-2 c = let b = c .before .before .before .before .before .before .before in
+returns-2 c =
+    let b = c .before .before .before .before .before .before .before in
     let ls = b .args .left .now in
     let rs = b .args .right .now in
     going-end (c .before .loop .inv .1) (cells-end (b .args .rows) ls (b .args .cols) rs (b .pre .0) (b .pre .1) (c .before .loop .i) (c .loop-test .left))

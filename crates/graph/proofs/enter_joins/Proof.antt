@@ -1,26 +1,13 @@
 use Rattle.spec.specs.Action.{structural, transports, joins}
 use Rattle.graph.specs.JoinLaws.{pairsOf, cellsOf, joins-small, joins-are}
-use Rattle.image.specs.Loaded.{classes-many, operations-many}
-use Rattle.graph.specs.Growing.{pairsIn, Going}
+use Rattle.image.specs.Loaded.{classes-many}
 use Rattle.spec.specs.Image.{tablesOf}
-use Rattle.spec.specs.Graph.{enterAll}
-use Rattle.spec.specs.Meaning.{here}
-use Rattle.graph.specs.GrowLaws.{going-start, going-same, going-small, going-on, going-full, going-end, going-last}
-use borrow.Author.Tests.{lt-ltb, le-ltb, le-leb, lt-leb, eq-eqb, ne-eqb}
-use Prim.Native.Nat.{ℕ, zero, suc, _≤_, _<_, _-_, _+_, _*_, _^_}
+use Rattle.graph.specs.GrowLaws.{going-start, going-on, going-full, going-last}
+use Prim.Native.Nat.{_-_}
 use native.Mathlib.Omega.{arith}
-use native.Mathlib.Numerals.{add-one}
-use mathlib.Core.Path.{_≡_, refl, ap, sym, _∙_}
-use mathlib.Core.Logic.{⊎-elim}
-use mathlib.Core.List.{List, [], _∷_, _++_, append-nil}
-use lib.ListN.{length, take, drop, getD, set, length-set, length-take, length-drop, length-append, drop-of-length-le}
 use borrow.Author.Needs.{needs}
 use Rattle.graph.proofs.enter_joins.Statement.{statement}
 use Rattle.graph.proofs.enter_joins.Tie as tie
-use Rattle.graph.proofs.enter_joins.Reads as reads
-use Rattle.graph.proofs.enter_joins.Lts as lts
-use Rattle.graph.proofs.enter_actions.Reads as enter-actions-reads
-use Rattle.graph.proofs.enter_transports.Reads as enter-transports-reads
 
 -- src/lib.rt:346:11
 enter-actions-requires : tie.Need-enter-actions-requires
@@ -36,7 +23,8 @@ enum-known-m c = search needs
 
 -- src/lib.rt:348:25
 enter-transports-requires : tie.Need-enter-transports-requires
-enter-transports-requires c κs = let b = c .before .before .before .before .before .before .before .before .before .before .before .before .before .before .before .before .before .before .before .before in
+enter-transports-requires c κs =
+    let b = c .before .before .before .before .before .before .before .before .before .before .before .before .before .before .before .before .before .before .before .before in
     let t = tablesOf (b .args .s .now) in
     let l = b .args .l in
     let r = b .args .r in
@@ -57,7 +45,8 @@ same-length-3 c = search needs
 
 -- src/lib.rt:333:1
 returns : tie.Need-returns
-returns c = let b = c .before .before .before .before .before .before .before .before .before .before .before .before .before .before .before .before in
+returns c =
+    let b = c .before .before .before .before .before .before .before .before .before .before .before .before .before .before .before .before in
     let t = tablesOf (b .args .s .now) in
     let l = b .args .l in
     let r = b .args .r in
@@ -78,7 +67,8 @@ same-length-6 c = search needs
 
 -- src/lib.rt:333:1
 returns-2 : tie.Need-returns-2
-returns-2 c = let b = c .before .before .before .before .before .before .before .before .before .before .before .before .before .before .before .before .before .before .before .before .before .before .before .before .before .before .before in
+returns-2 c =
+    let b = c .before .before .before .before .before .before .before .before .before .before .before .before .before .before .before .before .before .before .before .before .before .before .before .before .before .before .before in
     let t = tablesOf (b .args .s .now) in
     let l = b .args .l in
     let r = b .args .r in

@@ -1,19 +1,9 @@
 use Rattle.graph.specs.GrowLaws.{stays, fills, appends}
-use borrow.Author.Tests.{lt-ltb, le-ltb, le-leb, lt-leb, eq-eqb, ne-eqb}
-use Prim.Native.Nat.{ℕ, zero, suc, _≤_, _<_, _-_, _+_, _*_, _^_}
-use native.Mathlib.Omega.{arith}
-use native.Mathlib.Numerals.{add-one}
-use mathlib.Core.Path.{_≡_, refl, ap, sym, _∙_}
-use mathlib.Core.Logic.{⊎-elim}
-use mathlib.Core.List.{List, [], _∷_, _++_, append-nil}
-use lib.ListN.{length, take, drop, getD, set, length-set, length-take, length-drop, length-append, drop-of-length-le}
+use Prim.Native.Nat.{_-_}
+use mathlib.Core.Path.{sym, _∙_}
 use borrow.Author.Needs.{needs}
 use Rattle.graph.proofs.enter_pair.Statement.{statement}
 use Rattle.graph.proofs.enter_pair.Tie as tie
-use Rattle.graph.proofs.enter_pair.Reads as reads
-use Rattle.graph.proofs.enter_pair.Lts as lts
-use Rattle.graph.proofs.append.Reads as append-reads
-use Rattle.graph.proofs.known.Reads as known-reads
 
 -- src/lib.rt:134:8
 known-requires : tie.Need-known-requires

@@ -1,26 +1,13 @@
 use Rattle.ac_repr.specs.Walk.{actionsAt}
 use Rattle.graph.specs.JoinLaws.{cellsOf, transport-none, transport-one, transport-few}
-use Rattle.image.specs.Loaded.{classes-many, operations-many}
-use Rattle.graph.specs.Growing.{pairsIn, Going}
 use Rattle.spec.specs.Image.{tablesOf}
-use Rattle.spec.specs.Graph.{enterAll}
-use Rattle.spec.specs.Meaning.{here}
-use Rattle.graph.specs.GrowLaws.{going-start, going-same, going-small, going-on, going-full, going-end, going-last}
-use borrow.Author.Tests.{lt-ltb, le-ltb, le-leb, lt-leb, eq-eqb, ne-eqb}
-use Prim.Native.Nat.{ℕ, zero, suc, _≤_, _<_, _-_, _+_, _*_, _^_}
-use native.Mathlib.Omega.{arith}
-use native.Mathlib.Numerals.{add-one}
-use mathlib.Core.Path.{_≡_, refl, ap, sym, _∙_}
-use mathlib.Core.Logic.{⊎-elim}
-use mathlib.Core.List.{List, [], _∷_, _++_, append-nil}
-use lib.ListN.{length, take, drop, getD, set, length-set, length-take, length-drop, length-append, drop-of-length-le}
+use Rattle.graph.specs.GrowLaws.{going-start, going-same, going-small, going-end, going-last}
+use Prim.Native.Nat.{_-_}
+use mathlib.Core.Path.{_∙_}
+use mathlib.Core.List.{[], append-nil}
 use borrow.Author.Needs.{needs}
 use Rattle.graph.proofs.enter_transport.Statement.{statement}
 use Rattle.graph.proofs.enter_transport.Tie as tie
-use Rattle.graph.proofs.enter_transport.Reads as reads
-use Rattle.graph.proofs.enter_transport.Lts as lts
-use Rattle.ac_repr.proofs.pairs.monomials.Reads as monomials-reads
-use Rattle.graph.proofs.enter_cells.Reads as enter-cells-reads
 
 -- src/lib.rt:290:37
 slice-aggregate-monomials : tie.Need-slice-aggregate-monomials
@@ -52,7 +39,8 @@ slice-aggregate-enter-cells-2 c = search needs
 
 -- src/lib.rt:292:37
 enter-cells-requires : tie.Need-enter-cells-requires
-enter-cells-requires c κs = let b = c .before .before .before .before .before .before .before .before .before .before .before .before .before .before .before .before .before in
+enter-cells-requires c κs =
+    let b = c .before .before .before .before .before .before .before .before .before .before .before .before .before .before .before .before .before in
     let t = tablesOf (b .args .s .now) in
     let l = b .args .l in
     let r = b .args .r in
@@ -63,7 +51,8 @@ enter-cells-requires c κs = let b = c .before .before .before .before .before .
 
 -- src/lib.rt:274:1
 returns : tie.Need-returns
-returns c = let b = c .before .before .before .before .before .before .before .before .before .before .before in
+returns c =
+    let b = c .before .before .before .before .before .before .before .before .before .before .before in
     let t = tablesOf (b .args .s .now) in
     let l = b .args .l in
     let r = b .args .r in
@@ -85,7 +74,8 @@ same-length-3 c = search needs
 
 -- src/lib.rt:274:1
 returns-2 : tie.Need-returns-2
-returns-2 c = let b = c .before .before .before .before .before .before .before .before .before .before .before .before .before .before .before .before .before .before .before .before .before .before .before .before in
+returns-2 c =
+    let b = c .before .before .before .before .before .before .before .before .before .before .before .before .before .before .before .before .before .before .before .before .before .before .before .before in
     let t = tablesOf (b .args .s .now) in
     let l = b .args .l in
     let r = b .args .r in

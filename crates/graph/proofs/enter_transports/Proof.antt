@@ -7,24 +7,14 @@ use Rattle.image.specs.Loaded.{classes-many, operations-many}
 use Rattle.graph.specs.Growing.{pairsIn, Going}
 use Rattle.spec.specs.Image.{tablesOf}
 use Rattle.spec.specs.Graph.{enterAll}
-use Rattle.spec.specs.Meaning.{here}
-use Rattle.graph.specs.GrowLaws.{going-start, going-same, going-small, going-on, going-full, going-end, going-last}
+use Rattle.graph.specs.GrowLaws.{going-start, going-same, going-small, going-on, going-full, going-end}
 use borrow.Author.Needs.{needs}
-use borrow.Author.Tests.{lt-ltb, le-ltb, le-leb, lt-leb, eq-eqb, ne-eqb}
-use Prim.Native.Nat.{ℕ, zero, suc, _≤_, _<_, _-_, _+_, _*_, _^_}
+use Prim.Native.Nat.{_<_, _-_}
 use native.Mathlib.Omega.{arith}
-use native.Mathlib.Numerals.{add-one}
-use mathlib.Core.Path.{_≡_, refl, ap, sym, _∙_}
-use mathlib.Core.Logic.{⊎-elim}
-use mathlib.Core.List.{List, [], _∷_, _++_, append-nil}
-use lib.ListN.{length, take, drop, getD, set, length-set, length-take, length-drop, length-append, drop-of-length-le}
+use mathlib.Core.Path.{_≡_, refl}
+use lib.ListN.{length}
 use Rattle.graph.proofs.enter_transports.Statement.{statement}
 use Rattle.graph.proofs.enter_transports.Tie as tie
-use Rattle.graph.proofs.enter_transports.Reads as reads
-use Rattle.graph.proofs.enter_transports.Lts as lts
-use Rattle.ac_repr.proofs.pairs.first.Reads as first-reads
-use Rattle.ac_repr.proofs.pairs.next.Reads as next-reads
-use Rattle.graph.proofs.enter_transport.Reads as enter-transport-reads
 
 abbrev Inv-loop : tie.InvT-loop
 Inv-loop s im l r lefts₀ rights₀ index₀ n0 n₀ x₀ lefts rights index n x = Going (enterAll (pairsIn n0 lefts₀ rights₀) (cellsOf (transports (tablesOf s) l r))) (cellsOf (actionsLeft (tablesOf s) l r x)) n0 lefts₀ rights₀ n lefts rights index × Within (tablesOf s) l r x × (length lefts ≡ length lefts₀) × (length rights ≡ length rights₀) × (length index ≡ length index₀)
@@ -38,7 +28,8 @@ first-requires c κs = search needs
 
 -- src/lib.rt:311:5
 loop-holds : tie.Need-loop-holds Inv-loop μ-loop
-loop-holds c = let b = c .before .before .before .before .before in
+loop-holds c =
+    let b = c .before .before .before .before .before in
     let t = tablesOf (b .args .s .now) in
     let l = b .args .l in
     let r = b .args .r in
@@ -64,7 +55,8 @@ same-length-3 c = search needs
 
 -- src/lib.rt:314:17
 returns : tie.Need-returns Inv-loop μ-loop
-returns c = let b = c .before .before .before .before .before .before .before .before in
+returns c =
+    let b = c .before .before .before .before .before .before .before .before in
     let t = tablesOf (b .args .s .now) in
     let l = b .args .l in
     let r = b .args .r in
@@ -76,7 +68,8 @@ enum-known-x c = search needs
 
 -- src/lib.rt:317:23
 enter-transport-requires : tie.Need-enter-transport-requires Inv-loop μ-loop
-enter-transport-requires c κs = let b = c .before .before .before .before .before .before .before .before .before .before .before .before in
+enter-transport-requires c κs =
+    let b = c .before .before .before .before .before .before .before .before .before .before .before .before in
     let t = tablesOf (b .args .s .now) in
     let l = b .args .l in
     let r = b .args .r in
@@ -101,7 +94,8 @@ same-length-6 c = search needs
 
 -- src/lib.rt:319:25
 returns-2 : tie.Need-returns-2 Inv-loop μ-loop
-returns-2 c = let b = c .before .before .before .before .before .before .before .before .before .before .before .before .before .before .before .before .before .before .before .before .before in
+returns-2 c =
+    let b = c .before .before .before .before .before .before .before .before .before .before .before .before .before .before .before .before .before .before .before .before .before in
     let t = tablesOf (b .args .s .now) in
     let l = b .args .l in
     let r = b .args .r in
@@ -114,7 +108,8 @@ enum-known-m c = search needs
 
 -- src/lib.rt:325:17
 next-requires : tie.Need-next-requires Inv-loop μ-loop
-next-requires c κs = let b = c .before .before .before .before .before .before .before .before .before .before .before .before .before .before .before .before .before .before .before .before .before .before in
+next-requires c κs =
+    let b = c .before .before .before .before .before .before .before .before .before .before .before .before .before .before .before .before .before .before .before .before .before .before in
     let t = tablesOf (b .args .s .now) in
     let l = b .args .l in
     let r = b .args .r in
@@ -123,7 +118,8 @@ next-requires c κs = let b = c .before .before .before .before .before .before 
 
 -- src/lib.rt:311:5
 loop-less : tie.Need-loop-less Inv-loop μ-loop
-loop-less c = let b = c .before .before .before .before .before .before .before .before .before .before .before .before .before .before .before .before .before .before .before .before .before .before .before in
+loop-less c =
+    let b = c .before .before .before .before .before .before .before .before .before .before .before .before .before .before .before .before .before .before .before .before .before .before .before in
     let t = tablesOf (b .args .s .now) in
     let l = b .args .l in
     let r = b .args .r in
@@ -132,7 +128,8 @@ loop-less c = let b = c .before .before .before .before .before .before .before 
 
 -- src/lib.rt:311:5
 loop-again : tie.Need-loop-again Inv-loop μ-loop
-loop-again c = let b = c .before .before .before .before .before .before .before .before .before .before .before .before .before .before .before .before .before .before .before .before .before .before .before in
+loop-again c =
+    let b = c .before .before .before .before .before .before .before .before .before .before .before .before .before .before .before .before .before .before .before .before .before .before .before in
     let t = tablesOf (b .args .s .now) in
     let l = b .args .l in
     let r = b .args .r in

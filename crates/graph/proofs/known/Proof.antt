@@ -1,18 +1,9 @@
 use Rattle.graph.specs.GrowLaws.{known-past, known-left, known-right}
-use borrow.Author.Tests.{lt-ltb, le-ltb, le-leb, lt-leb, eq-eqb, ne-eqb}
-use Prim.Native.Nat.{ℕ, zero, suc, _≤_, _<_, _-_, _+_, _*_, _^_}
+use Prim.Native.Nat.{_-_}
 use native.Mathlib.Omega.{arith}
-use native.Mathlib.Numerals.{add-one}
-use mathlib.Core.Path.{_≡_, refl, ap, sym, _∙_}
-use mathlib.Core.Logic.{⊎-elim}
-use mathlib.Core.List.{List, [], _∷_, _++_, append-nil}
-use lib.ListN.{length, take, drop, getD, set, length-set, length-take, length-drop, length-append, drop-of-length-le}
 use borrow.Author.Needs.{needs}
 use Rattle.graph.proofs.known.Statement.{statement}
 use Rattle.graph.proofs.known.Tie as tie
-use Rattle.graph.proofs.known.Reads as reads
-use Rattle.graph.proofs.known.Lts as lts
-use Rattle.graph.proofs.number.Reads as number-reads
 
 -- src/lib.rt:102:27
 mul-number : tie.Need-mul-number
