@@ -75,6 +75,7 @@ fn short(x: u64) -> usize
     x as usize
 }
 
+// "every number zero"
 fn clear2(s: &mut [u16])
     ensures { λ _. ⌜ now (s .exit) ≡ replicate (length (now (s .entry))) 0 ⌝ }
 {
@@ -174,6 +175,7 @@ fn enter_action(
     Grown::To(n)
 }
 
+// The pairs that the structural actions of classes l and r join.
 fn enter_actions(
     s: &[u8],
     im: Image,
@@ -240,6 +242,7 @@ fn enter_row(
     Grown::To(n)
 }
 
+// The class of each row with the class of each column.
 fn enter_cells(
     left: &[u64],
     rows: usize,
@@ -293,6 +296,7 @@ fn enter_transport(
     }
 }
 
+// The pairs that the transports of classes l and r join.
 fn enter_transports(
     s: &[u8],
     im: Image,
