@@ -24,13 +24,15 @@ use Rattle.flow.specs.AugmentingPath.{TightPath, end, step, next, Before, befor
 use Rattle.flow.specs.Augmentation.{Partial}
 use Rattle.flow.specs.Magnitude.{Small, total-lt}
 use Rattle.flow.specs.Solver.{pathOf, leastLeft, one-path}
-use Rattle.transport.specs.Net.{stateOf, predOf, capOf}
-use Rattle.transport.specs.Holds.{NetHolds, CostsHold, FlowHolds, MarginsHold, Ready, Found, Midway, Sent, stuck, along}
+use Rattle.search.specs.Net.{stateOf, predOf, capOf}
+use Rattle.search.specs.Holds.{NetHolds, CostsHold, FlowHolds, MarginsHold, Ready, Found}
+use Rattle.transport.specs.Sending.{Midway, Sent, stuck, along}
 use Rattle.transport.specs.SolvedLaws.{place-of}
-use Rattle.transport.specs.Path.{walkNet, Leads, arrived, onward, Step, Steps, noStep, andStep, leftOn, leastOn, sentOn, sent, Low, Balanced, rowSum, columnSum}
-use Rattle.transport.proofs.Laws.{cells-fit}
+use Rattle.search.specs.Walk.{walkNet, Leads, arrived, onward}
+use Rattle.transport.specs.Path.{Step, Steps, noStep, andStep, leftOn, leastOn, sentOn, sent, Low, Balanced, rowSum, columnSum}
+use Rattle.search.specs.Fits.{cells-fit}
 use Rattle.transport.proofs.PathLaws.{left-source, left-row, left-sink, left-back, sent-source, sent-row, sent-sink, sent-back}
-use Rattle.transport.proofs.Visits.{few}
+use Rattle.search.specs.Fits.{few}
 
 -- ---- the four kinds of steps on a path
 pub data Kind (p : Problem) (a b : ℕ) : Type 0 where

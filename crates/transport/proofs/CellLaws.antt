@@ -22,8 +22,8 @@ use Rattle.wide.specs.Bounds.{within-pos, weigh-pos, cost-lt}
 use Rattle.transport.specs.SolvedLaws.{place-of}
 use Rattle.wide.specs.Sign.{words-of, val-unsigned}
 use Rattle.wide.specs.Wrap.{Natural, addWords, add-natural}
-use Rattle.transport.specs.Net.{costOf, capOf}
-use Rattle.transport.specs.Holds.{CostsHold}
+use Rattle.search.specs.Net.{costOf, capOf}
+use Rattle.search.specs.Holds.{CostsHold}
 use Rattle.transport.specs.Cells.{cellOf, cellsFrom, problemOf, ifAllowed, LaidTo, laidFrom, wordsOf, celled, totalFrom}
 
 -- ---- the sum of a list

@@ -2,7 +2,7 @@
 use mathlib.Core.Path.{_≡_, refl, sym, ap, _∙_}
 use mathlib.Core.Bool.{Bool, true, false, not}
 use mathlib.Core.List.{List, [], _++_, map}
-use Rattle.transport.proofs.Laws.{cells-fit}
+use Rattle.search.specs.Fits.{cells-fit}
 use mathlib.Core.Option.{Option, none, some}
 use Prim.Native.Nat.{ℕ, zero, suc, _+_, _-_, _*_, _^_, _≤_, _<_}
 use native.Mathlib.Nat.{zero-add, zero-mul, mul-zero}
@@ -24,7 +24,8 @@ use Rattle.flow.specs.SearchEnds.{getD-same}
 use Rattle.flow.specs.Augmentation.{Partial}
 use Rattle.flow.specs.Magnitude.{Small}
 use Rattle.flow.specs.Solver.{empty}
-use Rattle.transport.specs.Holds.{FlowHolds, Start, Answered, noPlan, plan, CostsHold}
+use Rattle.search.specs.Holds.{FlowHolds, CostsHold}
+use Rattle.transport.specs.Sending.{Start, Answered, noPlan, plan}
 use Rattle.transport.specs.Cells.{cellOf, cellsFrom, problemOf, LaidTo, laidFrom}
 use Rattle.transport.specs.Solved.{Shaped, PlanIn, isPlan, Emptied, over, planOr0, flowAfter, tried, costsAfter, Solves}
 use Rattle.transport.proofs.CellLaws.{cells-length, cells-at, costs-hold, natural-of}

@@ -8,7 +8,7 @@ use Rattle.spec.specs.Bytes.{pick}
 use Rattle.spec.specs.Transport.{Cell, cost, forbidden, Problem}
 use Rattle.wide.specs.declared.Wide.{Wide}
 use Rattle.wide.specs.Wrap.{Natural}
-use Rattle.transport.specs.Net.{costOf, capOf}
+use Rattle.search.specs.Net.{costOf, capOf}
 
 module _ (sizes masses allowed : List ℕ) where
   -- cell k: forbidden where its flag is 0

@@ -1,6 +1,5 @@
-pub mod Net
-pub mod Holds
 pub mod Path
+pub mod Sending
 pub mod Cells
 pub mod Solved
 pub mod SolvedLaws

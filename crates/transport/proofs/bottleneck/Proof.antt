@@ -1,7 +1,9 @@
 use Prim.Native.Nat.{min}
-use Rattle.transport.proofs.PathLaws.{place-fits, left-source, left-row, left-sink, left-back, sent-source, sent-row, sent-sink, sent-back, here, step-here, steps-next, least-turn, least-end, sent-turn, sent-end, sent-more, room-next, room-here, room-first, Walking, walk-start, walk-facts, walk-turn, walk-end}
-use Rattle.transport.specs.Path.{stepsFrom, walkNet, Leads, Step, Steps, leftOn, leastOn, sentOn, sent}
-use Rattle.transport.specs.Net.{predOf, capOf}
+use Rattle.transport.proofs.PathLaws.{place-fits, left-source, left-row, left-sink, left-back, sent-source, sent-row, sent-sink, sent-back, step-here, steps-next, least-turn, least-end, sent-turn, sent-end, sent-more, room-next, room-here, room-first}
+use Rattle.search.specs.Walk.{here}
+use Rattle.search.specs.Walk.{stepsFrom, walkNet, Leads}
+use Rattle.transport.specs.Path.{Step, Steps, leftOn, leastOn, sentOn, sent}
+use Rattle.search.specs.Net.{predOf, capOf}
 use borrow.Author.Needs.{needs}
 use borrow.Author.Tests.{lt-ltb, le-ltb, le-leb, lt-leb, eq-eqb, ne-eqb}
 use Prim.Native.Nat.{ℕ, zero, suc, _≤_, _<_, _-_, _+_, _*_, _^_}

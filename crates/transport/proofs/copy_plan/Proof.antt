@@ -1,6 +1,6 @@
 use Rattle.transport.proofs.Answers.{Copied, copied-next, copied-end, cleared}
 use Rattle.transport.proofs.Solves.{emptied-next}
-use Rattle.transport.proofs.Laws.{cells-fit}
+use Rattle.search.specs.Fits.{cells-fit}
 use Rattle.transport.specs.Solved.{Emptied}
 use lib.ListN.{take, replicate}
 use borrow.Author.Needs.{needs}

@@ -1,4 +1,4 @@
-use Rattle.transport.proofs.Laws.{row-fits}
+use Rattle.search.specs.Fits.{row-fits}
 use Rattle.transport.proofs.PathLaws.{sum-turn, next-place, first-place, row-reads, column-reads, rows-turn, columns-turn, balanced}
 use Rattle.transport.specs.Path.{Low, RowsLeft, ColumnsLeft, Balanced, rowSum, columnSum}
 use Rattle.spec.specs.Bytes.{sumTo}

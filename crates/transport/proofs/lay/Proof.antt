@@ -1,4 +1,4 @@
-use Rattle.transport.proofs.Laws.{cells-fit}
+use Rattle.search.specs.Fits.{cells-fit}
 use Rattle.transport.proofs.CellLaws.{sum-start, sum-next, sum-end, largest-start, largest-next, largest-end, total-turn, total-end, laid-turn, laid-first, laid-go, laid-stop, nothing-costs, w-within, weighed, min-allowed, div-in, product-fits, Summed, summed-start, summed-turn, summed-end}
 use Rattle.transport.specs.Cells.{cellsFrom, ifAllowed, LaidTo, laidFrom, celled, totalFrom}
 use Rattle.wide.specs.Value.{unsigned}

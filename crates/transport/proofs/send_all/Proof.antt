@@ -1,6 +1,6 @@
-use Rattle.transport.proofs.SearchLoop.{none-left}
+use Rattle.search.specs.Fits.{none-left}
 use Rattle.transport.proofs.SendLoop.{Sending, begin-sending, midway-of, rest-lt, send-none, send-fits, send-some, send-end}
-use Rattle.transport.specs.Holds.{Start, Answered, Midway, Sent}
+use Rattle.transport.specs.Sending.{Start, Answered, Midway, Sent}
 use lib.ListN.{length-replicate}
 use mathlib.Core.Bool.{true, false}
 use borrow.Author.Needs.{needs}

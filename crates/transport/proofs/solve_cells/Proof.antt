@@ -1,5 +1,5 @@
 use Rattle.transport.proofs.Solves.{none-row, none-column, none-uneven}
-use Rattle.transport.proofs.Laws.{cells-fit}
+use Rattle.search.specs.Fits.{cells-fit}
 use borrow.Author.Tests.{lt-ltb, le-ltb, le-leb, lt-leb, eq-eqb, ne-eqb}
 use Prim.Native.Nat.{ℕ, zero, suc, _≤_, _<_, _-_, _+_, _*_, _^_}
 use native.Mathlib.Omega.{arith}

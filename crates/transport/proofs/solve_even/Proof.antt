@@ -1,7 +1,7 @@
 use Rattle.transport.proofs.Solves.{small, start-of, start-problem, plan-in, weight-same, solved-plan, solved-none, over-emptied, over-rest}
-use Rattle.transport.proofs.Laws.{cells-fit}
+use Rattle.search.specs.Fits.{cells-fit}
 use Rattle.transport.specs.Cells.{problemOf}
-use Rattle.transport.specs.Holds.{Start}
+use Rattle.transport.specs.Sending.{Start}
 use Rattle.wide.specs.Value.{unsigned}
 use Rattle.spec.specs.Transport.{Problem}
 use borrow.Author.Tests.{lt-ltb, le-ltb, le-leb, lt-leb, eq-eqb, ne-eqb}

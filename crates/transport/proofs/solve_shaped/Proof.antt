@@ -4,7 +4,7 @@ use mathlib.Core.Path.{_≡_, refl, ap, sym, _∙_}
 use mathlib.Core.Bool.{true, false}
 use mathlib.Core.List.{List}
 use lib.ListN.{length}
-use Rattle.transport.proofs.Laws.{cells-fit}
+use Rattle.search.specs.Fits.{cells-fit}
 use Rattle.transport.proofs.Answers.{wrong-shape, no-plan, plan-low, planned, shape-right, gate-costs, gate-flow, gate-open}
 use borrow.Author.Needs.{needs}
 use Rattle.transport.proofs.solve_shaped.Statement.{statement}

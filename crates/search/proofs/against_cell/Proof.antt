@@ -1,0 +1,69 @@
+use Rattle.search.proofs.Laws.{improved-queued, improved-joins, relaxed-yes, relaxed-not, margin-yes, margin-not, cell-yes, cell-not, against-yes, against-not, spread-turn, spread-end, row-turn, row-end, column-turn, column-end}
+use Rattle.wide.specs.Wrap.{addWords, negWords}
+use Rattle.wide.specs.declared.Wide.{Wide}
+use Rattle.search.specs.Net.{stateOf, labelOf, labelled, offered, joined, improved, relaxed, capOf, costOf, alongMargin, alongCell, againstCell, spreadTo, alongRow, againstColumn}
+use borrow.Author.Tests.{lt-ltb, le-ltb, le-leb, lt-leb, eq-eqb, ne-eqb}
+use Prim.Native.Nat.{ℕ, zero, suc, _≤_, _<_, _-_, _+_, _*_, _^_}
+use native.Mathlib.Omega.{arith}
+use native.Mathlib.Numerals.{add-one}
+use mathlib.Core.Path.{_≡_, refl, ap, sym, _∙_}
+use mathlib.Core.Logic.{⊎-elim}
+use mathlib.Core.List.{List, [], _∷_, _++_, append-nil}
+use lib.ListN.{length, take, drop, getD, set, length-set, length-take, length-drop, length-append, drop-of-length-le}
+use borrow.Author.Needs.{needs}
+use Rattle.search.proofs.against_cell.Statement.{statement}
+use Rattle.search.proofs.against_cell.Tie as tie
+use Rattle.search.proofs.against_cell.Reads as reads
+use Rattle.search.proofs.against_cell.Lts as lts
+use Rattle.search.proofs.cost.Reads as cost-reads
+use Rattle.search.proofs.relax.Reads as relax-reads
+use Rattle.wide.proofs.Wide.wrapping_add.Reads as wrapping-add-reads
+use Rattle.wide.proofs.Wide.wrapping_neg.Reads as wrapping-neg-reads
+
+-- src/lib.rt:120:12
+mul-if1 : tie.Need-mul-if1
+mul-if1 c = search needs
+
+-- src/lib.rt:120:12
+shared-slice-read-if1 : tie.Need-shared-slice-read-if1
+shared-slice-read-if1 c = search needs
+
+-- src/lib.rt:121:13
+cost-requires : tie.Need-cost-requires
+cost-requires c κs = search needs
+
+-- src/lib.rt:122:41
+wrapping-neg-requires : tie.Need-wrapping-neg-requires
+wrapping-neg-requires c κs = search needs
+
+-- src/lib.rt:122:26
+wrapping-add-requires : tie.Need-wrapping-add-requires
+wrapping-add-requires c κs = search needs
+
+-- src/lib.rt:122:9
+relax-requires : tie.Need-relax-requires
+relax-requires c κs = search needs
+
+-- src/lib.rt:123:9
+returns : tie.Need-returns
+returns c = let a = c .before .before .before .before .before .before .before .before .before .args in
+    c .relax .ensures
+    ∙ ap (λ (w : Wide). relaxed (a .net .now) (a .u) (a .v) w) (c .before .wrapping-add .ensures ∙ ap (λ (w : Wide). addWords (a .d) w) (c .before .before .wrapping-neg .ensures ∙ ap negWords (c .before .before .before .before .cost .ensures)))
+    ∙ against-yes (a .costs .now) (a .flow .now) (a .net .now) (a .k) (a .u) (a .v) (a .d) (c .before .before .before .before .before .if1 .taken)
+
+-- src/lib.rt:116:1
+returns-2 : tie.Need-returns-2
+returns-2 c = let a = c .before .before .before .before .args in against-not (a .costs .now) (a .flow .now) (a .net .now) (a .k) (a .u) (a .v) (a .d) (c .if1 .left)
+
+pub against-cell-spec : {M : Type 1} → statement M
+against-cell-spec =
+    tie.close
+    (tie.spec
+    mul-if1
+    shared-slice-read-if1
+    cost-requires
+    wrapping-neg-requires
+    wrapping-add-requires
+    relax-requires
+    returns
+    returns-2)
