@@ -24,7 +24,7 @@ use Rattle.wide.specs.Sign.{words-of, val-unsigned}
 use Rattle.wide.specs.Wrap.{Natural, addWords, add-natural}
 use Rattle.search.specs.Net.{costOf, capOf}
 use Rattle.search.specs.Holds.{CostsHold}
-use Rattle.transport.specs.Cells.{cellOf, cellsFrom, problemOf, ifAllowed, LaidTo, laidFrom, wordsOf, celled, totalFrom}
+use Rattle.transport.specs.Cells.{cellOf, cellsFrom, cells-length, cells-at, problemOf, ifAllowed, LaidTo, laidFrom, wordsOf, celled, totalFrom}
 
 -- ---- the sum of a list
 pub sum-start : (s : List ℕ) → 0 + sum (drop 0 s) ≡ sum s
@@ -39,17 +39,6 @@ unfolding sum
 sum-end s i t h e = let q : sum (drop i s) ≡ 0 = rw (drop-of-length-le s h) refl in omega arith
 
 module _ (sizes masses flags : List ℕ) where
-  pub cells-length : (n k : ℕ) → length (cellsFrom sizes masses flags n k) ≡ n
-  unfolding cellsFrom
-  cells-length zero k = refl
-  cells-length (suc n) k = ap suc (cells-length n (k + 1))
-
-  pub cells-at : (n k i : ℕ) → i < n → getD (cellsFrom sizes masses flags n k) i forbidden ≡ cellOf sizes masses flags (k + i)
-  unfolding cellsFrom
-  cells-at zero k i h = absurd (omega arith)
-  cells-at (suc n) k zero h = rw (add-zero k) refl
-  cells-at (suc n) k (suc i) h = let e : k + suc i ≡ k + 1 + i = omega arith in cells-at n (k + 1) i (omega arith) ∙ ap (cellOf sizes masses flags) (sym e)
-
   -- the largest mass
   pub largest-start : (n : ℕ) → max 0 (largest (map massOf (cellsFrom sizes masses flags (n - 0) 0))) ≡ largest (map massOf (cellsFrom sizes masses flags n 0))
   largest-start n = rw (sub-zero n) (omega arith)

@@ -26,9 +26,9 @@ use Rattle.flow.specs.Magnitude.{Small}
 use Rattle.flow.specs.Solver.{empty}
 use Rattle.search.specs.Holds.{FlowHolds, CostsHold}
 use Rattle.transport.specs.Sending.{Start, Answered, noPlan, plan}
-use Rattle.transport.specs.Cells.{cellOf, cellsFrom, problemOf, LaidTo, laidFrom}
+use Rattle.transport.specs.Cells.{cellOf, cellsFrom, cells-length, cells-at, problemOf, LaidTo, laidFrom}
 use Rattle.transport.specs.Solved.{Shaped, PlanIn, isPlan, Emptied, over, planOr0, flowAfter, tried, costsAfter, Solves}
-use Rattle.transport.proofs.CellLaws.{cells-length, cells-at, costs-hold, natural-of}
+use Rattle.transport.proofs.CellLaws.{costs-hold, natural-of}
 
 -- ---- a buffer that begins with a list
 begins : (n : ℕ) (x f y : List ℕ) → length x ≡ n → take n y ≡ x → drop n y ≡ drop n f → y ≡ over x f

@@ -1,7 +1,9 @@
 -- The problem that the slices give, the costs laid out for the search, and a plan's total.
-use mathlib.Core.Path.{_≡_}
+use mathlib.Core.Path.{_≡_, refl, sym, ap, _∙_}
 use mathlib.Core.List.{List, [], _∷_}
 use Prim.Native.Nat.{ℕ, zero, suc, _+_, _*_, _/_, _%_, _^_, _≤_, _<_, min}
+use native.Mathlib.Nat.{add-zero}
+use native.Mathlib.Omega.{arith}
 use lib.Dec.{eqb}
 use lib.ListN.{length, getD, set}
 use Rattle.spec.specs.Bytes.{pick}
@@ -19,6 +21,18 @@ module _ (sizes masses allowed : List ℕ) where
   unfoldable pub cellsFrom : ℕ → ℕ → List Cell
   cellsFrom zero k = []
   cellsFrom (suc n) k = cellOf k ∷ cellsFrom n (k + 1)
+
+module _ (sizes masses flags : List ℕ) where
+  pub cells-length : (n k : ℕ) → length (cellsFrom sizes masses flags n k) ≡ n
+  unfolding cellsFrom
+  cells-length zero k = refl
+  cells-length (suc n) k = ap suc (cells-length n (k + 1))
+
+  pub cells-at : (n k i : ℕ) → i < n → getD (cellsFrom sizes masses flags n k) i forbidden ≡ cellOf sizes masses flags (k + i)
+  unfolding cellsFrom
+  cells-at zero k i h = absurd (omega arith)
+  cells-at (suc n) k zero h = rw (add-zero k) refl
+  cells-at (suc n) k (suc i) h = let e : k + suc i ≡ k + 1 + i = omega arith in cells-at n (k + 1) i (omega arith) ∙ ap (cellOf sizes masses flags) (sym e)
 
 unfoldable pub problemOf : List ℕ → List ℕ → List ℕ → List ℕ → List ℕ → Problem
 unfolding cellsFrom

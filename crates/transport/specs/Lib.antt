@@ -3,5 +3,6 @@ pub mod Sending
 pub mod Cells
 pub mod Solved
 pub mod SolvedLaws
+pub mod HasPlan
 pub mod Public
 pub mod Promise

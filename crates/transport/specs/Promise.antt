@@ -8,13 +8,8 @@ use lib.ListN.{length}
 use Rattle.spec.specs.Bytes.{both, Res, ok, refused, rule, _>>=_}
 use Rattle.spec.specs.Transport.{Cell, Problem, Solution, rowsOf, colsOf, solveCells, solvedBy, shapeRight, solveTransport}
 use Rattle.flow.specs.Theorems.{Answer, answer}
-use Rattle.transport.specs.Cells.{cellsFrom, problemOf}
+use Rattle.transport.specs.Cells.{cellsFrom, cells-length, problemOf}
 use Rattle.transport.specs.Public.{shapeOf, shapedOf, transportOf}
-
-cells-length : (sizes masses allowed : List ℕ) (n k : ℕ) → length (cellsFrom sizes masses allowed n k) ≡ n
-unfolding cellsFrom
-cells-length sizes masses allowed zero k = refl
-cells-length sizes masses allowed (suc n) k = ap suc (cells-length sizes masses allowed n (k + 1))
 
 by-tests : (a b s p : Bool) → both a (both b (both s (both s (both s p)))) ≡ both (both a b) (both s p)
 by-tests true true true p = refl
