@@ -1,6 +1,6 @@
 // Reads transport problems from standard input, a line each, as `supply 2 1 demand 1 2 cells 1,0 2,2 - 2,2` (cells row by row as size,mass, or `-` where forbidden).
 // Writes a line for each: `size 5 mass 4 plan 1 1 0 1`, `refused` and its number, or `unreadable`.
-ghost use Prim.Native.Nat.{ℕ, _+_, _^_, _≤_, _<_};
+ghost use Prim.Native.Nat.{_+_, _≤_, _<_};
 ghost use lib.ListN.{length};
 use libc::STDIN_FILENO;
 use libc::STDOUT_FILENO;

@@ -1,17 +1,15 @@
 -- What the definitions of Net say in each case of the code.
-use mathlib.Core.Path.{_≡_, refl, sym, ap, _∙_}
-use mathlib.Core.Bool.{Bool, true, false}
+use mathlib.Core.Path.{_≡_, refl, sym}
+use mathlib.Core.Bool.{true, false}
 use mathlib.Core.List.{List}
-use Prim.Native.Nat.{ℕ, zero, suc, _+_, _-_, _*_, _%_, _^_, _≤_, _<_}
+use Prim.Native.Nat.{ℕ, suc, _+_, _-_, _*_, _≤_, _<_}
 use native.Mathlib.Omega.{arith}
-use native.Mathlib.Numerals.{add-one}
 use borrow.Author.Tests.{lt-ltb, le-ltb, le-leb, lt-leb, eq-eqb, ne-eqb}
 use lib.ListN.{getD, set}
-use lib.Dec.{ltb, leb, eqb}
 use Rattle.wide.specs.declared.Wide.{Wide}
 use Rattle.search.specs.Net.{stateOf, labelled, offered, joined, improved, relaxed, capOf, costOf, alongMargin, alongCell, againstCell, spreadTo, alongRow, againstColumn, labelOf, visited, unseenTo}
 use Rattle.wide.specs.Wrap.{addWords, negWords}
-use native.Mathlib.Nat.{add-assoc, add-zero, sub-zero, mul-le-mul, mul-le-mul-right}
+use native.Mathlib.Nat.{add-assoc, add-zero, sub-zero, mul-le-mul-right}
 
 module _ (m : List ℕ) (u v : ℕ) (d : Wide) where
   pub improved-queued : stateOf (labelled m u v d) v ≡ 2 → labelled m u v d ≡ improved m u v d

@@ -1,18 +1,16 @@
 -- A queue in which each node stands at most once is no longer than there are nodes.
-use mathlib.Core.Path.{_≡_, refl, sym, ap, _∙_}
-use mathlib.Core.Logic.{_≢_, _⊎_, inl, inr}
-use mathlib.Core.Bool.{Bool, true, false}
+use mathlib.Core.Path.{_≡_, refl, sym, _∙_}
+use mathlib.Core.Logic.{_≢_}
 use mathlib.Core.List.{List, [], _∷_, _++_}
-use Prim.Native.Nat.{ℕ, zero, suc, _+_, _≤_, _<_}
+use Prim.Native.Nat.{ℕ, suc, _+_, _≤_, _<_}
 use native.Mathlib.Nat.{mul-zero}
-use native.Mathlib.Decide.{ℕ-discrete}
 use native.Mathlib.Omega.{arith}
 use borrow.Author.Tests.{eq-eqb, ne-eqb}
 use lib.Dec.{eqb}
 use lib.ListN.{length}
 use Rattle.spec.specs.Bytes.{pick, sumTo}
 use Rattle.spec.specs.Meaning.{occurs, In, here, there}
-use Rattle.flow.specs.Sums.{sum-add, sum-const, sum-change, sum-lt, sum-mono}
+use Rattle.flow.specs.Sums.{sum-add, sum-const, sum-change, sum-lt}
 
 abbrev pub one : ℕ → ℕ → ℕ
 one x v = pick (eqb x v) 1 0

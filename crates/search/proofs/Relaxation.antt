@@ -1,16 +1,16 @@
 -- A relaxation on words is the definition's: the net holds the search afterwards too.
 use mathlib.Core.Path.{_≡_, refl, sym, ap, _∙_}
-use mathlib.Core.Logic.{_≢_, _⊎_, inl, inr}
+use mathlib.Core.Logic.{_≢_}
 use mathlib.Core.Bool.{Bool, true, false}
 use mathlib.Core.List.{List, [], _∷_, _++_}
-use mathlib.Core.Option.{Option, none, some}
-use Prim.Native.Nat.{ℕ, zero, suc, _+_, _-_, _*_, _^_, _≤_, _<_}
+use mathlib.Core.Option.{none, some}
+use Prim.Native.Nat.{ℕ, _+_, _-_, _≤_, _<_}
 use native.Mathlib.Decide.{ℕ-discrete}
 use native.Mathlib.Omega.{arith}
 use borrow.Author.Tests.{eq-eqb, ne-eqb}
 use lib.Dec.{eqb}
-use lib.IntN.{ℤ, pos}
-use lib.ListN.{length, getD, set}
+use lib.IntN.{pos}
+use lib.ListN.{length, getD}
 use lib.Seq.{getD-set-same, getD-set-other}
 use Rattle.spec.specs.Bytes.{pick}
 use Rattle.spec.specs.Meaning.{occurs, In}
@@ -22,8 +22,8 @@ use Rattle.flow.specs.Search.{labelAt, predAt, true-false}
 use Rattle.search.specs.Net.{labelOf, predOf, stateOf, headOf, countOf, labelled, joined, improved, offered, relaxed}
 use Rattle.search.specs.Holds.{NetHolds, ringFrom}
 use Rattle.search.proofs.Laws.{improved-queued, improved-joins, relaxed-yes, relaxed-not}
-use Rattle.search.proofs.NetReads.{labelled-size, labelled-at, labelled-off, labelled-pred, labelled-pred-off, labelled-state, labelled-head, labelled-count, labelled-ring, joined-size, joined-label, joined-pred, joined-state, joined-state-off, joined-head, joined-count, joined-ring, ring-length}
-use Rattle.search.proofs.Once.{one, one-same, one-other, occurs-last, queue-room}
+use Rattle.search.proofs.NetReads.{labelled-size, labelled-at, labelled-off, labelled-pred, labelled-pred-off, labelled-state, labelled-head, labelled-count, labelled-ring, joined-size, joined-label, joined-pred, joined-state, joined-state-off, joined-head, joined-ring, ring-length}
+use Rattle.search.proofs.Once.{one-same, one-other, occurs-last, queue-room}
 
 bit-le : (b : Bool) → bit b ≤ 1
 bit-le true = omega arith

@@ -1,31 +1,28 @@
 -- The search's loop: what holds at its head, that a measure falls, and what holds where the queue is empty.
 use mathlib.Core.Path.{_≡_, refl, sym, ap, _∙_}
-use mathlib.Core.Logic.{_≢_, _⊎_, inl, inr}
-use mathlib.Core.Bool.{Bool, true, false, not}
-use mathlib.Core.List.{List, [], _∷_, _++_}
-use mathlib.Core.Option.{Option, none, some}
+use mathlib.Core.Bool.{true, false, not}
+use mathlib.Core.List.{List, [], _∷_}
+use mathlib.Core.Option.{some}
 use Prim.Native.Nat.{ℕ, zero, suc, _+_, _-_, _*_, _^_, _≤_, _<_}
 use native.Mathlib.Decide.{ℕ-discrete}
 use native.Mathlib.Nat.{zero-add}
 use native.Mathlib.Omega.{arith}
 use borrow.Author.Tests.{eq-eqb, ne-eqb}
 use lib.Dec.{eqb}
-use lib.IntN.{ℤ, pos}
+use lib.IntN.{pos}
 use lib.ListN.{length, getD}
-use Rattle.spec.specs.Bytes.{pick, sumTo}
-use Rattle.spec.specs.Meaning.{In, here}
-use Rattle.spec.specs.Transport.{Problem, Search, weight, rowsOf, colsOf, nodeCount, sink, nodeOf, neighbours, leave, labelOr0, visit, search, begin, searchFuel, searched, found}
-use Rattle.wide.specs.Wrap.{Natural}
+use Rattle.spec.specs.Bytes.{pick}
+use Rattle.spec.specs.Meaning.{here}
+use Rattle.spec.specs.Transport.{Search, weight, rowsOf, colsOf, nodeCount, sink, nodeOf, neighbours, leave, visit, search, begin, searchFuel, searched, found}
 use Rattle.flow.specs.Sums.{sum-cong}
-use Rattle.flow.specs.Search.{labelAt, predAt, labelOr, labelSum, Labelled, good-leave, visited as all-visited}
+use Rattle.flow.specs.Search.{labelAt, labelOr, labelSum, Labelled, good-leave, visited as all-visited}
 use Rattle.flow.specs.SearchEnds.{good-begin, inner, searched-rests}
-use Rattle.flow.specs.Augmentation.{Partial}
-use Rattle.search.specs.Net.{labelOf, stateOf, headOf, countOf, firstOf, visited, left, begun, ranTo, beyond, measure, searchedNet}
-use Rattle.search.specs.Holds.{NetHolds, ringFrom, Ready, Found}
+use Rattle.search.specs.Net.{stateOf, headOf, countOf, firstOf, visited, left, begun, ranTo, beyond, measure, searchedNet}
+use Rattle.search.specs.Holds.{NetHolds, Ready, Found}
 use Rattle.search.proofs.NetReads.{ring-length}
 use Rattle.search.proofs.Visits.{sized, dear103, Going, visit-holds}
 use Rattle.search.specs.Fits.{few}
-use Rattle.search.proofs.Turns.{count-suc, first-is, first-lt, leave-holds, begin-holds}
+use Rattle.search.proofs.Turns.{first-is, first-lt, leave-holds, begin-holds}
 
 module _ {r c : ℕ} {g f y : List ℕ} (R : Ready r c g f y) where
   -- at the loop's head

@@ -1,38 +1,28 @@
 -- The search on words, turn by turn: its beginning, a node that leaves the queue, the measure that falls, its end.
 use mathlib.Core.Path.{_≡_, refl, sym, ap, _∙_}
-use mathlib.Core.Logic.{_≢_, _⊎_, inl, inr}
+use mathlib.Core.Logic.{_≢_, inl, inr}
 use mathlib.Core.Bool.{Bool, true, false}
-use mathlib.Core.List.{List, [], _∷_, _++_}
-use mathlib.Core.Option.{Option, none, some}
-use Prim.Native.Nat.{ℕ, zero, suc, _+_, _-_, _*_, _%_, _^_, _≤_, _<_}
-use native.Mathlib.Nat.{add-zero, zero-add}
-use native.Mathlib.Decide.{ℕ-discrete, decLt, decLe}
+use mathlib.Core.List.{List, [], _∷_}
+use mathlib.Core.Option.{none, some}
+use Prim.Native.Nat.{ℕ, zero, suc, _+_, _-_, _%_, _≤_, _<_}
+use native.Mathlib.Decide.{ℕ-discrete}
 use native.Mathlib.Omega.{arith}
-use native.Mathlib.Numerals.{add-one}
-use borrow.Author.Tests.{lt-ltb, le-ltb, le-leb, lt-leb, eq-eqb, ne-eqb}
+use borrow.Author.Tests.{ne-eqb}
 use lib.Dec.{eqb}
-use lib.IntN.{ℤ, pos}
+use lib.IntN.{pos}
 use lib.ListN.{length, getD, set, replicate, length-set, length-replicate}
 use lib.Seq.{getD-set-same, getD-set-other}
-use Rattle.spec.specs.Bytes.{pick, sumTo}
-use Rattle.spec.specs.Meaning.{occurs, In, here, there}
-use Rattle.spec.specs.Transport.{Problem, Search, weight, rowsOf, colsOf, nodeCount, sink, nodeOf, neighbours, label, leave, labelOr0, visit, search, begin, searchFuel, searched, found}
-use Rattle.wide.specs.declared.Wide.{Wide}
-use Rattle.wide.specs.Wrap.{Natural}
+use Rattle.spec.specs.Meaning.{occurs, In, here}
+use Rattle.spec.specs.Transport.{Problem, Search, nodeCount, sink, label, leave, begin}
 use Rattle.flow.specs.Cut.{bit}
-use Rattle.flow.specs.Sums.{sum-cong}
-use Rattle.flow.specs.Search.{labelAt, predAt, labelOr, labelSum, Labelled, none-some, same-label, good-leave, true-false, visited as all-visited, Visited}
-use Rattle.flow.specs.SearchEnds.{good-begin, inner, searched-rests, getD-same}
-use Rattle.flow.specs.Augmentation.{Partial}
-use Rattle.flow.specs.Magnitude.{Small}
-use Rattle.search.specs.Net.{labelOf, predOf, stateOf, headOf, countOf, firstOf, labelled, joined, improved, visited, left, unseenTo, begun}
-use Rattle.search.specs.Holds.{NetHolds, ringFrom, CostsHold, FlowHolds, MarginsHold, Ready, Found}
+use Rattle.flow.specs.Search.{labelAt, true-false, visited as all-visited}
+use Rattle.flow.specs.SearchEnds.{getD-same}
+use Rattle.search.specs.Net.{labelOf, stateOf, headOf, countOf, firstOf, left, unseenTo, begun}
+use Rattle.search.specs.Holds.{NetHolds, ringFrom}
 use Rattle.search.proofs.Laws.{improved-joins}
 use Rattle.search.proofs.NetReads.{ring-other, ring-length, labelled-state}
 use Rattle.search.proofs.Once.{one, one-same, one-other, occurs-first}
 use Rattle.search.proofs.Relaxation.{Sized, improved-holds}
-use Rattle.search.proofs.Visits.{sized, label-natural, dear103, Going, visit-holds}
-use Rattle.search.specs.Fits.{few}
 
 -- ---- a place of the ring by its remainder
 pub ring-same : (m : List ℕ) (n a b : ℕ) → a % 132 ≡ b % 132 → ringFrom m n a ≡ ringFrom m n b

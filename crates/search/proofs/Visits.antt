@@ -1,27 +1,25 @@
 -- The edges of a node on words are the definition's, one after the other.
-use mathlib.Core.Path.{_≡_, refl, sym, ap, _∙_}
-use mathlib.Core.Logic.{_≢_, _⊎_, inl, inr}
-use mathlib.Core.Bool.{Bool, true, false}
-use mathlib.Core.List.{List, [], _∷_, _++_}
-use mathlib.Core.Option.{Option, none, some}
+use mathlib.Core.Path.{_≡_, refl, ap}
+use mathlib.Core.List.{List}
+use mathlib.Core.Option.{some}
 use Prim.Native.Nat.{ℕ, zero, suc, _+_, _-_, _*_, _^_, _≤_, _<_}
 use native.Mathlib.Nat.{add-zero, zero-add, mul-le-mul-right}
-use native.Mathlib.Decide.{ℕ-discrete, decLt, decLe}
+use native.Mathlib.Decide.{ℕ-discrete, decLt}
 use native.Mathlib.Omega.{arith}
 use native.Mathlib.Numerals.{add-one}
-use borrow.Author.Tests.{lt-ltb, le-ltb, le-leb, lt-leb, eq-eqb, ne-eqb}
+use borrow.Author.Tests.{lt-ltb, le-ltb}
 use lib.IntN.{ℤ, pos, _+ℤ_}
 use lib.Arith.{digits-lt}
-use lib.ListN.{length, getD, set}
-use Rattle.spec.specs.Bytes.{pick, both, upFrom}
-use Rattle.spec.specs.Transport.{Problem, Search, weight, cellCost, cellAt, rowsOf, colsOf, nodeCount, sink, nodeOf, source, row, column, target, neighbours, residual, price, capacity, moved, rowFlow, colFlow, supplyAt, demandAt, label, improves, relax, visit}
+use lib.ListN.{getD}
+use Rattle.spec.specs.Bytes.{upFrom}
+use Rattle.spec.specs.Transport.{Problem, Search, weight, cellCost, cellAt, rowsOf, colsOf, nodeCount, sink, nodeOf, neighbours, residual, price, capacity, moved, relax, visit}
 use Rattle.wide.specs.declared.Wide.{Wide}
 use Rattle.wide.specs.Wrap.{Natural, addWords, negWords, add-natural, sub-natural}
 use Rattle.flow.specs.Signed.{posPart, negPart, plus, z-add}
 use Rattle.flow.specs.Network.{NodeIs, isSource, isRow, isColumn, isSink, view, node-row, node-column, node-sink}
-use Rattle.flow.specs.Search.{labelAt, residualOf, priceOf, Labelled, Potential, none-some, same-label, below, offer-range, relax-is, outcome, skipped, taken, Outcome, after}
+use Rattle.flow.specs.Search.{labelAt, residualOf, priceOf, Labelled, none-some, same-label, below, offer-range, relax-is, outcome, skipped, taken, Outcome, after}
 use Rattle.flow.specs.SearchEnds.{dear}
-use Rattle.flow.specs.Augmentation.{Partial, price-fwd, price-back, costAt}
+use Rattle.flow.specs.Augmentation.{Partial, price-fwd, price-back}
 use Rattle.flow.specs.Magnitude.{Small, cost-lt, dearest-lt}
 use Rattle.search.specs.Net.{labelOf, stateOf, costOf, capOf, relaxed, alongMargin, alongCell, againstCell, spreadTo, alongRow, againstColumn, visited}
 use Rattle.search.specs.Fits.{few}

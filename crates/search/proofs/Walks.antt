@@ -1,21 +1,15 @@
 -- One turn of the walk back.
 use mathlib.Core.Path.{_≡_, refl, sym, ap, _∙_}
-use mathlib.Core.Logic.{_≢_, _⊎_, inl, inr}
 use mathlib.Core.List.{List, [], _∷_}
-use Prim.Native.Nat.{ℕ, zero, suc, _+_, _-_, _*_, _^_, _≤_, _<_, min}
-use native.Mathlib.Nat.{mul-le-mul}
-use native.Mathlib.Decide.{ℕ-discrete, decLt, decLe}
-use mathlib.Core.Bool.{Bool, true, false}
-use lib.Dec.{eqb, leb}
+use Prim.Native.Nat.{ℕ, zero, suc, _+_, _-_, _≤_, _<_}
+use mathlib.Core.Bool.{false}
+use lib.Dec.{eqb}
 use native.Mathlib.Omega.{arith}
-use native.Mathlib.Numerals.{add-one}
-use borrow.Author.Tests.{le-leb, lt-leb, eq-eqb, ne-eqb}
-use lib.ListN.{length, getD, set, drop, length-set}
-use lib.Seq.{getD-set-same, getD-set-other, set-out, drop-set-lt}
-use Rattle.spec.specs.Bytes.{pick, sumTo, Two}
-use lib.Arith.{digits-lt}
-use Rattle.search.specs.Net.{predOf, capOf}
-use Rattle.search.specs.Walk.{stepsFrom, walkNet, walkedPath, walkedAt, Leads, arrived, onward, here, here-turn, here-end}
+use borrow.Author.Tests.{eq-eqb, ne-eqb}
+use lib.ListN.{length, getD, set, length-set}
+use lib.Seq.{getD-set-same, getD-set-other}
+use Rattle.search.specs.Net.{predOf}
+use Rattle.search.specs.Walk.{stepsFrom, walkNet, walkedPath, walkedAt, Leads, arrived, onward, here, here-turn}
 
 -- ---- the walk back
 steps-off : (path : List ℕ) (i x : ℕ) → (n a : ℕ) → i < a → stepsFrom (set path i x) n a ≡ stepsFrom path n a

@@ -1,21 +1,19 @@
 -- What the solver's own numbers stand for: the search, the costs, the plan so far and what is left at the margins.
 use mathlib.Core.Path.{_≡_}
-use mathlib.Core.Bool.{Bool, true, false}
+use mathlib.Core.Bool.{Bool, false}
 use mathlib.Core.List.{List, [], _∷_}
-use mathlib.Core.Option.{Option, none, some}
-use Prim.Native.Nat.{ℕ, zero, suc, _+_, _-_, _*_, _%_, _^_, _≤_, _<_}
+use mathlib.Core.Option.{none, some}
+use Prim.Native.Nat.{ℕ, zero, suc, _+_, _-_, _*_, _%_, _<_}
 use lib.Dec.{eqb}
-use lib.IntN.{ℤ, pos}
+use lib.IntN.{pos}
 use lib.ListN.{length, getD}
-use Rattle.spec.specs.Bytes.{pick, sumTo, sum}
 use Rattle.spec.specs.Meaning.{occurs}
-use Rattle.spec.specs.Transport.{Problem, Search, weight, rowsOf, colsOf, nodeCount, sink, cellAt, cellCost, capacity, supplyAt, demandAt, rowFlow, colFlow, searched, found, push, augment}
+use Rattle.spec.specs.Transport.{Problem, Search, weight, rowsOf, colsOf, nodeCount, sink, cellAt, cellCost, capacity, supplyAt, demandAt, rowFlow, colFlow, searched, found}
 use Rattle.wide.specs.Wrap.{Natural}
 use Rattle.flow.specs.Cut.{bit}
 use Rattle.flow.specs.Search.{labelAt, predAt}
 use Rattle.flow.specs.Augmentation.{Partial}
 use Rattle.flow.specs.Magnitude.{Small}
-use Rattle.flow.specs.Solver.{pathOf, leastLeft, empty}
 use Rattle.search.specs.Net.{labelOf, predOf, stateOf, headOf, countOf, costOf, capOf}
 
 -- n nodes of the ring from place h on

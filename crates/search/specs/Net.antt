@@ -1,13 +1,13 @@
 -- The solver's own numbers, and what each small function does to them, on plain lists in the code's shape.
 -- The net: 132 low words of labels, 132 high words, 132 predecessors, 132 states (0 unseen, 1 seen, 2 queued), 132 places of the queue's ring,
 -- the place of its first node, and how many nodes it holds.
-use mathlib.Core.Bool.{Bool, true, false}
+use mathlib.Core.Bool.{Bool, true}
 use mathlib.Core.List.{List}
 use Prim.Native.Nat.{ℕ, zero, suc, _+_, _-_, _*_, _%_, _^_}
 use lib.Dec.{ltb, leb, eqb}
 use lib.Signed.{ltZ}
 use lib.ListN.{getD, set}
-use Rattle.spec.specs.Bytes.{pick, either, sumTo}
+use Rattle.spec.specs.Bytes.{pick, sumTo}
 use Rattle.wide.specs.declared.Wide.{Wide}
 use Rattle.wide.specs.Value.{val}
 use Rattle.wide.specs.Wrap.{addWords, negWords}

@@ -5,26 +5,24 @@ use mathlib.Core.Bool.{Bool, true, false}
 use mathlib.Core.List.{List, [], _∷_}
 use mathlib.Core.Option.{Option, none, some}
 use Prim.Native.Nat.{ℕ, zero, suc, _+_, _-_, _*_, _^_, _≤_, _<_, min}
-use native.Mathlib.Nat.{zero-add}
-use native.Mathlib.Decide.{ℕ-discrete, decLt}
+use native.Mathlib.Decide.{ℕ-discrete}
 use native.Mathlib.Omega.{arith}
-use borrow.Author.Tests.{eq-eqb, ne-eqb}
-use lib.Dec.{eqb}
+use borrow.Author.Tests.{ne-eqb}
 use lib.IntN.{ℤ, pos}
 use lib.Arith.{digits-lt}
 use lib.ListN.{length, getD, set, length-set}
 use lib.Seq.{getD-set-same, getD-set-other}
-use Rattle.spec.specs.Bytes.{pick, sumTo, sum, Two}
-use Rattle.spec.specs.Transport.{Problem, Search, weight, rowsOf, colsOf, nodeCount, sink, nodeOf, source, row, column, target, residual, capacity, moved, rowFlow, colFlow, supplyAt, demandAt, allowed, cellAt, searched, found, walkBack, bottleneck, shift, push}
+use Rattle.spec.specs.Bytes.{pick, Two}
+use Rattle.spec.specs.Transport.{Problem, weight, rowsOf, colsOf, nodeCount, sink, nodeOf, source, row, column, target, residual, capacity, moved, rowFlow, colFlow, supplyAt, demandAt, allowed, cellAt, searched, found, walkBack, bottleneck, shift, push}
 use Rattle.flow.specs.Sums.{sum-cong}
 use Rattle.flow.specs.Network.{NodeIs, isSource, isRow, isColumn, isSink, view, node-row, node-column, node-sink, rowFlow-is, colFlow-is}
 use Rattle.flow.specs.Search.{labelAt, predAt, residualOf, AtRest, none-some, true-false, status}
 use Rattle.flow.specs.SearchEnds.{dearest, dear, searched-rests}
-use Rattle.flow.specs.AugmentingPath.{TightPath, end, step, next, Before, before, hops-lt, path, bottleneck-le}
+use Rattle.flow.specs.AugmentingPath.{TightPath, end, step, next, before, hops-lt, path, bottleneck-le}
 use Rattle.flow.specs.Augmentation.{Partial}
-use Rattle.flow.specs.Magnitude.{Small, total-lt}
+use Rattle.flow.specs.Magnitude.{Small}
 use Rattle.flow.specs.Solver.{pathOf, leastLeft, one-path}
-use Rattle.search.specs.Net.{stateOf, predOf, capOf}
+use Rattle.search.specs.Net.{predOf}
 use Rattle.search.specs.Holds.{NetHolds, CostsHold, FlowHolds, MarginsHold, Ready, Found}
 use Rattle.transport.specs.Sending.{Midway, Sent, stuck, along}
 use Rattle.transport.specs.SolvedLaws.{place-of}

@@ -1,20 +1,20 @@
 -- The slices' problem read by cells, and one turn of each loop over cells.
 use mathlib.Core.Path.{_≡_, refl, sym, ap, _∙_}
-use mathlib.Core.Logic.{_≢_, _⊎_, inl, inr}
+use mathlib.Core.Logic.{_≢_}
 use mathlib.Core.Bool.{Bool, true, false}
-use mathlib.Core.List.{List, [], _∷_, map}
+use mathlib.Core.List.{List, map}
 use Prim.Native.Nat.{ℕ, zero, suc, _+_, _-_, _*_, _/_, _%_, _^_, _≤_, _<_, min, max}
-use native.Mathlib.Nat.{add-zero, zero-add, sub-zero, mul-le-mul}
+use native.Mathlib.Nat.{zero-add, sub-zero, mul-le-mul}
 use native.Mathlib.Decide.{ℕ-discrete}
 use native.Mathlib.Omega.{arith}
 use native.Mathlib.Numerals.{add-one}
 use lib.Dec.{eqb}
 use lib.Arith.{digits-lt, digits-div, digits-mod}
-use lib.IntN.{ℤ, pos, natAbs}
+use lib.IntN.{pos, natAbs}
 use lib.ListN.{length, getD, set, drop, length-set, drop-of-length-le}
-use lib.Seq.{getD-set-same, getD-set-other, drop-cons, ext-getD}
+use lib.Seq.{getD-set-same, getD-set-other, drop-cons}
 use Rattle.spec.specs.Bytes.{pick, sum}
-use Rattle.spec.specs.Transport.{Cell, cost, forbidden, Problem, sizeOf, massOf, allowed, cellCost, largest, weight, rowsOf, colsOf, cellAt, capacity, supplyAt, demandAt, planSize, planMass}
+use Rattle.spec.specs.Transport.{cost, forbidden, sizeOf, massOf, allowed, cellCost, largest, weight, planSize, planMass}
 use Rattle.wide.specs.declared.Wide.{Wide}
 use borrow.Author.Tests.{eq-eqb, ne-eqb}
 use Rattle.wide.specs.Value.{val, unsigned, weighOf}
@@ -24,7 +24,7 @@ use Rattle.wide.specs.Sign.{words-of, val-unsigned}
 use Rattle.wide.specs.Wrap.{Natural, addWords, add-natural}
 use Rattle.search.specs.Net.{costOf, capOf}
 use Rattle.search.specs.Holds.{CostsHold}
-use Rattle.transport.specs.Cells.{cellOf, cellsFrom, cells-length, cells-at, problemOf, ifAllowed, LaidTo, laidFrom, wordsOf, celled, totalFrom}
+use Rattle.transport.specs.Cells.{cellOf, cellsFrom, cells-at, problemOf, ifAllowed, LaidTo, laidFrom, wordsOf, celled, totalFrom}
 
 -- ---- the sum of a list
 pub sum-start : (s : List ℕ) → 0 + sum (drop 0 s) ≡ sum s

@@ -1,8 +1,7 @@
 -- What the definitions of Path say in each case of the code, and one turn of each loop.
 use mathlib.Core.Path.{_≡_, refl, sym, ap, _∙_}
-use mathlib.Core.Logic.{_≢_, _⊎_, inl, inr}
 use mathlib.Core.List.{List, [], _∷_}
-use Prim.Native.Nat.{ℕ, zero, suc, _+_, _-_, _*_, _^_, _≤_, _<_, min}
+use Prim.Native.Nat.{ℕ, suc, _+_, _-_, _*_, _^_, _≤_, _<_, min}
 use native.Mathlib.Nat.{mul-le-mul}
 use native.Mathlib.Decide.{ℕ-discrete, decLt, decLe}
 use mathlib.Core.Bool.{Bool, true, false}
@@ -16,7 +15,7 @@ use Rattle.spec.specs.Bytes.{pick, sumTo, Two}
 use lib.Arith.{digits-lt}
 use Rattle.search.specs.Net.{capOf}
 use Rattle.search.specs.Walk.{here, here-turn, here-end}
-use Rattle.transport.specs.Path.{Step, Steps, noStep, andStep, leftOn, leastOn, sentOn, sent, Low, RowsLeft, ColumnsLeft, Balanced, rowSum, columnSum}
+use Rattle.transport.specs.Path.{Step, Steps, andStep, leftOn, leastOn, sentOn, sent, Low, RowsLeft, ColumnsLeft, Balanced, rowSum, columnSum}
 
 pub place-fits : (i j c : ℕ) → i < 65 → j < c → c ≤ 65 → i * c + j < 4225
 place-fits i j c a b d = omega (arith, mul-le-mul {n₁ = suc i} {m₁ = c} {n₂ = 65} {m₂ = 65} a d)

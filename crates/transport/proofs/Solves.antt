@@ -1,30 +1,27 @@
 -- The slices' problem is in place for the solver, and what the solver leaves is the definition's plan.
 use mathlib.Core.Path.{_≡_, refl, sym, ap, _∙_}
 use mathlib.Core.Bool.{Bool, true, false, not}
-use mathlib.Core.List.{List, [], _++_, map}
+use mathlib.Core.List.{List, _++_, map}
 use Rattle.search.specs.Fits.{cells-fit}
 use mathlib.Core.Option.{Option, none, some}
-use Prim.Native.Nat.{ℕ, zero, suc, _+_, _-_, _*_, _^_, _≤_, _<_}
+use Prim.Native.Nat.{ℕ, _+_, _-_, _*_, _^_, _≤_, _<_}
 use native.Mathlib.Nat.{zero-add, zero-mul, mul-zero}
 use native.Mathlib.Decide.{ℕ-discrete, decLt}
 use native.Mathlib.Omega.{arith}
 use borrow.Author.Tests.{eq-eqb, ne-eqb}
 use lib.Dec.{eqb}
 use lib.IntN.{pos}
-use lib.ListN.{length, getD, set, take, drop, replicate, length-set, length-replicate, take-append-drop, List·getD-eq-default}
+use lib.ListN.{length, getD, set, take, drop, replicate, length-replicate, take-append-drop, List·getD-eq-default}
 use lib.Seq.{getD-set-same, getD-set-other, getD-take, ext-getD, length-take-le, take-at, drop-at}
 use Rattle.spec.specs.Bytes.{pick, either, both, sum}
-use Rattle.spec.specs.Transport.{Cell, cost, forbidden, Problem, sizeOf, massOf, largest, weight, rowsOf, colsOf, augment, solveCells}
+use Rattle.spec.specs.Transport.{cost, forbidden, Problem, sizeOf, massOf, largest, weight, rowsOf, colsOf, augment, solveCells}
 use Rattle.wide.specs.declared.Wide.{Wide}
 use Rattle.wide.specs.Value.{val, unsigned, weightOf}
 use Rattle.wide.specs.Bounds.{weight-lt}
-use Rattle.wide.specs.Wrap.{Natural}
 use Rattle.flow.specs.Search.{true-false}
 use Rattle.flow.specs.SearchEnds.{getD-same}
-use Rattle.flow.specs.Augmentation.{Partial}
 use Rattle.flow.specs.Magnitude.{Small}
 use Rattle.flow.specs.Solver.{empty}
-use Rattle.search.specs.Holds.{FlowHolds, CostsHold}
 use Rattle.transport.specs.Sending.{Start, Answered, noPlan, plan}
 use Rattle.transport.specs.Cells.{cellOf, cellsFrom, cells-length, cells-at, problemOf, LaidTo, laidFrom}
 use Rattle.transport.specs.Solved.{Shaped, PlanIn, isPlan, Emptied, over, planOr0, flowAfter, tried, costsAfter, Solves}

@@ -1,7 +1,7 @@
 -- A problem whose cells are all allowed has a plan, where no side is empty and the totals are equal:
 -- row i and column j share the overlap of their stretches, when supplies and demands are laid end to end.
 use mathlib.Core.Path.{_≡_, refl, sym, ap, _∙_}
-use mathlib.Core.Bool.{Bool, true, false}
+use mathlib.Core.Bool.{Bool, true}
 use mathlib.Core.List.{List, [], _∷_}
 use mathlib.Core.Option.{Option, none, some}
 use Prim.Native.Nat.{ℕ, zero, suc, _+_, _-_, _*_, _/_, _%_, _≤_, _<_, min, max}
@@ -10,11 +10,10 @@ use native.Mathlib.Decide.{decLe}
 use native.Mathlib.Omega.{arith}
 use borrow.Author.Tests.{ne-eqb}
 use lib.Arith.{digits-lt, digits-div, digits-mod}
-use lib.Dec.{eqb}
 use lib.ListN.{length, getD}
-use Rattle.spec.specs.Bytes.{pick, sumTo, sum}
+use Rattle.spec.specs.Bytes.{sumTo, sum}
 use Rattle.spec.specs.Meaning.{Plan}
-use Rattle.spec.specs.Transport.{Cell, cost, forbidden, Problem, allowed, rowsOf, colsOf, cellAt, supplyAt, demandAt, moved, rowFlow, colFlow, solveCells}
+use Rattle.spec.specs.Transport.{Problem, allowed, rowsOf, colsOf, cellAt, supplyAt, demandAt, moved, rowFlow, colFlow, solveCells}
 use Rattle.flow.specs.Sums.{sum-cong, sum-split, listSum-is}
 use Rattle.flow.specs.Network.{rowFlow-is, colFlow-is}
 use Rattle.flow.specs.Search.{true-false}

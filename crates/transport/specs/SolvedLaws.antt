@@ -1,22 +1,21 @@
 -- What the inner solver's answer means: the plan in its buffer, that its numbers are 32-bit numbers, and that the buffer behind it is as it was.
 use mathlib.Core.Path.{_≡_, refl, sym, ap, _∙_}
-use mathlib.Core.Bool.{Bool, true, false}
-use mathlib.Core.List.{List, [], _∷_, _++_}
+use mathlib.Core.Bool.{Bool}
+use mathlib.Core.List.{List}
 use mathlib.Core.Option.{Option, none, some}
-use Prim.Native.Nat.{ℕ, zero, suc, _+_, _-_, _*_, _/_, _%_, _^_, _≤_, _<_}
+use Prim.Native.Nat.{ℕ, zero, suc, _+_, _-_, _*_, _^_, _<_}
 use native.Mathlib.Decide.{decLt}
 use native.Mathlib.Omega.{arith}
-use lib.ListN.{length, getD, take, drop, replicate, length-replicate, List·getD-eq-default}
+use lib.ListN.{length, getD, take, drop, length-replicate, List·getD-eq-default}
 use lib.Seq.{take-at, drop-at}
 use Rattle.spec.specs.Bytes.{sumTo}
 use Rattle.spec.specs.Meaning.{Plan}
-use Rattle.spec.specs.Transport.{Problem, rowsOf, colsOf, supplyAt, rowFlow, solveCells}
+use Rattle.spec.specs.Transport.{Problem, rowsOf, colsOf, supplyAt, solveCells}
 use Rattle.flow.specs.Sums.{sum-term}
 use Rattle.flow.specs.Network.{rowFlow-is}
-use Rattle.flow.specs.Search.{true-false}
 use Rattle.flow.specs.Theorems.{margins}
 use Rattle.transport.specs.Cells.{problemOf}
-use Rattle.transport.specs.Solved.{isPlan, PlanIn, over, planOr0, flowAfter, Solves}
+use Rattle.transport.specs.Solved.{PlanIn, planOr0, flowAfter, Solves}
 
 -- the row and column of cell k
 pub place-of : (r c k : ℕ) → k < r * c → (i : ℕ) × (j : ℕ) × (i < r) × (j < c) × (k ≡ i * c + j)

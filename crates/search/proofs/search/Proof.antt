@@ -1,16 +1,10 @@
-use Rattle.search.proofs.SearchLoop.{Searching, begins, Turn, turn, ends, not-reached, reached, Ran, ran-start, ran-turn, ran-end, searched-net, unseen-sink, seen-sink}
+use Rattle.search.proofs.SearchLoop.{Searching, begins, turn, ends, not-reached, reached, Ran, ran-start, ran-turn, ran-end, searched-net, unseen-sink, seen-sink}
 use Rattle.search.specs.Fits.{none-left}
-use Rattle.search.specs.Holds.{Ready, Found, NetHolds}
-use Rattle.search.specs.Net.{stateOf, labelOf, headOf, countOf, firstOf, visited, left, begun, measure}
+use Rattle.search.specs.Holds.{Ready}
+use Rattle.search.specs.Net.{firstOf, visited, left, measure}
 use borrow.Author.Needs.{needs}
-use borrow.Author.Tests.{lt-ltb, le-ltb, le-leb, lt-leb, eq-eqb, ne-eqb}
-use Prim.Native.Nat.{ℕ, zero, suc, _≤_, _<_, _-_, _+_, _*_, _^_}
-use native.Mathlib.Omega.{arith}
-use native.Mathlib.Numerals.{add-one}
-use mathlib.Core.Path.{_≡_, refl, ap, sym, _∙_}
-use mathlib.Core.Logic.{⊎-elim}
-use mathlib.Core.List.{List, [], _∷_, _++_, append-nil}
-use lib.ListN.{length, take, drop, getD, set, length-set, length-take, length-drop, length-append, drop-of-length-le}
+use Prim.Native.Nat.{_-_, _+_}
+use mathlib.Core.Path.{_≡_, _∙_}
 use Rattle.search.proofs.search.Statement.{statement}
 use Rattle.search.proofs.search.Tie as tie
 use Rattle.search.proofs.search.Reads as reads

@@ -1,17 +1,12 @@
-use Rattle.search.proofs.Laws.{spread-start, row-start, column-start}
-use Rattle.search.proofs.Laws.{improved-queued, improved-joins, relaxed-yes, relaxed-not, margin-yes, margin-not, cell-yes, cell-not, against-yes, against-not, spread-turn, spread-end, row-turn, row-end, column-turn, column-end}
-use Rattle.wide.specs.Wrap.{addWords, negWords}
+use Rattle.search.proofs.Laws.{spread-start}
+use Rattle.search.proofs.Laws.{spread-turn, spread-end}
 use Rattle.wide.specs.declared.Wide.{Wide}
-use Rattle.search.specs.Net.{stateOf, labelOf, labelled, offered, joined, improved, relaxed, capOf, costOf, alongMargin, alongCell, againstCell, spreadTo, alongRow, againstColumn}
+use Rattle.search.specs.Net.{spreadTo}
 use borrow.Author.Needs.{needs}
-use borrow.Author.Tests.{lt-ltb, le-ltb, le-leb, lt-leb, eq-eqb, ne-eqb}
-use Prim.Native.Nat.{ℕ, zero, suc, _≤_, _<_, _-_, _+_, _*_, _^_}
+use Prim.Native.Nat.{ℕ, _≤_, _-_, _+_}
 use native.Mathlib.Omega.{arith}
-use native.Mathlib.Numerals.{add-one}
-use mathlib.Core.Path.{_≡_, refl, ap, sym, _∙_}
-use mathlib.Core.Logic.{⊎-elim}
-use mathlib.Core.List.{List, [], _∷_, _++_, append-nil}
-use lib.ListN.{length, take, drop, getD, set, length-set, length-take, length-drop, length-append, drop-of-length-le}
+use mathlib.Core.Path.{_≡_, ap, sym, _∙_}
+use mathlib.Core.List.{List}
 use Rattle.search.proofs.spread.Statement.{statement}
 use Rattle.search.proofs.spread.Tie as tie
 use Rattle.search.proofs.spread.Reads as reads

@@ -1,16 +1,10 @@
-use Rattle.search.specs.Walk.{here}
 use Rattle.search.proofs.Walks.{Walking, walk-start, walk-facts, walk-turn, walk-end}
-use Rattle.search.specs.Walk.{stepsFrom, walkNet, walkedPath, Leads}
-use Rattle.search.specs.Net.{predOf, capOf}
+use Rattle.search.specs.Walk.{walkedPath}
 use borrow.Author.Needs.{needs}
-use borrow.Author.Tests.{lt-ltb, le-ltb, le-leb, lt-leb, eq-eqb, ne-eqb}
-use Prim.Native.Nat.{ℕ, zero, suc, _≤_, _<_, _-_, _+_, _*_, _^_}
+use Prim.Native.Nat.{ℕ, _-_}
 use native.Mathlib.Omega.{arith}
-use native.Mathlib.Numerals.{add-one}
-use mathlib.Core.Path.{_≡_, refl, ap, sym, _∙_}
-use mathlib.Core.Logic.{⊎-elim}
-use mathlib.Core.List.{List, [], _∷_, _++_, append-nil}
-use lib.ListN.{length, take, drop, getD, set, length-set, length-take, length-drop, length-append, drop-of-length-le}
+use mathlib.Core.Path.{ap, _∙_}
+use mathlib.Core.List.{List}
 use Rattle.search.proofs.trace.Statement.{statement}
 use Rattle.search.proofs.trace.Tie as tie
 use Rattle.search.proofs.trace.Reads as reads

@@ -1,17 +1,10 @@
-use Rattle.search.specs.Fits.{cells-fit, row-fits}
-use Rattle.search.proofs.Laws.{visited-source, visited-row, visited-column, visited-sink, unsee-start, unsee-turn, unsee-end}
-use Rattle.wide.specs.Wrap.{addWords, negWords}
-use Rattle.wide.specs.declared.Wide.{Wide}
-use Rattle.search.specs.Net.{stateOf, labelOf, labelled, offered, joined, improved, relaxed, capOf, costOf, alongMargin, alongCell, againstCell, spreadTo, alongRow, againstColumn, visited, left, begun, unseenTo, headOf, countOf, firstOf}
+use Rattle.search.proofs.Laws.{unsee-start, unsee-turn, unsee-end}
+use Rattle.search.specs.Net.{unseenTo}
 use borrow.Author.Needs.{needs}
-use borrow.Author.Tests.{lt-ltb, le-ltb, le-leb, lt-leb, eq-eqb, ne-eqb}
-use Prim.Native.Nat.{ℕ, zero, suc, _≤_, _<_, _-_, _+_, _*_, _^_}
+use Prim.Native.Nat.{ℕ, _≤_, _-_, _+_}
 use native.Mathlib.Omega.{arith}
-use native.Mathlib.Numerals.{add-one}
-use mathlib.Core.Path.{_≡_, refl, ap, sym, _∙_}
-use mathlib.Core.Logic.{⊎-elim}
-use mathlib.Core.List.{List, [], _∷_, _++_, append-nil}
-use lib.ListN.{length, take, drop, getD, set, length-set, length-take, length-drop, length-append, drop-of-length-le}
+use mathlib.Core.Path.{_≡_, ap, sym, _∙_}
+use mathlib.Core.List.{List}
 use Rattle.search.proofs.unsee.Statement.{statement}
 use Rattle.search.proofs.unsee.Tie as tie
 use Rattle.search.proofs.unsee.Reads as reads

@@ -1,17 +1,10 @@
 use Rattle.transport.proofs.PathLaws.{sent-kept}
-use Rattle.transport.proofs.Augments.{low-of, ready-of, not-sent, Way, way, units-fit, path-steps, sent-along}
+use Rattle.transport.proofs.Augments.{low-of, ready-of, not-sent, way, units-fit, path-steps, sent-along}
 use Rattle.search.specs.Walk.{stepsFrom}
-use Rattle.transport.specs.Path.{Balanced}
-use Rattle.search.specs.Holds.{Ready, Found}
-use Rattle.transport.specs.Sending.{Midway, Sent}
-use borrow.Author.Tests.{lt-ltb, le-ltb, le-leb, lt-leb, eq-eqb, ne-eqb}
-use Prim.Native.Nat.{ℕ, zero, suc, _≤_, _<_, _-_, _+_, _*_, _^_}
-use native.Mathlib.Omega.{arith}
-use native.Mathlib.Numerals.{add-one}
-use mathlib.Core.Path.{_≡_, refl, ap, sym, _∙_}
-use mathlib.Core.Logic.{⊎-elim}
-use mathlib.Core.List.{List, [], _∷_, _++_, append-nil}
-use lib.ListN.{length, take, drop, getD, set, length-set, length-take, length-drop, length-append, drop-of-length-le}
+use Prim.Native.Nat.{ℕ, _-_, _*_}
+use mathlib.Core.Path.{refl, ap, _∙_}
+use mathlib.Core.List.{List}
+use lib.ListN.{length, drop}
 use borrow.Author.Needs.{needs}
 use Rattle.transport.proofs.augment.Statement.{statement}
 use Rattle.transport.proofs.augment.Tie as tie

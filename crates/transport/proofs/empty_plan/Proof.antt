@@ -1,15 +1,11 @@
-use Rattle.transport.proofs.Solves.{none-row, none-column, none-uneven, small, start-of, start-problem, plan-in, emptied-next, emptied-over, weight-is}
-use Rattle.transport.specs.Solved.{Shaped, PlanIn, Emptied}
+use Rattle.transport.proofs.Solves.{emptied-next, emptied-over}
+use Rattle.transport.specs.Solved.{Emptied}
 use borrow.Author.Needs.{needs}
 use lib.Seq.{drop-set-lt}
-use borrow.Author.Tests.{lt-ltb, le-ltb, le-leb, lt-leb, eq-eqb, ne-eqb}
-use Prim.Native.Nat.{ℕ, zero, suc, _≤_, _<_, _-_, _+_, _*_, _^_}
+use Prim.Native.Nat.{_≤_, _-_}
 use native.Mathlib.Omega.{arith}
-use native.Mathlib.Numerals.{add-one}
-use mathlib.Core.Path.{_≡_, refl, ap, sym, _∙_}
-use mathlib.Core.Logic.{⊎-elim}
-use mathlib.Core.List.{List, [], _∷_, _++_, append-nil}
-use lib.ListN.{length, take, drop, getD, set, length-set, length-take, length-drop, length-append, drop-of-length-le}
+use mathlib.Core.Path.{_≡_, refl, _∙_}
+use lib.ListN.{length, drop}
 use Rattle.transport.proofs.empty_plan.Statement.{statement}
 use Rattle.transport.proofs.empty_plan.Tie as tie
 use Rattle.transport.proofs.empty_plan.Reads as reads

@@ -1,17 +1,12 @@
 use Rattle.search.specs.Fits.{none-left}
 use Rattle.transport.proofs.SendLoop.{Sending, begin-sending, midway-of, rest-lt, send-none, send-fits, send-some, send-end}
-use Rattle.transport.specs.Sending.{Start, Answered, Midway, Sent}
+use Rattle.transport.specs.Sending.{Start}
 use lib.ListN.{length-replicate}
-use mathlib.Core.Bool.{true, false}
 use borrow.Author.Needs.{needs}
-use borrow.Author.Tests.{lt-ltb, le-ltb, le-leb, lt-leb, eq-eqb, ne-eqb}
-use Prim.Native.Nat.{ℕ, zero, suc, _≤_, _<_, _-_, _+_, _*_, _^_}
+use Prim.Native.Nat.{ℕ, _-_, _*_}
 use native.Mathlib.Omega.{arith}
-use native.Mathlib.Numerals.{add-one}
-use mathlib.Core.Path.{_≡_, refl, ap, sym, _∙_}
-use mathlib.Core.Logic.{⊎-elim}
-use mathlib.Core.List.{List, [], _∷_, _++_, append-nil}
-use lib.ListN.{length, take, drop, getD, set, length-set, length-take, length-drop, length-append, drop-of-length-le}
+use mathlib.Core.Path.{_≡_, refl, _∙_}
+use lib.ListN.{length, drop}
 use Rattle.transport.proofs.send_all.Statement.{statement}
 use Rattle.transport.proofs.send_all.Tie as tie
 use Rattle.transport.proofs.send_all.Reads as reads

@@ -3,15 +3,10 @@ use Rattle.search.specs.Fits.{cells-fit}
 use Rattle.transport.specs.Cells.{problemOf}
 use Rattle.transport.specs.Sending.{Start}
 use Rattle.wide.specs.Value.{unsigned}
-use Rattle.spec.specs.Transport.{Problem}
-use borrow.Author.Tests.{lt-ltb, le-ltb, le-leb, lt-leb, eq-eqb, ne-eqb}
-use Prim.Native.Nat.{ℕ, zero, suc, _≤_, _<_, _-_, _+_, _*_, _^_}
+use Prim.Native.Nat.{ℕ, _-_}
 use native.Mathlib.Omega.{arith}
-use native.Mathlib.Numerals.{add-one}
-use mathlib.Core.Path.{_≡_, refl, ap, sym, _∙_}
-use mathlib.Core.Logic.{⊎-elim}
-use mathlib.Core.List.{List, [], _∷_, _++_, append-nil}
-use lib.ListN.{length, take, drop, getD, set, length-set, length-take, length-drop, length-append, drop-of-length-le}
+use mathlib.Core.Path.{_≡_, ap, sym, _∙_}
+use lib.ListN.{length, drop}
 use borrow.Author.Needs.{needs}
 use Rattle.transport.proofs.solve_even.Statement.{statement}
 use Rattle.transport.proofs.solve_even.Tie as tie

@@ -1,11 +1,9 @@
 use Rattle.transport.specs.SolvedLaws.{solves-plan}
 use native.Mathlib.Omega.{arith}
-use mathlib.Core.Path.{_≡_, refl, ap, sym, _∙_}
-use mathlib.Core.Bool.{true, false}
-use mathlib.Core.List.{List}
+use mathlib.Core.Path.{sym, _∙_}
 use lib.ListN.{length}
 use Rattle.search.specs.Fits.{cells-fit}
-use Rattle.transport.proofs.Answers.{wrong-shape, no-plan, plan-low, planned, shape-right, gate-costs, gate-flow, gate-open}
+use Rattle.transport.proofs.Answers.{wrong-shape, no-plan, plan-low, planned, shape-right}
 use borrow.Author.Needs.{needs}
 use Rattle.transport.proofs.solve_shaped.Statement.{statement}
 use Rattle.transport.proofs.solve_shaped.Tie as tie
