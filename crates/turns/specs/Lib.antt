@@ -1,0 +1,5 @@
+pub mod Cells
+pub mod Sums
+pub mod Laying
+pub mod Listing
+pub mod Better

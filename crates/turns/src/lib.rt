@@ -1,0 +1,191 @@
+// A pair's turn (exact_fixed.rs, `relax`): transports offered after structural actions, and the winner's one final term.
+ghost use mathlib.Core.Path.{_≡_};
+ghost use mathlib.Core.Bool.{true};
+ghost use Prim.Native.Nat.{ℕ, _+_, _*_, _^_, _≤_, _<_};
+ghost use lib.ListN.{length, getD, set};
+ghost use Rattle.spec.specs.Action.{cellPairs};
+ghost use Rattle.spec.specs.Monomial.{pairOf, counts, narrow};
+ghost use Rattle.spec.specs.Round as round;
+ghost use Rattle.wide.specs.Value.{unsigned};
+ghost use Rattle.wide.specs.Wrap.{Natural};
+ghost use Rattle.ac_repr.specs.Terms.{TERMS, NUMBERS, held};
+ghost use Rattle.quality.specs.Known.{Known, over, qualityIn, termIn};
+ghost use Rattle.turns.specs.Cells.{with};
+ghost use Rattle.turns.specs.Laying.{sizesAt, massesAt, Joined};
+ghost use Rattle.turns.specs.Listing.{manyAfter, cellAfter, runsAt};
+ghost use Rattle.turns.specs.Sums.{dot};
+use quality::Best;
+use wide::Wide;
+
+// the largest numbers of rows and of columns, and of cells
+const SIDE: usize = 65;
+
+const CELLS: usize = 4225;
+
+fn num(x: u64) -> usize
+    ensures { λ r. ⌜ r ≡ x ⌝ }
+{
+    x as usize
+}
+
+fn num8(x: u32) -> u64
+    ensures { λ r. ⌜ (r ≡ x) × (r < 2 ^ 32) ⌝ }
+{
+    x as u64
+}
+
+fn short(x: u64) -> u32
+    requires { ⌜ x < 2 ^ 32 ⌝ }
+    ensures { λ r. ⌜ r ≡ x ⌝ }
+{
+    x as u32
+}
+
+fn put4(s: &mut [u32], at: usize, v: u32)
+    requires { ⌜ at < length (now s) ⌝ }
+    ensures { λ _. ⌜ now (s .exit) ≡ set (now (s .entry)) at v ⌝ }
+{
+    s[at] = v;
+}
+
+fn put8(s: &mut [u64], at: usize, v: u64)
+    requires { ⌜ at < length (now s) ⌝ }
+    ensures { λ _. ⌜ now (s .exit) ≡ set (now (s .entry)) at v ⌝ }
+{
+    s[at] = v;
+}
+
+// ---- what the solver is given
+// The counts of a monomial of n terms.
+fn lay_margin(mono: &[u64], n: usize, margin: &mut [u32])
+    requires { ⌜ (length (now mono) ≡ NUMBERS) × (n ≤ TERMS) × (narrow (held n (now mono)) ≡ true) × (TERMS ≤ length (now margin)) ⌝ }
+    ensures { λ _. ⌜ now (margin .exit) ≡ over (counts (held n (now (mono .entry)))) (now (margin .entry)) ⌝ }
+{
+    let mut i = 0;
+    while i < n {
+        put4(margin, i, short(ac_repr::count_at(mono, i)));
+        i += 1;
+    }
+}
+
+// A cell's pair of classes.
+struct Place {
+    left: usize,
+    right: usize,
+}
+
+// The pair of cell k of the monomials' cells.
+fn cell(left: &[u64], rows: usize, right: &[u64], cols: usize, k: usize) -> Place
+    requires { ⌜ (length (now left) ≡ NUMBERS) × (length (now right) ≡ NUMBERS) × (rows ≤ TERMS) × (cols ≤ TERMS) × (k < rows * cols) ⌝ }
+    ensures { λ p. ⌜ with (p .left) (p .right) ≡ getD (cellPairs (pairOf (held rows (now (left .entry))) (held cols (now (right .entry))))) k (0, 0) ⌝ }
+{
+    let a = num(ac_repr::class_at(left, k / cols));
+    let b = num(ac_repr::class_at(right, k % cols));
+    Place { left: a, right: b }
+}
+
+// The sizes and the masses of the cells' pairs, row by row.
+fn lay_cells(
+    index: &[u16],
+    pairs: &[u32],
+    n: usize,
+    left: &[u64],
+    rows: usize,
+    right: &[u64],
+    cols: usize,
+    sizes: &mut [u32],
+    masses: &mut [u32],
+)
+    requires { ⌜ Known n (now index) (now pairs) × (length (now left) ≡ NUMBERS) × (length (now right) ≡ NUMBERS) × (rows ≤ TERMS) × (cols ≤ TERMS)
+        × Joined (pairOf (held rows (now left)) (held cols (now right))) × (4225 ≤ length (now sizes)) × (4225 ≤ length (now masses)) ⌝ }
+    ensures { λ _. ⌜ (now (sizes .exit) ≡ over (sizesAt (qualityIn (now (index .entry)) (now (pairs .entry))) (pairOf (held rows (now (left .entry))) (held cols (now (right .entry))))) (now (sizes .entry)))
+        × (now (masses .exit) ≡ over (massesAt (qualityIn (now (index .entry)) (now (pairs .entry))) (pairOf (held rows (now (left .entry))) (held cols (now (right .entry))))) (now (masses .entry))) ⌝ }
+{
+    let count = rows * cols;
+    let mut k = 0;
+    while k < count {
+        let p = cell(left, rows, right, cols, k);
+        put4(sizes, k, quality::size_of(index, pairs, n, p.left, p.right));
+        put4(masses, k, quality::mass_of(index, pairs, n, p.left, p.right));
+        k += 1;
+    }
+}
+
+// ---- a plan's quality
+// "the sum of count × size", or of count × mass
+fn plan_sum(x: &[u64], per: &[u32]) -> Wide
+    requires { ⌜ (length (now per) ≡ length (now x)) × (length (now x) ≤ 4225) × ((k : ℕ) → k < length (now x) → getD (now x) k 0 < 2 ^ 32) ⌝ }
+    ensures { λ d. ⌜ Natural d (dot (now (x .entry)) (now (per .entry))) ⌝ }
+{
+    let mut t = Wide { lo: 0, hi: 0 };
+    let mut i = 0;
+    while i < x.len() {
+        let y = x[i] * num8(per[i]);
+        t = t.wrapping_add(Wide { lo: y, hi: 0 });
+        i += 1;
+    }
+    t
+}
+
+// Whether a plan with these sums is strictly better: 1 is added to its size.
+fn cheaper(size: Wide, mass: Wide, b: Best) -> bool
+    requires { ⌜ unsigned mass ≤ unsigned size ⌝ }
+    ensures { λ r. ⌜ r ≡ round.better (1 + unsigned size, unsigned mass) (b .size, b .mass) ⌝ }
+{
+    let before = b.size;
+    if size.hi > 0 {
+        return false;
+    }
+    if size.lo >= before {
+        return false;
+    }
+    quality::better(size.lo + 1, mass.lo, b)
+}
+
+// ---- a plan's runs
+// Cell k with x units, behind m runs of the list: how many runs it has then.
+fn list_cell(
+    index: &[u16],
+    pairs: &[u32],
+    n: usize,
+    p: Place,
+    x: u64,
+    list: &mut [u64],
+    m: usize,
+) -> usize
+    requires { ⌜ Known n (now index) (now pairs) × (p .left < 256) × (p .right < 256) × (x < 2 ^ 32) × (m < length (now list)) ⌝ }
+    ensures { λ r. ⌜ (r ≡ manyAfter m x) × (now (list .exit) ≡ cellAfter (now (list .entry)) m x (termIn (now (index .entry)) (now (pairs .entry)) (with (p .left) (p .right)))) ⌝ }
+{
+    if x == 0 {
+        return m;
+    }
+    put8(list, m, x * 16384 + num8(quality::term_of(index, pairs, n, p.left, p.right)));
+    m + 1
+}
+
+// The plan's cells with units, row by row: how many.
+fn list_plan(
+    index: &[u16],
+    pairs: &[u32],
+    n: usize,
+    left: &[u64],
+    rows: usize,
+    right: &[u64],
+    cols: usize,
+    x: &[u64],
+    list: &mut [u64],
+) -> usize
+    requires { ⌜ Known n (now index) (now pairs) × (length (now left) ≡ NUMBERS) × (length (now right) ≡ NUMBERS) × (rows ≤ TERMS) × (cols ≤ TERMS)
+        × Joined (pairOf (held rows (now left)) (held cols (now right))) × (length (now x) ≡ rows * cols) × ((k : ℕ) → k < length (now x) → getD (now x) k 0 < 2 ^ 32) × (4225 ≤ length (now list)) ⌝ }
+    ensures { λ m. ⌜ (m ≡ length (runsAt (termIn (now (index .entry)) (now (pairs .entry))) (pairOf (held rows (now (left .entry))) (held cols (now (right .entry)))) (now (x .entry))))
+        × (now (list .exit) ≡ over (runsAt (termIn (now (index .entry)) (now (pairs .entry))) (pairOf (held rows (now (left .entry))) (held cols (now (right .entry)))) (now (x .entry))) (now (list .entry))) ⌝ }
+{
+    let mut m = 0;
+    let mut k = 0;
+    while k < x.len() {
+        let p = cell(left, rows, right, cols, k);
+        m = list_cell(index, pairs, n, p, x[k], list, m);
+        k += 1;
+    }
+    m
+}
