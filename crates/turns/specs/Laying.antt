@@ -61,12 +61,12 @@ module _ (z s₀ : List ℕ) where
       ∙ ap (λ (n : ℕ). z ++ drop n s₀) (zero-add (length z))
 
 -- ---- counts
-count-at : (m : Monomial) (i : ℕ) → i < length m → getD (counts m) i 0 ≡ getD m i (0, 0) .1
+pub count-at : (m : Monomial) (i : ℕ) → i < length m → getD (counts m) i 0 ≡ getD m i (0, 0) .1
 count-at [] i h = absurd (omega arith)
 count-at (t ∷ m) zero h = refl
 count-at (t ∷ m) (suc i) h = count-at m i (omega arith)
 
-narrow-at : (m : Monomial) → narrow m ≡ true → (i : ℕ) → i < length m → getD m i (0, 0) .1 < 2 ^ 32
+pub narrow-at : (m : Monomial) → narrow m ≡ true → (i : ℕ) → i < length m → getD m i (0, 0) .1 < 2 ^ 32
 unfolding all
 narrow-at [] n i h = absurd (omega arith)
 narrow-at (t ∷ m) n i h = step (leb (t .1) COUNT) refl (λ e j k. narrow-at m e j k) i h
@@ -87,7 +87,7 @@ module _ (s : List ℕ) (n : ℕ) (a : length s ≡ NUMBERS) (h : n ≤ TERMS) w
   counts-fit e i k = rw (← getD-take n (terms s) i (0, 0) k) (narrow-at (held n s) e i (omega (arith, held-length s n a h)))
 
 -- ---- a cell's pair
-value-at : (f : Two → ℕ) (ps : List Two) (k : ℕ) → k < length ps → getD (map f ps) k 0 ≡ f (getD ps k (0, 0))
+pub value-at : (f : Two → ℕ) (ps : List Two) (k : ℕ) → k < length ps → getD (map f ps) k 0 ≡ f (getD ps k (0, 0))
 value-at f [] k h = absurd (omega arith)
 value-at f (p ∷ ps) zero h = refl
 value-at f (p ∷ ps) (suc k) h = value-at f ps k (omega arith)

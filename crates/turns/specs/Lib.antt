@@ -3,3 +3,5 @@ pub mod Sums
 pub mod Laying
 pub mod Listing
 pub mod Better
+pub mod Offers
+pub mod OfferLaws
