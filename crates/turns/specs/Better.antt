@@ -22,6 +22,13 @@ better-size a b e = step (ltb (a .0) (b .0)) refl (eqb (a .0) (b .0)) refl
     step false u true w = omega (arith, eqb-true (a .0) (b .0) w)
     step false u false w = let z : _≡_ {A = Bool} false true = rw (u, w) at e in let y : _≡_ {A = ℕ} 0 1 = cc in absurd (omega arith)
 
+-- a better plan's sums are one word each
+abbrev pub Words : Wide → Wide → Type 0
+Words size mass = (1 + unsigned size ≡ size .lo + 1) × (unsigned mass ≡ mass .lo) × (size .lo + 1 < 2 ^ 64)
+
+pub false-true : {A : Type 0} → false ≡ true → A
+false-true e = let y : _≡_ {A = ℕ} 0 1 = cc in absurd (omega arith)
+
 module _ (size mass : Wide) (x y : ℕ) where
   pub high-not : 0 < size .hi → x < 2 ^ 64 → false ≡ better (1 + unsigned size, unsigned mass) (x, y)
   unfolding unsigned
@@ -38,8 +45,6 @@ module _ (size mass : Wide) (x y : ℕ) where
       let b : mass .lo + 2 ^ 64 * mass .hi ≡ mass .lo = omega arith in
       λ i. (a i, b i)
 
-  -- a better plan's sums are one word each
-  pub better-words : better (1 + unsigned size, unsigned mass) (x, y) ≡ true → x < 2 ^ 64 → unsigned mass ≤ unsigned size
-      → (1 + unsigned size ≡ size .lo + 1) × (unsigned mass ≡ mass .lo) × (size .lo + 1 < 2 ^ 64)
+  pub better-words : better (1 + unsigned size, unsigned mass) (x, y) ≡ true → x < 2 ^ 64 → unsigned mass ≤ unsigned size → Words size mass
   unfolding unsigned
   better-words e h m = let k = better-size (1 + (size .lo + 2 ^ 64 * size .hi), unsigned mass) (x, y) e in (omega arith, omega arith, omega arith)

@@ -5,3 +5,4 @@ pub mod Listing
 pub mod Better
 pub mod Offers
 pub mod OfferLaws
+pub mod PlanLaws

@@ -10,11 +10,17 @@ ghost use Rattle.wide.specs.Value.{unsigned};
 ghost use Rattle.wide.specs.Wrap.{Natural};
 ghost use Rattle.ac_repr.specs.Terms.{TERMS, NUMBERS, held};
 ghost use Rattle.quality.specs.Known.{Known, over, qualityIn, termIn};
+ghost use mathlib.Core.Option.{some};
+ghost use lib.ListN.{take, replicate};
+ghost use Rattle.transport.specs.Solved.{Solves};
+ghost use Rattle.turns.specs.Better.{Words};
 ghost use Rattle.turns.specs.Cells.{with};
+ghost use Rattle.turns.specs.Offers.{actionOf, bestAfter, listAfter, offerIn, workOf};
 ghost use Rattle.turns.specs.Laying.{sizesAt, massesAt, Joined};
 ghost use Rattle.turns.specs.Listing.{manyAfter, cellAfter, runsAt};
 ghost use Rattle.turns.specs.Sums.{dot};
 use quality::Best;
+use quality::How;
 use wide::Wide;
 
 // the largest numbers of rows and of columns, and of cells
@@ -130,7 +136,7 @@ fn plan_sum(x: &[u64], per: &[u32]) -> Wide
 // Whether a plan with these sums is strictly better: 1 is added to its size.
 fn cheaper(size: Wide, mass: Wide, b: Best) -> bool
     requires { ⌜ unsigned mass ≤ unsigned size ⌝ }
-    ensures { λ r. ⌜ r ≡ round.better (1 + unsigned size, unsigned mass) (b .size, b .mass) ⌝ }
+    ensures { λ r. ⌜ (r ≡ round.better (1 + unsigned size, unsigned mass) (b .size, b .mass)) × (r ≡ true → Words size mass) ⌝ }
 {
     let before = b.size;
     if size.hi > 0 {
@@ -188,4 +194,130 @@ fn list_plan(
         k += 1;
     }
     m
+}
+
+// ---- one transport action
+// Whether there is a plan: it is in the first cells of `flow`.
+fn solve(
+    supply: &[u32],
+    rows: usize,
+    demand: &[u32],
+    cols: usize,
+    ones: &[u8],
+    sizes: &[u32],
+    masses: &[u32],
+    costs: &mut [u64],
+    flow: &mut [u64],
+) -> bool
+    requires { ⌜ (rows ≤ 65) × (cols ≤ 65) × (65 ≤ length (now supply)) × (65 ≤ length (now demand)) × (4225 ≤ length (now ones)) × (4225 ≤ length (now sizes)) × (4225 ≤ length (now masses))
+        × (12675 ≤ length (now costs)) × (4225 ≤ length (now flow)) ⌝ }
+    ensures { λ b. ⌜ Solves (take rows (now (supply .entry))) (take cols (now (demand .entry))) (take (rows * cols) (now (sizes .entry))) (take (rows * cols) (now (masses .entry))) (take (rows * cols) (now (ones .entry)))
+        (now (costs .entry)) (now (flow .entry)) (now (costs .exit)) (now (flow .exit)) b ⌝ }
+{
+    let count = rows * cols;
+    transport::solve_cells(
+        &supply[0..rows],
+        &demand[0..cols],
+        &sizes[0..count],
+        &masses[0..count],
+        &ones[0..count],
+        costs,
+        flow,
+    )
+}
+
+// The plan x, in its cells' sizes and masses, offered: the best afterwards. A better plan is listed.
+fn offer_plan(
+    index: &[u16],
+    pairs: &[u32],
+    n: usize,
+    op: usize,
+    left: &[u64],
+    rows: usize,
+    right: &[u64],
+    cols: usize,
+    sizes: &[u32],
+    masses: &[u32],
+    x: &[u64],
+    list: &mut [u64],
+    best: Best,
+) -> Best
+    requires { ⌜ Known n (now index) (now pairs) × (length (now left) ≡ NUMBERS) × (length (now right) ≡ NUMBERS) × (rows ≤ TERMS) × (cols ≤ TERMS)
+        × Joined (pairOf (held rows (now left)) (held cols (now right))) × (length (now x) ≡ rows * cols) × ((k : ℕ) → k < length (now x) → getD (now x) k 0 < 2 ^ 32) × (4225 ≤ length (now list))
+        × (now sizes ≡ sizesAt (qualityIn (now index) (now pairs)) (pairOf (held rows (now left)) (held cols (now right)))) × (now masses ≡ massesAt (qualityIn (now index) (now pairs)) (pairOf (held rows (now left)) (held cols (now right)))) ⌝ }
+    ensures { λ r. ⌜ (r ≡ bestAfter (qualityIn (now (index .entry)) (now (pairs .entry))) (termIn (now (index .entry)) (now (pairs .entry))) (actionOf op (pairOf (held rows (now (left .entry))) (held cols (now (right .entry))))) (some (now (x .entry))) best)
+        × (now (list .exit) ≡ listAfter (qualityIn (now (index .entry)) (now (pairs .entry))) (termIn (now (index .entry)) (now (pairs .entry))) (actionOf op (pairOf (held rows (now (left .entry))) (held cols (now (right .entry))))) (some (now (x .entry))) best (now (list .entry))) ⌝ }
+{
+    let size = plan_sum(x, sizes);
+    let mass = plan_sum(x, masses);
+    if cheaper(size, mass, best) {
+        let m = list_plan(index, pairs, n, left, rows, right, cols, x, list);
+        return Best {
+            size: size.lo + 1,
+            mass: mass.lo,
+            how: How::Plan(op, m),
+        };
+    }
+    best
+}
+
+// An action over two monomials: laid out, solved and offered.
+fn offer_transport(
+    index: &[u16],
+    pairs: &[u32],
+    n: usize,
+    op: usize,
+    left: &[u64],
+    rows: usize,
+    right: &[u64],
+    cols: usize,
+    ones: &[u8],
+    sizes: &mut [u32],
+    masses: &mut [u32],
+    costs: &mut [u64],
+    flow: &mut [u64],
+    list: &mut [u64],
+    best: Best,
+) -> Best
+    requires { ⌜ Known n (now index) (now pairs) × (length (now left) ≡ NUMBERS) × (length (now right) ≡ NUMBERS) × (rows ≤ TERMS) × (cols ≤ TERMS)
+        × Joined (pairOf (held rows (now left)) (held cols (now right))) × (narrow (held rows (now left)) ≡ true) × (narrow (held cols (now right)) ≡ true) × (now ones ≡ replicate 4225 1)
+        × (4225 ≤ length (now sizes)) × (4225 ≤ length (now masses)) × (12675 ≤ length (now costs)) × (4225 ≤ length (now flow)) × (4225 ≤ length (now list)) ⌝ }
+    ensures { λ r. ⌜ workOf (now (sizes .exit)) (now (masses .exit)) (now (costs .exit)) (now (flow .exit)) (now (list .exit)) r
+        ≡ offerIn (qualityIn (now (index .entry)) (now (pairs .entry))) (termIn (now (index .entry)) (now (pairs .entry))) (actionOf op (pairOf (held rows (now (left .entry))) (held cols (now (right .entry)))))
+        (workOf (now (sizes .entry)) (now (masses .entry)) (now (costs .entry)) (now (flow .entry)) (now (list .entry)) best) ⌝ }
+{
+    let mut supply = [0u32; SIDE];
+    let mut demand = [0u32; SIDE];
+    lay_margin(left, rows, &mut supply);
+    lay_margin(right, cols, &mut demand);
+    lay_cells(index, pairs, n, left, rows, right, cols, sizes, masses);
+    let count = rows * cols;
+    if solve(
+        &supply,
+        rows,
+        &demand,
+        cols,
+        ones,
+        sizes,
+        masses,
+        costs,
+        flow,
+    ) {
+        return offer_plan(
+            index,
+            pairs,
+            n,
+            op,
+            left,
+            rows,
+            right,
+            cols,
+            &sizes[0..count],
+            &masses[0..count],
+            &flow[0..count],
+            list,
+            best,
+        );
+    }
+    best
 }

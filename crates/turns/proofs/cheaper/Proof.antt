@@ -1,4 +1,5 @@
-use Rattle.turns.specs.Better.{high-not, low-not, words-one}
+use Rattle.turns.specs.Better.{high-not, low-not, words-one, better-words, false-true, Words}
+
 use Rattle.spec.specs.Round.{better}
 use Rattle.spec.specs.Bytes.{Two}
 use borrow.Author.Tests.{lt-ltb, le-ltb, le-leb, lt-leb, eq-eqb, ne-eqb}
@@ -18,11 +19,11 @@ use Rattle.quality.proofs.better.Reads as better-reads
 
 -- src/lib.rt:137:9
 returns : tie.Need-returns
-returns c = let a = c .before .before .args in high-not (a .size) (a .mass) (a .b .size) (a .b .mass) (omega arith) (omega arith)
+returns c = let a = c .before .before .args in (high-not (a .size) (a .mass) (a .b .size) (a .b .mass) (omega arith) (omega arith), λ e. false-true e)
 
 -- src/lib.rt:140:9
 returns-2 : tie.Need-returns-2
-returns-2 c = let a = c .before .before .before .before .args in low-not (a .size) (a .mass) (a .b .size) (a .b .mass) (omega arith)
+returns-2 c = let a = c .before .before .before .before .args in (low-not (a .size) (a .mass) (a .b .size) (a .b .mass) (omega arith), λ e. false-true e)
 
 -- src/lib.rt:142:21
 add-better : tie.Need-add-better
@@ -36,7 +37,9 @@ better-requires c κs = search needs
 returns-3 : tie.Need-returns-3
 returns-3 c =
     let b = c .before .before .before .before .before .before in let a = b .args in
-    c .better .ensures ∙ ap (λ (t : Two). better t (a .b .size, a .b .mass)) (sym (words-one (a .size) (a .mass) (a .b .size) (a .b .mass) (omega arith) (omega arith) (b .pre)))
+    let e = c .better .ensures ∙ ap (λ (t : Two). better t (a .b .size, a .b .mass)) (sym (words-one (a .size) (a .mass) (a .b .size) (a .b .mass) (omega arith) (omega arith) (b .pre))) in
+    let x : a .b .size < 2 ^ 64 = omega arith in
+    (e, λ f. better-words (a .size) (a .mass) (a .b .size) (a .b .mass) (sym e ∙ f) x (b .pre))
 
 pub cheaper-spec : {M : Type 1} → statement M
 cheaper-spec = tie.close (tie.spec returns returns-2 add-better better-requires returns-3)
