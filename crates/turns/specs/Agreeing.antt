@@ -41,6 +41,14 @@ pub record Agrees (t : Tables) (of : Two → ℕ) (list : List ℕ) (b : Best) (
   pub quality : (b .size, b .mass) ≡ w .quality
   pub chosen : Chosen t of list (b .how) (w .choice)
 
+-- the five work buffers are the same
+pub record Same (v w : Work) : Type 0 where
+  pub sizes : v .sizes ≡ w .sizes
+  pub masses : v .masses ≡ w .masses
+  pub costs : v .costs ≡ w .costs
+  pub flow : v .flow ≡ w .flow
+  pub list : v .list ≡ w .list
+
 module _ (t : Tables) (q : Two → Two) (of : Two → ℕ) where
   -- ---- one offer
   agrees-plan : (a : TransportAction) (z : Option (List ℕ)) (list : List ℕ) (b : Best) (w : Turn) → Agrees t of list b w → Agrees t of (listAfter q of a z b list) (bestAfter q of a z b) (offerPlan q a z w)
@@ -78,13 +86,6 @@ module _ (t : Tables) (q : Two → Two) (of : Two → ℕ) where
   turn-agrees p v A = offers-agree (transports t (p .0) (p .1)) v (afterAligned t q p) (aligned-agrees p (v .list) (v .best) A)
 
   -- ---- where the best comes from does not count
-  pub record Same (v w : Work) : Type 0 where
-    pub sizes : v .sizes ≡ w .sizes
-    pub masses : v .masses ≡ w .masses
-    pub costs : v .costs ≡ w .costs
-    pub flow : v .flow ≡ w .flow
-    pub list : v .list ≡ w .list
-
   same-refl : (v : Work) → Same v v
   same-refl v = record { sizes = refl; masses = refl; costs = refl; flow = refl; list = refl }
 

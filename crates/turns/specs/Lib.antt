@@ -6,3 +6,7 @@ pub mod Better
 pub mod Offers
 pub mod OfferLaws
 pub mod PlanLaws
+pub mod Walking
+pub mod Taking
+pub mod Agreeing
+pub mod Ending

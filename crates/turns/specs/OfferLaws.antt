@@ -3,13 +3,13 @@ use mathlib.Core.Path.{_≡_, refl, sym, ap, _∙_}
 use mathlib.Core.Bool.{Bool, true, false}
 use mathlib.Core.List.{List, [], _∷_, _++_, map}
 use mathlib.Core.Option.{Option, none, some}
-use Prim.Native.Nat.{ℕ, zero, suc, _+_, _*_, _^_, _≤_, _<_}
-use native.Mathlib.Nat.{add-zero}
+use Prim.Native.Nat.{ℕ, zero, suc, _+_, _-_, _*_, _^_, _≤_, _<_}
+use native.Mathlib.Nat.{add-zero, sub-zero}
 use native.Mathlib.Decide.{decLt}
 use native.Mathlib.Omega.{arith}
 use lib.Dec.{eqb}
 use lib.ListN.{length, getD, take, drop, replicate, List·getD-eq-default}
-use lib.Seq.{take-at, getD-take}
+use lib.Seq.{take-at, length-take-le}
 use Rattle.spec.specs.Bytes.{Two, pick}
 use Rattle.spec.specs.Monomial.{Monomial, MonomialPair, pairOf, counts, narrow}
 use Rattle.spec.specs.Transport.{Cell, cost, forbidden, Problem, solveCells, supplyAt, rowsOf, colsOf}
@@ -22,9 +22,9 @@ use Rattle.lgg.specs.Lists.{length-map}
 use Rattle.quality.specs.Known.{over}
 use Rattle.quality.specs.declared.Best.{Best}
 use Rattle.ac_repr.specs.Terms.{TERMS, NUMBERS, held}
-use Rattle.turns.specs.Cells.{cells-length, held-length}
+use Rattle.turns.specs.Cells.{cells-fit, cells-length, held-length}
 use Rattle.turns.specs.Laying.{sizesAt, massesAt, value-at, narrow-at, count-at, counts-length}
-use Rattle.turns.specs.Offers.{Work, workOf, actionOf, problemAt, bestAfter, listAfter, offerIn}
+use Rattle.turns.specs.Offers.{Work, workOf, actionOf, problemAt, bestAfter, listAfter, offerIn, Tried}
 
 -- ---- the problem of allowed cells
 module _ (sizes masses flags : List ℕ) where
@@ -80,7 +80,7 @@ take-ones (suc n) zero h = absurd (omega arith)
 take-ones (suc n) (suc m) h = ap (λ (l : List ℕ). 1 ∷ l) (take-ones n m (omega arith))
 
 -- ---- what was laid out and solved
-module _ (q : Two → Two) (o : ℕ) (left right : List ℕ) (r c : ℕ) (a : length left ≡ NUMBERS) (b : length right ≡ NUMBERS) (hr : r ≤ TERMS) (hc : c ≤ TERMS)
+module _ (q : Two → Two) (left right : List ℕ) (r c : ℕ) (a : length left ≡ NUMBERS) (b : length right ≡ NUMBERS) (hr : r ≤ TERMS) (hc : c ≤ TERMS)
     (supply₀ demand₀ sizes₀ masses₀ supply demand sizes masses ones : List ℕ)
     (u : supply ≡ over (counts (held r left)) supply₀) (w : demand ≡ over (counts (held c right)) demand₀)
     (s : sizes ≡ over (sizesAt q (pairOf (held r left) (held c right))) sizes₀) (m : masses ≡ over (massesAt q (pairOf (held r left) (held c right))) masses₀)
@@ -110,32 +110,22 @@ module _ (q : Two → Two) (o : ℕ) (left right : List ℕ) (r c : ℕ) (a : le
   allowed : take (r * c) ones ≡ replicate (length (cellPairs M)) 1
   allowed = ap (take (r * c)) i ∙ take-ones (r * c) 4225 fit ∙ ap (λ (n : ℕ). replicate n 1) (sym many)
 
-  pub solved-sizes : take (r * c) sizes ≡ sizesAt q (pairOf (held r left) (held c right))
-  unfolding M
-  solved-sizes = sized
-
-  pub solved-masses : take (r * c) masses ≡ massesAt q (pairOf (held r left) (held c right))
-  unfolding M
-  solved-masses = massed
-
   T : Solves (counts (held r left)) (counts (held c right)) (sizesAt q M) (massesAt q M) (replicate (length (cellPairs M)) 1) costs flow costs′ flow′ z
   T = rw (← rowed, ← coled, ← sized, ← massed, ← allowed) S
 
-  same : problemOf (counts (held r left)) (counts (held c right)) (sizesAt q M) (massesAt q M) (replicate (length (cellPairs M)) 1) ≡ problemAt q (λ p. 0) (actionOf o M)
+  same : problemOf (counts (held r left)) (counts (held c right)) (sizesAt q M) (massesAt q M) (replicate (length (cellPairs M)) 1) ≡ problemAt q (λ p. 0) (actionOf 0 M)
   unfolding M
-  same = problem-is q o M
+  same = problem-is q 0 M
 
-  pub solved-is : z ≡ isPlan (solveCells (problemOver (actionOf o (pairOf (held r left) (held c right))) (map q (cellPairs (pairOf (held r left) (held c right))))))
+  pub tried-is : Tried q (pairOf (held r left) (held c right)) sizes₀ masses₀ costs flow sizes masses costs′ flow′ z
   unfolding M
-  solved-is = T .is ∙ ap (λ (p : Problem). isPlan (solveCells p)) same
-
-  pub solved-flow : flow′ ≡ flowAfter (problemOver (actionOf o (pairOf (held r left) (held c right))) (map q (cellPairs (pairOf (held r left) (held c right))))) flow
-  unfolding M
-  solved-flow = T .flow ∙ ap (λ (p : Problem). flowAfter p flow) same
-
-  pub solved-costs : costs′ ≡ costsAfter (counts (held r left)) (counts (held c right)) (sizesAt q (pairOf (held r left) (held c right))) (massesAt q (pairOf (held r left) (held c right))) (replicate (length (cellPairs (pairOf (held r left) (held c right)))) 1) costs
-  unfolding M
-  solved-costs = T .costs
+  tried-is = record {
+    sizesAre = s;
+    massesAre = m;
+    costsAre = T .costs;
+    flowIs = T .flow ∙ ap (λ (p : Problem). flowAfter p flow) same;
+    is = T .is ∙ ap (λ (p : Problem). isPlan (solveCells p)) same;
+  }
 
 -- a plan of narrow monomials has 32-bit numbers
 pub small-plan : (q : Two → Two) (a : TransportAction) → narrow (a .sides .rows) ≡ true → (x : List ℕ) → solveCells (problemAt q (λ p. 0) a) ≡ some x → (k : ℕ) → getD x k 0 < 2 ^ 32
@@ -148,35 +138,82 @@ small-plan q a n x e k = plan-small (problemAt q (λ p. 0) a) (low (a .sides .ro
         go (yes h) = rw (count-at m i h) (narrow-at m n i h)
         go (no h) = rw (List·getD-eq-default (counts m) 0 {n = i} (omega (arith, h, length-map (λ t. t .1) m))) (omega arith)
 
+no-plan : (z : Option (List ℕ)) → isPlan z ≡ false → z ≡ none
+no-plan none e = refl
+no-plan (some x) e = absurd (let y : _≡_ {A = ℕ} 0 1 = cc in omega arith)
+
+some-plan : (z : Option (List ℕ)) → isPlan z ≡ true → (x : List ℕ) × (z ≡ some x)
+some-plan none e = absurd (let y : _≡_ {A = ℕ} 0 1 = cc in omega arith)
+some-plan (some x) e = (x, refl)
+
 -- ---- the ways that the code goes
-module _ (q : Two → Two) (of : Two → ℕ) (a : TransportAction) (w : Work) (sizes′ masses′ costs′ flow′ list′ : List ℕ) (best′ : Best)
-    (s : sizes′ ≡ over (sizesAt q (a .sides)) (w .sizes)) (m : masses′ ≡ over (massesAt q (a .sides)) (w .masses))
-    (c : costs′ ≡ costsAfter (counts (a .sides .rows)) (counts (a .sides .cols)) (sizesAt q (a .sides)) (massesAt q (a .sides)) (replicate (length (cellPairs (a .sides))) 1) (w .costs))
-    (f : flow′ ≡ flowAfter (problemAt q of a) (w .flow)) where
-  offered : (z : Option (List ℕ)) → solveCells (problemAt q of a) ≡ z → list′ ≡ listAfter q of a z (w .best) (w .list) → best′ ≡ bestAfter q of a z (w .best)
-      → workOf sizes′ masses′ costs′ flow′ list′ best′ ≡ offerIn q of a w
+module _ (q : Two → Two) (of : Two → ℕ) (o : ℕ) (left right : List ℕ) (r c : ℕ) (a : length left ≡ NUMBERS) (b : length right ≡ NUMBERS) (hr : r ≤ TERMS) (hc : c ≤ TERMS)
+    (w : Work) (sizes′ masses′ costs′ flow′ : List ℕ) (z : Bool) (R : Tried q (pairOf (held r left) (held c right)) (w .sizes) (w .masses) (w .costs) (w .flow) sizes′ masses′ costs′ flow′ z) where
+  abbrev X : MonomialPair
+  X = pairOf (held r left) (held c right)
+
+  cells : length (cellPairs X) ≡ r * c
+  cells = cells-length (pairOf (held r left) (held c right)) ∙ (λ i. held-length left r a hr i * held-length right c b hc i)
+
+  pub tried-sizes : take (r * c - 0) sizes′ ≡ sizesAt q (pairOf (held r left) (held c right))
+  tried-sizes = rw (sub-zero (r * c)) (front-is (sizesAt q X) (w .sizes) sizes′ (r * c) (R .sizesAre) (length-map (λ p. q p .0) (cellPairs X) ∙ cells))
+
+  pub tried-masses : take (r * c - 0) masses′ ≡ massesAt q (pairOf (held r left) (held c right))
+  tried-masses = rw (sub-zero (r * c)) (front-is (massesAt q X) (w .masses) masses′ (r * c) (R .massesAre) (length-map (λ p. q p .1) (cellPairs X) ∙ cells))
+
+  offered : (list′ : List ℕ) (best′ : Best) (y : Option (List ℕ)) → solveCells (problemAt q of (actionOf o X)) ≡ y → list′ ≡ listAfter q of (actionOf o X) y (w .best) (w .list) → best′ ≡ bestAfter q of (actionOf o X) y (w .best)
+      → workOf sizes′ masses′ costs′ flow′ list′ best′ ≡ offerIn q of (actionOf o X) w
   unfolding offerIn
-  offered z e l b =
-      λ i. workOf (s i) (m i) (c i) (f i) ((l ∙ ap (λ (o : Option (List ℕ)). listAfter q of a o (w .best) (w .list)) (sym e)) i) ((b ∙ ap (λ (o : Option (List ℕ)). bestAfter q of a o (w .best)) (sym e)) i)
-
-  no-plan : (z : Option (List ℕ)) → isPlan z ≡ false → z ≡ none
-  no-plan none e = refl
-  no-plan (some x) e = absurd (let y : _≡_ {A = ℕ} 0 1 = cc in omega arith)
-
-  some-plan : (z : Option (List ℕ)) → isPlan z ≡ true → (x : List ℕ) × (z ≡ some x)
-  some-plan none e = absurd (let y : _≡_ {A = ℕ} 0 1 = cc in omega arith)
-  some-plan (some x) e = (x, refl)
+  offered list′ best′ y e l d =
+      λ i. workOf (R .sizesAre i) (R .massesAre i) (R .costsAre i) (R .flowIs i) ((l ∙ ap (λ (u : Option (List ℕ)). listAfter q of (actionOf o X) u (w .best) (w .list)) (sym e)) i) ((d ∙ ap (λ (u : Option (List ℕ)). bestAfter q of (actionOf o X) u (w .best)) (sym e)) i)
 
   -- "A monomial pair with an empty side has no plan"
-  pub offer-none : false ≡ isPlan (solveCells (problemAt q of a)) → list′ ≡ w .list → best′ ≡ w .best → workOf sizes′ masses′ costs′ flow′ list′ best′ ≡ offerIn q of a w
-  offer-none e l b = offered none (no-plan (solveCells (problemAt q of a)) (sym e)) l b
+  pub offer-none : z ≡ false → workOf sizes′ masses′ costs′ flow′ (w .list) (w .best) ≡ offerIn q of (actionOf o (pairOf (held r left) (held c right))) w
+  offer-none e = offered (w .list) (w .best) none (no-plan (solveCells (problemAt q of (actionOf o X))) (sym (R .is) ∙ e)) refl refl
 
-  module _ (n : ℕ) (k : n ≡ rowsOf (problemAt q of a) * colsOf (problemAt q of a)) (e : true ≡ isPlan (solveCells (problemAt q of a))) where
+  module _ (e : z ≡ true) where
+    found : (x : List ℕ) × (solveCells (problemAt q of (actionOf o X)) ≡ some x)
+    found = some-plan (solveCells (problemAt q of (actionOf o X))) (sym (R .is) ∙ e)
+
+    wide : rowsOf (problemAt q of (actionOf o X)) * colsOf (problemAt q of (actionOf o X)) ≡ r * c
+    wide = λ i. counts-length left r a hr i * counts-length right c b hc i
+
     -- the plan is in the buffer
-    pub offer-plan : solveCells (problemAt q of a) ≡ some (take n flow′)
-    offer-plan =
-        let (x, y) = some-plan (solveCells (problemAt q of a)) (sym e) in
-        y ∙ ap some (sym (ap (take n) f ∙ ap (λ (j : ℕ). take j (flowAfter (problemAt q of a) (w .flow))) k ∙ plan-begins (problemAt q of a) (w .flow) x y))
+    begins : take (r * c - 0) flow′ ≡ found .0
+    begins =
+        ap (λ (n : ℕ). take n flow′) (sub-zero (r * c) ∙ sym wide)
+        ∙ ap (take (rowsOf (problemAt q of (actionOf o X)) * colsOf (problemAt q of (actionOf o X)))) (R .flowIs)
+        ∙ plan-begins (problemAt q of (actionOf o X)) (w .flow) (found .0) (found .1)
 
-    pub offer-some : list′ ≡ listAfter q of a (some (take n flow′)) (w .best) (w .list) → best′ ≡ bestAfter q of a (some (take n flow′)) (w .best) → workOf sizes′ masses′ costs′ flow′ list′ best′ ≡ offerIn q of a w
-    offer-some l b = offered (some (take n flow′)) offer-plan l b
+    pub plan-cells : length (take (r * c - 0) flow′) ≡ r * c
+    plan-cells = ap length begins ∙ plan-long (problemAt q of (actionOf o X)) (found .0) (found .1) ∙ wide
+
+    pub plan-low : narrow (held r left) ≡ true → (k : ℕ) → k < length (take (r * c - 0) flow′) → getD (take (r * c - 0) flow′) k 0 < 2 ^ 32
+    plan-low n k h = rw begins (small-plan q (actionOf o X) n (found .0) (found .1) k)
+
+    pub offer-some : (list′ : List ℕ) (best′ : Best)
+        → best′ ≡ bestAfter q of (actionOf o (pairOf (held r left) (held c right))) (some (take (r * c - 0) flow′)) (w .best)
+        → list′ ≡ listAfter q of (actionOf o (pairOf (held r left) (held c right))) (some (take (r * c - 0) flow′)) (w .best) (w .list)
+        → workOf sizes′ masses′ costs′ flow′ list′ best′ ≡ offerIn q of (actionOf o (pairOf (held r left) (held c right))) w
+    offer-some list′ best′ d l = offered list′ best′ (some (take (r * c - 0) flow′)) (found .1 ∙ ap some (sym begins)) l d
+
+-- ---- parts of buffers, as the solver is given them
+module _ (supply demand sizes masses ones costs flow : List ℕ) (r c : ℕ) where
+  pub parts-shaped : r ≤ 65 → c ≤ 65 → 65 ≤ length supply → 65 ≤ length demand → 4225 ≤ length ones → 4225 ≤ length sizes → 4225 ≤ length masses → 12675 ≤ length costs → 4225 ≤ length flow
+      → Shaped (take (r - 0) supply) (take (c - 0) demand) (take (r * c - 0) sizes) (take (r * c - 0) masses) (take (r * c - 0) ones) costs flow
+  parts-shaped hr hc a b d e f g h =
+      let k = cells-fit r c hr hc in
+      let u = length-take-le r supply (omega arith) in
+      let v = length-take-le c demand (omega arith) in
+      rw (sub-zero r, sub-zero c, sub-zero (r * c))
+      (record {
+        rows = rw u hr; columns = rw v hc;
+        sizesLong = rw (u, v) (length-take-le (r * c) sizes (omega arith));
+        massesLong = rw (u, v) (length-take-le (r * c) masses (omega arith));
+        allowedLong = rw (u, v) (length-take-le (r * c) ones (omega arith));
+        costsLong = g; flowLong = h;
+      })
+
+  pub parts-solved : (costs′ flow′ : List ℕ) (z : Bool) → Solves (take (r - 0) supply) (take (c - 0) demand) (take (r * c - 0) sizes) (take (r * c - 0) masses) (take (r * c - 0) ones) costs flow costs′ flow′ z
+      → Solves (take r supply) (take c demand) (take (r * c) sizes) (take (r * c) masses) (take (r * c) ones) costs flow costs′ flow′ z
+  parts-solved costs′ flow′ z S = rw (sub-zero r, sub-zero c, sub-zero (r * c)) at S

@@ -3,15 +3,15 @@ use mathlib.Core.Path.{_≡_}
 use mathlib.Core.Bool.{Bool, true, false}
 use mathlib.Core.List.{List, [], _∷_, map}
 use mathlib.Core.Option.{Option, none, some}
-use Prim.Native.Nat.{ℕ, _≤_, _<_}
+use Prim.Native.Nat.{ℕ}
 use lib.ListN.{length, replicate}
 use Rattle.spec.specs.Bytes.{Two, pick}
-use Rattle.spec.specs.Monomial.{MonomialPair, counts, narrow}
+use Rattle.spec.specs.Monomial.{MonomialPair, counts}
 use Rattle.spec.specs.Transport.{Problem, solveCells, planSize, planMass}
 use Rattle.spec.specs.Action.{TransportAction, cellPairs}
 use Rattle.spec.specs.Round.{better, qualityOver, problemOver, planRuns}
-use Rattle.transport.specs.Solved.{costsAfter, flowAfter}
-use Rattle.quality.specs.Known.{over, packed}
+use Rattle.transport.specs.Solved.{isPlan, costsAfter, flowAfter}
+use Rattle.quality.specs.Known.{over}
 use Rattle.quality.specs.declared.How.the-variants as H
 use Rattle.quality.specs.declared.Best.{Best}
 use Rattle.turns.specs.Laying.{sizesAt, massesAt}
@@ -64,18 +64,10 @@ unfolding offerIn
 offersIn q of [] w = w
 offersIn q of (a ∷ l) w = offersIn q of l (offerIn q of a w)
 
--- At most 65 rows and columns with 32-bit counts, and a number of an operation.
-pub record Fit (a : TransportAction) : Type 0 where
-  pub rows : length (a .sides .rows) ≤ 65
-  pub cols : length (a .sides .cols) ≤ 65
-  pub narrowRows : narrow (a .sides .rows) ≡ true
-  pub narrowCols : narrow (a .sides .cols) ≡ true
-  pub op : a .op < 64
-
--- the work buffers have their lengths
-pub record Roomy (w : Work) : Type 0 where
-  pub sizes : 4225 ≤ length (w .sizes)
-  pub masses : 4225 ≤ length (w .masses)
-  pub costs : 12675 ≤ length (w .costs)
-  pub flow : 4225 ≤ length (w .flow)
-  pub list : 4225 ≤ length (w .list)
+-- What laying out and solving an action over m leaves, and whether there is a plan.
+pub record Tried (q : Two → Two) (m : MonomialPair) (sizes masses costs flow sizes′ masses′ costs′ flow′ : List ℕ) (b : Bool) : Type 0 where
+  pub sizesAre : sizes′ ≡ over (sizesAt q m) sizes
+  pub massesAre : masses′ ≡ over (massesAt q m) masses
+  pub costsAre : costs′ ≡ costsAfter (counts (m .rows)) (counts (m .cols)) (sizesAt q m) (massesAt q m) (replicate (length (cellPairs m)) 1) costs
+  pub flowIs : flow′ ≡ flowAfter (problemOver (actionOf 0 m) (map q (cellPairs m))) flow
+  pub is : b ≡ isPlan (solveCells (problemOver (actionOf 0 m) (map q (cellPairs m))))

@@ -11,11 +11,13 @@ use Rattle.spec.specs.Action.{transports}
 use Rattle.spec.specs.Round.{Choice, stay, act, Turn, changes, turnOf, choiceTerm, planRuns}
 use Rattle.terms.specs.Buffers.{poolOf, part, nodesIn}
 use Rattle.terms.specs.Chains.{Holds}
-use Rattle.terms.specs.Interning.{poolAfter}
+use Rattle.terms.specs.Interning.{enteredOf, poolAfter}
 use Rattle.terms.specs.Growing.{Grows}
 use Rattle.terms.specs.Results.{actionList}
+use Rattle.terms.specs.declared.Entered.{Entered}
 use Rattle.quality.specs.Known.{over}
 use Rattle.quality.specs.Aligned.{afterAligned}
+use Rattle.quality.specs.declared.How.{How}
 use Rattle.quality.specs.declared.How.the-variants as H
 use Rattle.quality.specs.declared.Best.{Best}
 use Rattle.turns.specs.Listing.{runsOver}
@@ -48,6 +50,20 @@ turnIn t q of p sizes masses costs flow list = offersIn q of (transports t (p .0
 abbrev pub termList : Tables → (Two → ℕ) → List ℕ → List ℕ → Choice → List ℕ → List ℕ
 termList t of terms runs stay list = list
 termList t of terms runs (act o ps x) list = actionList (isCommutative (kindOf t o)) terms runs (over (runsOver of ps x) list) (length (runsOver of ps x))
+
+-- The choice c made into its term, from the list that the turn left: what the list and the pool's buffers hold then.
+pub record Ended (t : Tables) (of : Two → ℕ) (terms runs : List ℕ) (old : ℕ) (c : Choice) (list terms′ runs′ list′ : List ℕ) (r : Entered) : Type 0 where
+  pub answer : r ≡ enteredOf (choiceTerm t of (poolOf terms runs) old c)
+  pub pool : poolOf terms′ runs′ ≡ poolAfter (poolOf terms runs) (choiceTerm t of (poolOf terms runs) old c)
+  pub holds : Holds terms′ runs′
+  pub grows : Grows terms runs terms′ runs′ (poolAfter (poolOf terms runs) (choiceTerm t of (poolOf terms runs) old c))
+  pub listIs : list′ ≡ termList t of terms runs c list
+
+-- an action was chosen
+abbrev pub changedBy : How → Bool
+changedBy H.Stay = false
+changedBy (H.Aligned v) = true
+changedBy (H.Plan o m) = true
 
 -- What a turn leaves in the five work buffers.
 pub record Leaves (t : Tables) (q : Two → Two) (of : Two → ℕ) (p : Two) (terms runs sizes masses costs flow list sizes′ masses′ costs′ flow′ list′ : List ℕ) : Type 0 where

@@ -68,7 +68,7 @@ module _ (t : Tables) (q : Two → Two) (of : Two → ℕ) (l r : ℕ) (w₀ : W
 
     module _ (x : Step) (v : Walk) (e : x ≡ At v) (W : Walking t q of l r w₀ x w) where
       pub walking-within : Within t l r (At v)
-      walking-within = rw (← e) (W .within)
+      walking-within = rw e at (W .within)
 
       module _ (y : Step) (d : Stepped t l r (walks t l r) (walks t l r (afterOf v)) y) where
         split : actionsLeft t l r x ≡ actionsAt t l r v ++ actionsLeft t l r y

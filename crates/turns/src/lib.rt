@@ -15,7 +15,7 @@ ghost use lib.ListN.{take, replicate};
 ghost use Rattle.transport.specs.Solved.{Solves};
 ghost use Rattle.turns.specs.Better.{Words};
 ghost use Rattle.turns.specs.Cells.{with};
-ghost use Rattle.turns.specs.Offers.{actionOf, bestAfter, listAfter, offerIn, workOf};
+ghost use Rattle.turns.specs.Offers.{actionOf, bestAfter, listAfter, offerIn, Tried, workOf};
 ghost use Rattle.turns.specs.Laying.{sizesAt, massesAt, Joined};
 ghost use Rattle.turns.specs.Listing.{manyAfter, cellAfter, runsAt};
 ghost use Rattle.turns.specs.Sums.{dot};
@@ -261,6 +261,45 @@ fn offer_plan(
     best
 }
 
+// An action over two monomials laid out and solved: whether there is a plan.
+fn plan_transport(
+    index: &[u16],
+    pairs: &[u32],
+    n: usize,
+    left: &[u64],
+    rows: usize,
+    right: &[u64],
+    cols: usize,
+    ones: &[u8],
+    sizes: &mut [u32],
+    masses: &mut [u32],
+    costs: &mut [u64],
+    flow: &mut [u64],
+) -> bool
+    requires { ⌜ Known n (now index) (now pairs) × (length (now left) ≡ NUMBERS) × (length (now right) ≡ NUMBERS) × (rows ≤ TERMS) × (cols ≤ TERMS)
+        × Joined (pairOf (held rows (now left)) (held cols (now right))) × (narrow (held rows (now left)) ≡ true) × (narrow (held cols (now right)) ≡ true) × (now ones ≡ replicate 4225 1)
+        × (4225 ≤ length (now sizes)) × (4225 ≤ length (now masses)) × (12675 ≤ length (now costs)) × (4225 ≤ length (now flow)) ⌝ }
+    ensures { λ b. ⌜ Tried (qualityIn (now (index .entry)) (now (pairs .entry))) (pairOf (held rows (now (left .entry))) (held cols (now (right .entry)))) (now (sizes .entry)) (now (masses .entry)) (now (costs .entry)) (now (flow .entry))
+        (now (sizes .exit)) (now (masses .exit)) (now (costs .exit)) (now (flow .exit)) b ⌝ }
+{
+    let mut supply = [0u32; SIDE];
+    let mut demand = [0u32; SIDE];
+    lay_margin(left, rows, &mut supply);
+    lay_margin(right, cols, &mut demand);
+    lay_cells(index, pairs, n, left, rows, right, cols, sizes, masses);
+    solve(
+        &supply,
+        rows,
+        &demand,
+        cols,
+        ones,
+        sizes,
+        masses,
+        costs,
+        flow,
+    )
+}
+
 // An action over two monomials: laid out, solved and offered.
 fn offer_transport(
     index: &[u16],
@@ -286,16 +325,14 @@ fn offer_transport(
         ≡ offerIn (qualityIn (now (index .entry)) (now (pairs .entry))) (termIn (now (index .entry)) (now (pairs .entry))) (actionOf op (pairOf (held rows (now (left .entry))) (held cols (now (right .entry)))))
         (workOf (now (sizes .entry)) (now (masses .entry)) (now (costs .entry)) (now (flow .entry)) (now (list .entry)) best) ⌝ }
 {
-    let mut supply = [0u32; SIDE];
-    let mut demand = [0u32; SIDE];
-    lay_margin(left, rows, &mut supply);
-    lay_margin(right, cols, &mut demand);
-    lay_cells(index, pairs, n, left, rows, right, cols, sizes, masses);
     let count = rows * cols;
-    if solve(
-        &supply,
+    if plan_transport(
+        index,
+        pairs,
+        n,
+        left,
         rows,
-        &demand,
+        right,
         cols,
         ones,
         sizes,
@@ -320,4 +357,18 @@ fn offer_transport(
         );
     }
     best
+}
+
+// A pair's quality after its turn, its term, and whether an action was chosen.
+pub struct Turned {
+    pub size: u32,
+    pub mass: u32,
+    pub term: usize,
+    pub changed: bool,
+}
+
+// what a turn gives; or refusal 13
+pub enum Taken {
+    To(Turned),
+    Full,
 }
