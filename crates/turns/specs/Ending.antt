@@ -27,7 +27,7 @@ use Rattle.terms.specs.Growing.{Grows}
 use Rattle.terms.specs.GrowLaws.{grows-none}
 use Rattle.terms.specs.declared.Entered.{Entered}
 use Rattle.terms.specs.declared.Entered.the-variants as E
-use Rattle.quality.specs.Known.{over, packed}
+use Rattle.quality.specs.Known.{Known, numberIn, termIn, over, packed}
 use Rattle.quality.specs.declared.How.{How}
 use Rattle.quality.specs.declared.How.the-variants as H
 use Rattle.quality.specs.declared.Best.{Best}
@@ -93,6 +93,9 @@ module _ (of : Two → ℕ) (N : ℕ) (below : (p : Two) → of p < N) where
 
   pub runs-below : (ps : List Two) (x : List ℕ) → RunsBelow N (planRuns of ps x)
   runs-below ps x = record { earlier = λ r i. runs-good ps x r i .0; counted = λ r i. runs-good ps x r i .1 }
+
+pub known-below : {n N : ℕ} {index pairs : List ℕ} → Known n index pairs → ((k : ℕ) → k < n → getD pairs (8192 + k) 0 < N) → (p : Two) → termIn index pairs p < N
+known-below {n} {N} {index} {pairs} K h p = h (numberIn index p) (K .below (p .0 * 256 + p .1))
 
 -- ---- the list
 pub over-front : (list r : List ℕ) (m : ℕ) → take m list ≡ r → m ≡ length r → list ≡ over r list

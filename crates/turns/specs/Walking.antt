@@ -1,12 +1,13 @@
 -- The walk through a pair's transports: each action found is offered in its turn.
 use mathlib.Core.Path.{_≡_, refl, sym, ap, _∙_}
+use mathlib.Core.Bool.{Bool, true, false}
 use mathlib.Core.List.{List, [], _∷_, _++_, append-nil}
 use Prim.Native.Nat.{ℕ, zero, suc, _+_, _≤_, _<_}
 use native.Mathlib.Omega.{arith}
 use lib.ListN.{length}
-use Rattle.spec.specs.Bytes.{Two, each}
+use Rattle.spec.specs.Bytes.{Two, both, each}
 use Rattle.spec.specs.Image.{Tables}
-use Rattle.spec.specs.Monomial.{MonomialPair}
+use Rattle.spec.specs.Monomial.{MonomialPair, pairOf, narrow}
 use Rattle.spec.specs.Action.{TransportAction, transports, cellPairs}
 use Rattle.spec.specs.Meaning.{In, here}
 use Rattle.laws.specs.Valid.{Valid}
@@ -14,14 +15,18 @@ use Rattle.lgg.specs.BestMembers.{IsPair}
 use Rattle.lgg.specs.Lists.{in-left, in-right}
 use Rattle.lgg.specs.TurnAgree.{transport-joins}
 use Rattle.lgg.specs.ReadingsWithin.{joins-within}
-use Rattle.ac_repr.specs.Walk.{walks, allWalks, actionsAt, afterOf, leftOf, Within, Stepped}
+use Rattle.ac_repr.specs.Terms.{held}
+use Rattle.ac_repr.specs.Walk.{walks, allWalks, actionsAt, afterOf, leftOf, Within, Stepped, Answered}
+use Rattle.ac_repr.specs.Sides.{action-none, action-one, action-narrow}
+use Rattle.ac_repr.specs.declared.Padded.{Padded}
+use Rattle.ac_repr.specs.declared.Padded.the-variants.{Pair, Nothing}
 use Rattle.ac_repr.specs.Transports.{actionsLeft, left-first, left-next, left-end}
 use Rattle.ac_repr.specs.declared.pairs.Walk.{Walk}
 use Rattle.ac_repr.specs.declared.pairs.Step.{Step}
 use Rattle.ac_repr.specs.declared.pairs.Step.the-variants.{At, End}
 use Rattle.quality.specs.declared.Best.{Best}
 use Rattle.turns.specs.Laying.{Joined}
-use Rattle.turns.specs.Offers.{Work, offerIn, offersIn}
+use Rattle.turns.specs.Offers.{Work, actionOf, offerIn, offersIn}
 
 -- ---- one offer after the other
 pub offers-append : (q : Two → Two) (of : Two → ℕ) (l m : List TransportAction) (w : Work) → offersIn q of (l ++ m) w ≡ offersIn q of m (offersIn q of l w)
@@ -43,6 +48,32 @@ walk-joined t v l r h k a i p j = let (x, y) = joins-within t v (l, r) (h, k) p 
 
 pub one-joined : (l : List TransportAction) (a : TransportAction) → ((b : TransportAction) → In b l → Joined (b .sides)) → l ≡ a ∷ [] → Joined (a .sides)
 one-joined l a h e = h a (rw e here)
+
+-- ---- what is found at a pair of places
+both-left : (a b : Bool) → both a b ≡ true → a ≡ true
+both-left true b e = refl
+both-left false b e = e
+
+both-right : (a b : Bool) → both a b ≡ true → b ≡ true
+both-right true b e = e
+both-right false b e = absurd (let y : _≡_ {A = ℕ} 0 1 = cc in omega arith)
+
+module _ (t : Tables) (l r : ℕ) (w : Walk) (s u s′ u′ : List ℕ) (x : Padded) (D : Answered t l r w s u s′ u′ x) where
+  pub found-none : x ≡ Nothing → actionsAt t l r w ≡ []
+  found-none e = action-none t l r w s u s′ u′ (rw e at D)
+
+  module _ (n m : ℕ) (e : x ≡ Pair n m) where
+    pub found-few : (n ≤ 65) × (m ≤ 65)
+    found-few = rw e at (D .few)
+
+    pub found-one : actionsAt t l r w ≡ actionOf (w .op) (pairOf (held n s′) (held m u′)) ∷ []
+    found-one = action-one t l r w s u s′ u′ n m (rw e at D)
+
+    pub found-left : narrow (held n s′) ≡ true
+    found-left = both-left (narrow (held n s′)) (narrow (held m u′)) (action-narrow t l r w s u s′ u′ n m (rw e at D))
+
+    pub found-right : narrow (held m u′) ≡ true
+    found-right = both-right (narrow (held n s′)) (narrow (held m u′)) (action-narrow t l r w s u s′ u′ n m (rw e at D))
 
 -- At step x of the walk with the work w: the actions that are left make the whole.
 pub record Walking (t : Tables) (q : Two → Two) (of : Two → ℕ) (l r : ℕ) (w₀ : Work) (x : Step) (w : Work) : Type 0 where

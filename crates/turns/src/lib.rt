@@ -3,7 +3,7 @@ ghost use mathlib.Core.Path.{_≡_};
 ghost use mathlib.Core.Bool.{true};
 ghost use Prim.Native.Nat.{ℕ, _+_, _*_, _^_, _≤_, _<_};
 ghost use lib.ListN.{length, getD, set};
-ghost use Rattle.spec.specs.Action.{cellPairs};
+ghost use Rattle.spec.specs.Action.{TransportAction, cellPairs, transports};
 ghost use Rattle.spec.specs.Monomial.{pairOf, counts, narrow};
 ghost use Rattle.spec.specs.Round as round;
 ghost use Rattle.wide.specs.Value.{unsigned};
@@ -11,16 +11,34 @@ ghost use Rattle.wide.specs.Wrap.{Natural};
 ghost use Rattle.ac_repr.specs.Terms.{TERMS, NUMBERS, held};
 ghost use Rattle.quality.specs.Known.{Known, over, qualityIn, termIn};
 ghost use mathlib.Core.Option.{some};
+ghost use mathlib.Core.List.{map};
+ghost use Rattle.spec.specs.Bytes.{sum};
+ghost use Rattle.spec.specs.Image.{tablesOf, kindOf, isCommutative};
+ghost use Rattle.spec.specs.Meaning.{In};
+ghost use Rattle.laws.specs.Valid.{Valid};
+ghost use Rattle.lgg.specs.Pool.{RunsBelow};
+ghost use Rattle.image.specs.Loaded.{Loaded};
+ghost use Rattle.ac_repr.specs.Walk.{actionsAt};
+ghost use Rattle.terms.specs.Buffers.{countIn, part, unpack};
+ghost use Rattle.terms.specs.Chains.{Holds};
+ghost use Rattle.terms.specs.Results.{ActionResult};
+ghost use Rattle.turns.specs.Agreeing.{Agrees, Chosen, Same};
+ghost use Rattle.turns.specs.Taking.{changedBy, Ended, Leaves, Takes, turnIn};
 ghost use lib.ListN.{take, replicate};
 ghost use Rattle.transport.specs.Solved.{Solves};
 ghost use Rattle.turns.specs.Better.{Words};
 ghost use Rattle.turns.specs.Cells.{with};
-ghost use Rattle.turns.specs.Offers.{actionOf, bestAfter, listAfter, offerIn, Tried, workOf};
+ghost use Rattle.turns.specs.Offers.{actionOf, bestAfter, listAfter, offerIn, offersIn, Tried, workOf};
 ghost use Rattle.turns.specs.Laying.{sizesAt, massesAt, Joined};
 ghost use Rattle.turns.specs.Listing.{manyAfter, cellAfter, runsAt};
 ghost use Rattle.turns.specs.Sums.{dot};
+use ac_repr::Padded;
+use ac_repr::pairs::Step;
+use ac_repr::pairs::Walk;
+use image::Image;
 use quality::Best;
 use quality::How;
+use terms::Entered;
 use wide::Wide;
 
 // the largest numbers of rows and of columns, and of cells
@@ -32,6 +50,19 @@ fn num(x: u64) -> usize
     ensures { λ r. ⌜ r ≡ x ⌝ }
 {
     x as usize
+}
+
+fn num4(x: u32) -> usize
+    ensures { λ r. ⌜ r ≡ x ⌝ }
+{
+    x as usize
+}
+
+fn low(x: usize) -> u32
+    requires { ⌜ x < 64 ⌝ }
+    ensures { λ r. ⌜ r ≡ x ⌝ }
+{
+    x as u32
 }
 
 fn num8(x: u32) -> u64
@@ -359,6 +390,212 @@ fn offer_transport(
     best
 }
 
+// ---- the transports of a pair
+// The action at a pair of places, if there is one, offered.
+fn offer_walk(
+    s: &[u8],
+    im: Image,
+    index: &[u16],
+    pairs: &[u32],
+    n: usize,
+    l: usize,
+    r: usize,
+    w: Walk,
+    ones: &[u8],
+    sizes: &mut [u32],
+    masses: &mut [u32],
+    costs: &mut [u64],
+    flow: &mut [u64],
+    list: &mut [u64],
+    best: Best,
+) -> Best
+    requires { ⌜ Loaded (now s) im × Valid (tablesOf (now s)) × (l < im .classes) × (r < im .classes) × (w .op < im .operations) × Known n (now index) (now pairs) × (now ones ≡ replicate 4225 1)
+        × ((a : TransportAction) → In a (actionsAt (tablesOf (now s)) l r w) → Joined (a .sides))
+        × (4225 ≤ length (now sizes)) × (4225 ≤ length (now masses)) × (12675 ≤ length (now costs)) × (4225 ≤ length (now flow)) × (4225 ≤ length (now list)) ⌝ }
+    ensures { λ x. ⌜ workOf (now (sizes .exit)) (now (masses .exit)) (now (costs .exit)) (now (flow .exit)) (now (list .exit)) x
+        ≡ offersIn (qualityIn (now (index .entry)) (now (pairs .entry))) (termIn (now (index .entry)) (now (pairs .entry))) (actionsAt (tablesOf (now (s .entry))) l r w)
+        (workOf (now (sizes .entry)) (now (masses .entry)) (now (costs .entry)) (now (flow .entry)) (now (list .entry)) best) ⌝ }
+{
+    let mut left = [0u64; 130];
+    let mut right = [0u64; 130];
+    let p = ac_repr::pairs::monomials(s, im, l, r, w, &mut left, &mut right);
+    match p {
+        Padded::Nothing => best,
+        Padded::Pair(rows, cols) => offer_transport(
+            index,
+            pairs,
+            n,
+            w.op,
+            &left,
+            rows,
+            &right,
+            cols,
+            ones,
+            sizes,
+            masses,
+            costs,
+            flow,
+            list,
+            best,
+        ),
+    }
+}
+
+// All of them, one after the other.
+fn offer_transports(
+    s: &[u8],
+    im: Image,
+    index: &[u16],
+    pairs: &[u32],
+    n: usize,
+    l: usize,
+    r: usize,
+    ones: &[u8],
+    sizes: &mut [u32],
+    masses: &mut [u32],
+    costs: &mut [u64],
+    flow: &mut [u64],
+    list: &mut [u64],
+    b: Best,
+) -> Best
+    requires { ⌜ Loaded (now s) im × Valid (tablesOf (now s)) × (l < im .classes) × (r < im .classes) × Known n (now index) (now pairs) × (now ones ≡ replicate 4225 1)
+        × (4225 ≤ length (now sizes)) × (4225 ≤ length (now masses)) × (12675 ≤ length (now costs)) × (4225 ≤ length (now flow)) × (4225 ≤ length (now list)) ⌝ }
+    ensures { λ x. ⌜ workOf (now (sizes .exit)) (now (masses .exit)) (now (costs .exit)) (now (flow .exit)) (now (list .exit)) x
+        ≡ offersIn (qualityIn (now (index .entry)) (now (pairs .entry))) (termIn (now (index .entry)) (now (pairs .entry))) (transports (tablesOf (now (s .entry))) l r)
+        (workOf (now (sizes .entry)) (now (masses .entry)) (now (costs .entry)) (now (flow .entry)) (now (list .entry)) b) ⌝ }
+{
+    let mut best = b;
+    let mut x = ac_repr::pairs::first(s, im, l, r);
+    loop {
+        match x {
+            Step::End => {
+                return best;
+            }
+            Step::At(w) => {
+                best = offer_walk(
+                    s,
+                    im,
+                    index,
+                    pairs,
+                    n,
+                    l,
+                    r,
+                    w,
+                    ones,
+                    sizes,
+                    masses,
+                    costs,
+                    flow,
+                    list,
+                    best,
+                );
+                x = ac_repr::pairs::next(s, im, l, r, w);
+            }
+        }
+    }
+}
+
+// ---- a pair's turn
+// The first strictly best of what a pair has and of what its actions give: "structural actions come before transport".
+fn turn(
+    s: &[u8],
+    im: Image,
+    index: &[u16],
+    pairs: &[u32],
+    n: usize,
+    l: usize,
+    r: usize,
+    ones: &[u8],
+    sizes: &mut [u32],
+    masses: &mut [u32],
+    costs: &mut [u64],
+    flow: &mut [u64],
+    list: &mut [u64],
+) -> Best
+    requires { ⌜ Loaded (now s) im × Valid (tablesOf (now s)) × (l < im .classes) × (r < im .classes) × Known n (now index) (now pairs) × (now ones ≡ replicate 4225 1)
+        × (4225 ≤ length (now sizes)) × (4225 ≤ length (now masses)) × (12675 ≤ length (now costs)) × (4225 ≤ length (now flow)) × (4225 ≤ length (now list)) ⌝ }
+    ensures { λ x. ⌜ Agrees (tablesOf (now (s .entry))) (termIn (now (index .entry)) (now (pairs .entry))) (now (list .exit)) x (round.turnOf (tablesOf (now (s .entry))) (qualityIn (now (index .entry)) (now (pairs .entry))) (l, r))
+        × Same (workOf (now (sizes .exit)) (now (masses .exit)) (now (costs .exit)) (now (flow .exit)) (now (list .exit)) x)
+        (turnIn (tablesOf (now (s .entry))) (qualityIn (now (index .entry)) (now (pairs .entry))) (termIn (now (index .entry)) (now (pairs .entry))) (l, r) (now (sizes .entry)) (now (masses .entry)) (now (costs .entry)) (now (flow .entry)) (now (list .entry)))
+        × (x .size < 2 ^ 32) × (x .mass < 2 ^ 32) ⌝ }
+{
+    let b = quality::best_aligned(s, im, index, pairs, n, l, r);
+    offer_transports(
+        s,
+        im,
+        index,
+        pairs,
+        n,
+        l,
+        r,
+        ones,
+        sizes,
+        masses,
+        costs,
+        flow,
+        list,
+        b,
+    )
+}
+
+// The term of operation o over the first m runs of the list.
+fn intern_action(
+    s: &[u8],
+    im: Image,
+    o: usize,
+    m: usize,
+    list: &mut [u64],
+    terms: &mut [u32],
+    runs: &mut [u64],
+) -> Entered
+    requires { ⌜ Loaded (now s) im × (o < im .operations) × (o < 64) × Holds (now terms) (now runs) × (m ≤ length (now list)) × RunsBelow (countIn (now terms)) (map unpack (part (now list) 0 m)) × (sum (part (now list) 0 m) < 2 ^ 64) ⌝ }
+    ensures { λ x. ⌜ ActionResult (now (terms .entry)) (now (runs .entry)) (now (list .entry)) m o (isCommutative (kindOf (tablesOf (now (s .entry))) o)) (now (terms .exit)) (now (runs .exit)) (now (list .exit)) x ⌝ }
+{
+    let commutative = id::is_commutative(image::kind(s, im, o));
+    terms::intern_action_result(terms, runs, list, m, low(o), commutative)
+}
+
+// The pair's final term: the one it has, or that of the action chosen.
+fn turn_term(
+    s: &[u8],
+    im: Image,
+    index: &[u16],
+    pairs: &[u32],
+    n: usize,
+    l: usize,
+    r: usize,
+    how: How,
+    list: &mut [u64],
+    terms: &mut [u32],
+    runs: &mut [u64],
+) -> Entered
+    requires { ⌜ Loaded (now s) im × Valid (tablesOf (now s)) × (l < im .classes) × (r < im .classes) × Known n (now index) (now pairs) × Holds (now terms) (now runs)
+        × ((k : ℕ) → k < n → getD (now pairs) (8192 + k) 0 < countIn (now terms)) × (4225 ≤ length (now list))
+        × Chosen (tablesOf (now s)) (termIn (now index) (now pairs)) (now list) how (round.turnOf (tablesOf (now s)) (qualityIn (now index) (now pairs)) (l, r) .choice) ⌝ }
+    ensures { λ x. ⌜ Ended (tablesOf (now (s .entry))) (termIn (now (index .entry)) (now (pairs .entry))) (now (terms .entry)) (now (runs .entry)) (termIn (now (index .entry)) (now (pairs .entry)) (l, r))
+        (round.turnOf (tablesOf (now (s .entry))) (qualityIn (now (index .entry)) (now (pairs .entry))) (l, r) .choice) (now (list .entry)) (now (terms .exit)) (now (runs .exit)) (now (list .exit)) x ⌝ }
+{
+    match how {
+        How::Stay => Entered::Term(num4(quality::term_of(index, pairs, n, l, r))),
+        How::Aligned(v) => {
+            let m = quality::list_action(s, im, v, index, pairs, n, list);
+            intern_action(s, im, actions::op(s, im, v), m, list, terms, runs)
+        }
+        How::Plan(o, m) => intern_action(s, im, o, m, list, terms, runs),
+    }
+}
+
+// Whether an action was chosen.
+fn changed(how: How) -> bool
+    ensures { λ x. ⌜ x ≡ changedBy how ⌝ }
+{
+    match how {
+        How::Stay => false,
+        How::Aligned(_) => true,
+        How::Plan(_, _) => true,
+    }
+}
+
 // A pair's quality after its turn, its term, and whether an action was chosen.
 pub struct Turned {
     pub size: u32,
@@ -367,8 +604,60 @@ pub struct Turned {
     pub changed: bool,
 }
 
-// what a turn gives; or refusal 13
+// What a turn gives; or refusal 13
 pub enum Taken {
     To(Turned),
     Full,
+}
+
+// A pair's turn over the previous round: its quality afterwards and its term; or refusal 13.
+pub fn take_turn(
+    s: &[u8],
+    im: Image,
+    index: &[u16],
+    pairs: &[u32],
+    n: usize,
+    l: usize,
+    r: usize,
+    sizes: &mut [u32; 4225],
+    masses: &mut [u32; 4225],
+    costs: &mut [u64; 12675],
+    flow: &mut [u64; 4225],
+    list: &mut [u64; 4225],
+    terms: &mut [u32],
+    runs: &mut [u64],
+) -> Taken
+    requires { ⌜ Loaded (now s) im × Valid (tablesOf (now s)) × (l < im .classes) × (r < im .classes) × Known n (now index) (now pairs) × Holds (now terms) (now runs)
+        × ((k : ℕ) → k < n → getD (now pairs) (8192 + k) 0 < countIn (now terms)) ⌝ }
+    ensures { λ x. ⌜ Takes (tablesOf (now (s .entry))) (qualityIn (now (index .entry)) (now (pairs .entry))) (termIn (now (index .entry)) (now (pairs .entry))) (l, r) (now (terms .entry)) (now (runs .entry)) (now (terms .exit)) (now (runs .exit)) x
+        × Leaves (tablesOf (now (s .entry))) (qualityIn (now (index .entry)) (now (pairs .entry))) (termIn (now (index .entry)) (now (pairs .entry))) (l, r) (now (terms .entry)) (now (runs .entry))
+        (now (sizes .entry)) (now (masses .entry)) (now (costs .entry)) (now (flow .entry)) (now (list .entry)) (now (sizes .exit)) (now (masses .exit)) (now (costs .exit)) (now (flow .exit)) (now (list .exit)) ⌝ }
+{
+    let ones = [1u8; CELLS];
+    let best = turn(
+        s,
+        im,
+        index,
+        pairs,
+        n,
+        l,
+        r,
+        &ones,
+        sizes,
+        masses,
+        costs,
+        flow,
+        list,
+    );
+    let how = best.how;
+    let e = turn_term(s, im, index, pairs, n, l, r, how, list, terms, runs);
+    match e {
+        Entered::Full => Taken::Full,
+        Entered::Term(k) => Taken::To(Turned {
+            size: short(best.size),
+            mass: short(best.mass),
+            term: k,
+            changed: changed(how),
+        }),
+    }
 }

@@ -1,3 +1,10 @@
+use Rattle.turns.specs.Cells.{cells-fit}
+use Rattle.spec.specs.Monomial.{pairOf}
+use Rattle.spec.specs.Bytes.{Two}
+use Rattle.ac_repr.specs.Terms.{held}
+use Rattle.quality.specs.Known.{qualityIn, termIn}
+use Rattle.turns.specs.Offers.{workOf}
+use Rattle.turns.specs.OfferLaws.{tried-sizes, tried-masses, offer-none, plan-cells, plan-low, offer-some}
 use borrow.Author.Tests.{lt-ltb, le-ltb, le-leb, lt-leb, eq-eqb, ne-eqb}
 use Prim.Native.Nat.{ℕ, zero, suc, _≤_, _<_, _-_, _+_, _*_, _^_}
 use native.Mathlib.Omega.{arith}
@@ -16,7 +23,7 @@ use Rattle.turns.proofs.plan_transport.Reads as plan-transport-reads
 
 -- src/lib.rt:328:17
 mul-count : tie.Need-mul-count
-mul-count c = search needs
+mul-count c = let b = c .before .before .before .before .before .before .before .before .before .before in let a = b .args in record { fits = omega (arith, cells-fit (a .rows) (a .cols) (b .pre .3) (b .pre .4)) }
 
 -- src/lib.rt:329:8
 plan-transport-requires : tie.Need-plan-transport-requires
@@ -32,7 +39,7 @@ part-offer-plan-start c = search needs
 
 -- src/lib.rt:352:13
 part-offer-plan-end : tie.Need-part-offer-plan-end
-part-offer-plan-end c = search needs
+part-offer-plan-end c = let b = c .before .before .before .before .before .before .before .before .before .before .before .before .before .before .before .before .before .before .before .before .before .before .before .before .before in let a = b .args in omega (arith, cells-fit (a .rows) (a .cols) (b .pre .3) (b .pre .4), b .pre .9, c .before .before .before .before .before .before .before .before .before .before .plan-transport .kept)
 
 -- src/lib.rt:353:13
 sub-offer-plan-2 : tie.Need-sub-offer-plan-2
@@ -44,7 +51,7 @@ part-offer-plan-start-2 c = search needs
 
 -- src/lib.rt:353:13
 part-offer-plan-end-2 : tie.Need-part-offer-plan-end-2
-part-offer-plan-end-2 c = search needs
+part-offer-plan-end-2 c = let b = c .before .before .before .before .before .before .before .before .before .before .before .before .before .before .before .before .before .before .before .before .before .before .before .before .before .before .before in let a = b .args in omega (arith, cells-fit (a .rows) (a .cols) (b .pre .3) (b .pre .4), b .pre .10, c .before .before .before .before .before .before .before .before .before .before .before .before .plan-transport .kept)
 
 -- src/lib.rt:354:13
 sub-offer-plan-3 : tie.Need-sub-offer-plan-3
@@ -56,11 +63,13 @@ part-offer-plan-start-3 c = search needs
 
 -- src/lib.rt:354:13
 part-offer-plan-end-3 : tie.Need-part-offer-plan-end-3
-part-offer-plan-end-3 c = search needs
+part-offer-plan-end-3 c = let b = c .before .before .before .before .before .before .before .before .before .before .before .before .before .before .before .before .before .before .before .before .before .before .before .before .before .before .before .before .before in let a = b .args in omega (arith, cells-fit (a .rows) (a .cols) (b .pre .3) (b .pre .4), b .pre .12, c .before .before .before .before .before .before .before .before .before .before .before .before .before .before .plan-transport .kept)
 
 -- src/lib.rt:343:9
 offer-plan-requires : tie.Need-offer-plan-requires
-offer-plan-requires c κs = search needs
+offer-plan-requires c κs =
+    let b = c .before .before .before .before .before .before .before .before .before .before .before .before .before .before .before .before .before .before .before .before .before .before .before .before .before .before .before .before .before .before .before in let a = b .args in 
+    (b .pre .0, b .pre .1, b .pre .2, b .pre .3, b .pre .4, b .pre .5, plan-cells (qualityIn (a .index .now) (a .pairs .now)) (termIn (a .index .now) (a .pairs .now)) (a .op) (a .left .now) (a .right .now) (a .rows) (a .cols) (b .pre .1) (b .pre .2) (b .pre .3) (b .pre .4) (workOf (a .sizes .now) (a .masses .now) (a .costs .now) (a .flow .now) (a .list .now) (a .best)) _ _ _ _ (c .before .before .before .before .before .before .before .before .before .before .before .before .before .before .before .before .plan-transport .result) (c .before .before .before .before .before .before .before .before .before .before .before .before .before .before .before .before .plan-transport .ensures) (c .before .before .before .before .before .before .before .if1 .taken), plan-low (qualityIn (a .index .now) (a .pairs .now)) (termIn (a .index .now) (a .pairs .now)) (a .op) (a .left .now) (a .right .now) (a .rows) (a .cols) (b .pre .1) (b .pre .2) (b .pre .3) (b .pre .4) (workOf (a .sizes .now) (a .masses .now) (a .costs .now) (a .flow .now) (a .list .now) (a .best)) _ _ _ _ (c .before .before .before .before .before .before .before .before .before .before .before .before .before .before .before .before .plan-transport .result) (c .before .before .before .before .before .before .before .before .before .before .before .before .before .before .before .before .plan-transport .ensures) (c .before .before .before .before .before .before .before .if1 .taken) (b .pre .6), b .pre .13, tried-sizes (qualityIn (a .index .now) (a .pairs .now)) (termIn (a .index .now) (a .pairs .now)) (a .op) (a .left .now) (a .right .now) (a .rows) (a .cols) (b .pre .1) (b .pre .2) (b .pre .3) (b .pre .4) (workOf (a .sizes .now) (a .masses .now) (a .costs .now) (a .flow .now) (a .list .now) (a .best)) _ _ _ _ (c .before .before .before .before .before .before .before .before .before .before .before .before .before .before .before .before .plan-transport .result) (c .before .before .before .before .before .before .before .before .before .before .before .before .before .before .before .before .plan-transport .ensures), tried-masses (qualityIn (a .index .now) (a .pairs .now)) (termIn (a .index .now) (a .pairs .now)) (a .op) (a .left .now) (a .right .now) (a .rows) (a .cols) (b .pre .1) (b .pre .2) (b .pre .3) (b .pre .4) (workOf (a .sizes .now) (a .masses .now) (a .costs .now) (a .flow .now) (a .list .now) (a .best)) _ _ _ _ (c .before .before .before .before .before .before .before .before .before .before .before .before .before .before .before .before .plan-transport .result) (c .before .before .before .before .before .before .before .before .before .before .before .before .before .before .before .before .plan-transport .ensures))
 
 -- src/lib.rt:343:9
 same-length : tie.Need-same-length
@@ -84,7 +93,7 @@ same-length-5 c = search needs
 
 -- src/lib.rt:343:9
 returns : tie.Need-returns
-returns c = ?
+returns c = let b = c .before .before .before .before .before .before .before .before .before .before .before .before .before .before .before .before .before .before .before .before .before .before .before .before .before .before .before .before .before .before .before .before .before .before in let a = b .args in offer-some (qualityIn (a .index .now) (a .pairs .now)) (termIn (a .index .now) (a .pairs .now)) (a .op) (a .left .now) (a .right .now) (a .rows) (a .cols) (b .pre .1) (b .pre .2) (b .pre .3) (b .pre .4) (workOf (a .sizes .now) (a .masses .now) (a .costs .now) (a .flow .now) (a .list .now) (a .best)) _ _ _ _ (c .before .before .before .before .before .before .before .before .before .before .before .before .before .before .before .before .before .before .before .plan-transport .result) (c .before .before .before .before .before .before .before .before .before .before .before .before .before .before .before .before .before .before .before .plan-transport .ensures) (c .before .before .before .before .before .before .before .before .before .before .if1 .taken) _ _ (c .before .before .offer-plan .ensures .0) (c .before .before .offer-plan .ensures .1)
 
 -- src/lib.rt:304:1
 same-length-6 : tie.Need-same-length-6
@@ -104,7 +113,7 @@ same-length-9 c = search needs
 
 -- src/lib.rt:304:1
 returns-2 : tie.Need-returns-2
-returns-2 c = ?
+returns-2 c = let b = c .before .before .before .before .before .before .before .before .before .before .before .before .before .before .before .before .before .before .before .before .before .before .before .before in let a = b .args in offer-none (qualityIn (a .index .now) (a .pairs .now)) (termIn (a .index .now) (a .pairs .now)) (a .op) (a .left .now) (a .right .now) (a .rows) (a .cols) (b .pre .1) (b .pre .2) (b .pre .3) (b .pre .4) (workOf (a .sizes .now) (a .masses .now) (a .costs .now) (a .flow .now) (a .list .now) (a .best)) _ _ _ _ (c .before .before .before .before .before .before .before .before .before .plan-transport .result) (c .before .before .before .before .before .before .before .before .before .plan-transport .ensures) (c .if1 .left)
 
 pub offer-transport-spec : {M : Type 1} → statement M
 offer-transport-spec =
