@@ -13,11 +13,12 @@ use Rattle.spec.specs.Bytes.{Two, pick, sum, Res, ok, refused}
 use Rattle.spec.specs.Image.{Tables, kindOf, isCommutative}
 use Rattle.spec.specs.Pool.{Pool, Interned, intern, opNode, sortRuns}
 use Rattle.spec.specs.Meaning.{In}
+use Rattle.spec.specs.Action.{transports}
 use Rattle.spec.specs.Monomial.{COUNT}
 use Rattle.spec.specs.Round.{Choice, stay, act, Turn, changes, turnOf, choiceTerm, actionTerm, planRuns}
 use Rattle.lgg.specs.Lists.{in-nil, in-cons, length-map}
 use Rattle.lgg.specs.Pool.{RunsBelow}
-use Rattle.lgg.specs.TurnPlaces.{Placed}
+use Rattle.lgg.specs.TurnBounds.{turn-small}
 use Rattle.terms.specs.Buffers.{part, unpack, poolOf, countIn, nodesIn}
 use Rattle.terms.specs.Chains.{Holds}
 use Rattle.terms.specs.Interning.{enteredOf, poolAfter}
@@ -28,12 +29,14 @@ use Rattle.terms.specs.GrowLaws.{grows-none}
 use Rattle.terms.specs.declared.Entered.{Entered}
 use Rattle.terms.specs.declared.Entered.the-variants as E
 use Rattle.quality.specs.Known.{Known, numberIn, termIn, over, packed}
+use Rattle.quality.specs.Aligned.{Aligns}
 use Rattle.quality.specs.declared.How.{How}
 use Rattle.quality.specs.declared.How.the-variants as H
 use Rattle.quality.specs.declared.Best.{Best}
 use Rattle.turns.specs.Listing.{runsOver}
-use Rattle.turns.specs.Agreeing.{Planned, Chosen, Agrees}
-use Rattle.turns.specs.Taking.{takenOf, termList, Ended, changedBy}
+use Rattle.turns.specs.Offers.{Work, workOf, offersIn}
+use Rattle.turns.specs.Agreeing.{Planned, Chosen, Agrees, Same, turn-agrees, turn-same}
+use Rattle.turns.specs.Taking.{takenOf, turnIn, termList, Ended, changedBy, Takes, Leaves}
 use Rattle.turns.specs.declared.Taken.{Taken}
 use Rattle.turns.specs.declared.Taken.the-variants as T
 
@@ -157,3 +160,39 @@ module _ (t : Tables) (of : Two → ℕ) (list : List ℕ) (b : Best) (w : Turn)
   pub taken-full : (z : Res Interned) → E.Full ≡ enteredOf z → T.Full ≡ takenOf w z
   taken-full (ok a) e = absurd (let y : _≡_ {A = ℕ} 0 1 = cc in omega arith)
   taken-full (refused n) e = refl
+
+-- ---- the whole turn
+module _ (t : Tables) (q : Two → Two) (of : Two → ℕ) (p : Two) where
+  module _ (v w : Work) (e : w ≡ offersIn q of (transports t (p .0) (p .1)) v) (A : Aligns t q p (v .best)) where
+    pub turn-done : Agrees t of (w .list) (w .best) (turnOf t q p)
+    turn-done = rw e (turn-agrees t q of p v A)
+
+    pub turn-left : Same w (turnIn t q of p (v .sizes) (v .masses) (v .costs) (v .flow) (v .list))
+    turn-left = rw e (turn-same t q of p (v .sizes) (v .masses) (v .costs) (v .flow) (v .list) (v .best) A)
+
+  pub turn-fits : (list : List ℕ) (b : Best) → Agrees t of list b (turnOf t q p) → ((c : Two) → q c .1 ≤ q c .0) → q p .0 < 2 ^ 32 → (b .size < 2 ^ 32) × (b .mass < 2 ^ 32)
+  turn-fits list b A low h =
+      let (x, y) = turn-small t q p (2 ^ 32) h (low p) (λ c i. low c) in
+      (omega (arith, x, ap (λ (z : Two). z .0) (A .quality)), omega (arith, y, ap (λ (z : Two). z .1) (A .quality)))
+
+  module _ (terms runs terms′ runs′ list list′ : List ℕ) (b : Best) (A : Agrees t of list b (turnOf t q p)) (e : Entered) (D : Ended t of terms runs (of p) (turnOf t q p .choice) list terms′ runs′ list′ e) where
+    pub takes-full : e ≡ E.Full → Takes t q of p terms runs terms′ runs′ T.Full
+    takes-full f = record { answer = taken-full t of list b (turnOf t q p) A (choiceTerm t of (poolOf terms runs) (of p) (turnOf t q p .choice)) (sym f ∙ D .answer); pool = D .pool; holds = D .holds; grows = D .grows }
+
+    pub takes-to : (k : ℕ) → e ≡ E.Term k → (size mass : ℕ) (x : Bool) → size ≡ b .size → mass ≡ b .mass → x ≡ changedBy (b .how)
+        → Takes t q of p terms runs terms′ runs′ (T.To (record { size = size; mass = mass; term = k; changed = x }))
+    takes-to k f size mass x u v g = record {
+      answer = (λ i. T.To (record { size = u i; mass = v i; term = k; changed = x })) ∙ taken-to t of list b (turnOf t q p) A (choiceTerm t of (poolOf terms runs) (of p) (turnOf t q p .choice)) k (sym f ∙ D .answer) x g;
+      pool = D .pool;
+      holds = D .holds;
+      grows = D .grows;
+    }
+
+    pub turn-leaves : (s m c f l s′ m′ c′ f′ : List ℕ) → Same (workOf s′ m′ c′ f′ list b) (turnIn t q of p s m c f l) → Leaves t q of p terms runs s m c f l s′ m′ c′ f′ list′
+    turn-leaves s m c f l s′ m′ c′ f′ S = record {
+      sizesAre = S .sizes;
+      massesAre = S .masses;
+      costsAre = S .costs;
+      flowIs = S .flow;
+      listIs = D .listIs ∙ ap (termList t of terms runs (turnOf t q p .choice)) (S .list);
+    }
