@@ -93,9 +93,9 @@ module _ (left right : List ℕ) (r c k : ℕ) (a : length left ≡ NUMBERS) (b 
       let w : length (classes (held c right)) ≡ c = length-map key (held c right) ∙ held-length right c b hc in
       let e : k / c * length (classes (held c right)) + k % c ≡ k = ap (λ (n : ℕ). k / c * n + k % c) w ∙ div-add-mod' k c in
       sym (
-        ap (λ (n : ℕ). getD (cellPairs (pairOf (held r left) (held c right))) n (0, 0)) (sym e)
-        ∙ crossing-at (classes (held r left)) (classes (held c right)) (k / c) (k % c) (omega (arith, row-in r c k h)) (omega (arith, column-in r c k h))
-        ∙ (λ i. (class-in left r (k / c) a hr (row-in r c k h) i, class-in right c (k % c) b hc (column-in r c k h) i))
+      ap (λ (n : ℕ). getD (cellPairs (pairOf (held r left) (held c right))) n (0, 0)) (sym e)
+      ∙ crossing-at (classes (held r left)) (classes (held c right)) (k / c) (k % c) (omega (arith, row-in r c k h)) (omega (arith, column-in r c k h))
+      ∙ (λ i. (class-in left r (k / c) a hr (row-in r c k h) i, class-in right c (k % c) b hc (column-in r c k h) i))
       )
 
   pub cell-count : length (cellPairs (pairOf (held r left) (held c right))) ≡ r * c

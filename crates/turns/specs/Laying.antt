@@ -45,11 +45,11 @@ module _ (z s₀ : List ℕ) where
     done = omega arith;
     long = length-set s k v ∙ L .long;
     numbers =
-      ap (λ (u : List ℕ). set u k v) (L .numbers)
-      ∙ ap (λ (x : ℕ). set (paste s₀ 0 z k) k x) e
-      ∙ ap (λ (n : ℕ). set (paste s₀ 0 z k) n (getD z k 0)) (sym (zero-add k))
-      ∙ paste-suc s₀ 0 z k 0 (omega arith) l
-      ∙ ap (λ (n : ℕ). paste s₀ 0 z n) (sym (add-one k));
+        ap (λ (u : List ℕ). set u k v) (L .numbers)
+        ∙ ap (λ (x : ℕ). set (paste s₀ 0 z k) k x) e
+        ∙ ap (λ (n : ℕ). set (paste s₀ 0 z k) n (getD z k 0)) (sym (zero-add k))
+        ∙ paste-suc s₀ 0 z k 0 (omega arith) l
+        ∙ ap (λ (n : ℕ). paste s₀ 0 z n) (sym (add-one k));
   }
 
   pub laid-all : (k : ℕ) (s : List ℕ) → length z ≤ k → Laid z s₀ k s → s ≡ over z s₀

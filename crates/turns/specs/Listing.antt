@@ -53,7 +53,9 @@ module _ (of : Two → ℕ) (ps : List Two) (x list₀ : List ℕ) where
       step : (b : Bool) (u v : ℕ) → eqb (getD x k 0) 0 ≡ b → u ≡ getD x k 0 → v ≡ of (getD ps k (0, 0))
           → Listed of ps x list₀ (k + 1) (pick b m (m + 1)) (pick b list (set list m (u * 16384 + v)))
       step true u v e p q = record {
-        done = omega arith; few = omega (arith, L .few); long = L .long;
+        done = omega arith;
+        few = omega (arith, L .few);
+        long = L .long;
         front = ap (λ (l : List ℕ). take m list ++ l) (sym (runs-next true e)) ∙ L .front;
         behind = L .behind;
       }
@@ -61,16 +63,18 @@ module _ (of : Two → ℕ) (ps : List Two) (x list₀ : List ℕ) where
           let i : m < length list = omega (arith, L .few, L .long) in
           let w : u * 16384 + v ≡ getD x k 0 * 16384 + of (getD ps k (0, 0)) = λ j. p j * 16384 + q j in
           record {
-            done = omega arith; few = omega (arith, L .few); long = length-set list m (u * 16384 + v) ∙ L .long;
+            done = omega arith;
+            few = omega (arith, L .few);
+            long = length-set list m (u * 16384 + v) ∙ L .long;
             front =
-              ap (λ (n : ℕ). take n (set list m (u * 16384 + v)) ++ runsOver of (drop (k + 1) ps) (drop (k + 1) x)) (add-one m)
-              ∙ ap (λ (l : List ℕ). l ++ runsOver of (drop (k + 1) ps) (drop (k + 1) x)) (take-suc-set list m (u * 16384 + v) i)
-              ∙ append-snoc (take m list) (u * 16384 + v) (runsOver of (drop (k + 1) ps) (drop (k + 1) x))
-              ∙ ap (λ (n : ℕ). take m list ++ n ∷ runsOver of (drop (k + 1) ps) (drop (k + 1) x)) w
-              ∙ ap (λ (l : List ℕ). take m list ++ l) (sym (runs-next false e)) ∙ L .front;
+                ap (λ (n : ℕ). take n (set list m (u * 16384 + v)) ++ runsOver of (drop (k + 1) ps) (drop (k + 1) x)) (add-one m)
+                ∙ ap (λ (l : List ℕ). l ++ runsOver of (drop (k + 1) ps) (drop (k + 1) x)) (take-suc-set list m (u * 16384 + v) i)
+                ∙ append-snoc (take m list) (u * 16384 + v) (runsOver of (drop (k + 1) ps) (drop (k + 1) x))
+                ∙ ap (λ (n : ℕ). take m list ++ n ∷ runsOver of (drop (k + 1) ps) (drop (k + 1) x)) w
+                ∙ ap (λ (l : List ℕ). take m list ++ l) (sym (runs-next false e)) ∙ L .front;
             behind =
-              drop-set-lt (m + 1) list m (u * 16384 + v) (omega arith)
-              ∙ tail list list₀ m (L .behind);
+                drop-set-lt (m + 1) list m (u * 16384 + v) (omega arith)
+                ∙ tail list list₀ m (L .behind);
           }
         where
           tail : (l l′ : List ℕ) (m : ℕ) → drop m l ≡ drop m l′ → drop (m + 1) l ≡ drop (m + 1) l′

@@ -207,11 +207,13 @@ module _ (supply demand sizes masses ones costs flow : List ℕ) (r c : ℕ) whe
       let v = length-take-le c demand (omega arith) in
       rw (sub-zero r, sub-zero c, sub-zero (r * c))
       (record {
-        rows = rw u hr; columns = rw v hc;
+        rows = rw u hr;
+        columns = rw v hc;
         sizesLong = rw (u, v) (length-take-le (r * c) sizes (omega arith));
         massesLong = rw (u, v) (length-take-le (r * c) masses (omega arith));
         allowedLong = rw (u, v) (length-take-le (r * c) ones (omega arith));
-        costsLong = g; flowLong = h;
+        costsLong = g;
+        flowLong = h;
       })
 
   pub parts-solved : (costs′ flow′ : List ℕ) (z : Bool) → Solves (take (r - 0) supply) (take (c - 0) demand) (take (r * c - 0) sizes) (take (r * c - 0) masses) (take (r * c - 0) ones) costs flow costs′ flow′ z

@@ -61,7 +61,7 @@ module _ (x per : List ℕ) where
         let l : a * b < 2 ^ 64 = product-fits a b u w in
         let N : Natural (record { lo = a * b; hi = 0 }) (a * b) = record { low = l; high = omega arith; is = omega arith } in
         let d : dot (drop i x) (drop i per) ≡ getD x i 0 * getD per i 0 + dot (drop (i + 1) x) (drop (i + 1) per) =
-            rw (add-one, drop-cons x i 0 h, drop-cons per i 0 (omega arith)) refl in
+        rw (add-one, drop-cons x i 0 h, drop-cons per i 0 (omega arith)) refl in
         let p : a * b ≡ getD x i 0 * getD per i 0 = λ j. e j * f j in
         record {
           sum = S .sum + a * b;

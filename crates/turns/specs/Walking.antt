@@ -109,10 +109,10 @@ module _ (t : Tables) (q : Two → Two) (of : Two → ℕ) (l r : ℕ) (w₀ : W
         walking-next w′ f =
             record {
               rest =
-                ap (offersIn q of (actionsLeft t l r y)) f
-                ∙ sym (offers-append q of (actionsAt t l r v) (actionsLeft t l r y) w)
-                ∙ ap (λ (m : List TransportAction). offersIn q of m w) (sym split)
-                ∙ W .rest;
+                  ap (offersIn q of (actionsLeft t l r y)) f
+                  ∙ sym (offers-append q of (actionsAt t l r v) (actionsLeft t l r y) w)
+                  ∙ ap (λ (m : List TransportAction). offersIn q of m w) (sym split)
+                  ∙ W .rest;
               within = d .within;
               joined = λ a i. W .joined a (rw split (in-right (actionsAt t l r v) i));
             }

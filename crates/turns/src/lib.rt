@@ -143,7 +143,11 @@ fn lay_cells(
     while k < count {
         let p = cell(left, rows, right, cols, k);
         put4(sizes, k, quality::size_of(index, pairs, n, p.left, p.right));
-        put4(masses, k, quality::mass_of(index, pairs, n, p.left, p.right));
+        put4(
+            masses,
+            k,
+            quality::mass_of(index, pairs, n, p.left, p.right),
+        );
         k += 1;
     }
 }
@@ -196,7 +200,11 @@ fn list_cell(
     if x == 0 {
         return m;
     }
-    put8(list, m, x * 16384 + num8(quality::term_of(index, pairs, n, p.left, p.right)));
+    put8(
+        list,
+        m,
+        x * 16384 + num8(quality::term_of(index, pairs, n, p.left, p.right)),
+    );
     m + 1
 }
 

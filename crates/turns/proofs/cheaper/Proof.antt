@@ -1,5 +1,4 @@
 use Rattle.turns.specs.Better.{high-not, low-not, words-one, better-words, false-true, Words}
-
 use Rattle.spec.specs.Round.{better}
 use Rattle.spec.specs.Bytes.{Two}
 use borrow.Author.Tests.{lt-ltb, le-ltb, le-leb, lt-leb, eq-eqb, ne-eqb}

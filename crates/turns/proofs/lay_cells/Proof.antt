@@ -76,12 +76,15 @@ loop-again c =
     let h : length (cellPairs (pairOf (held (a .rows) (a .left .now)) (held (a .cols) (a .right .now)))) ≡ a .rows * a .cols = n in
     let s : length (sizesAt (qualityIn (a .index .now) (a .pairs .now)) (pairOf (held (a .rows) (a .left .now)) (held (a .cols) (a .right .now)))) ≡ length (cellPairs (pairOf (held (a .rows) (a .left .now)) (held (a .cols) (a .right .now)))) = length-map (λ p. (qualityIn (a .index .now) (a .pairs .now)) p .0) (cellPairs (pairOf (held (a .rows) (a .left .now)) (held (a .cols) (a .right .now)))) in
     let t : length (massesAt (qualityIn (a .index .now) (a .pairs .now)) (pairOf (held (a .rows) (a .left .now)) (held (a .cols) (a .right .now)))) ≡ length (cellPairs (pairOf (held (a .rows) (a .left .now)) (held (a .cols) (a .right .now)))) = length-map (λ p. (qualityIn (a .index .now) (a .pairs .now)) p .1) (cellPairs (pairOf (held (a .rows) (a .left .now)) (held (a .cols) (a .right .now)))) in
-    let l : c .before .before .before .before .before .before .before .before .before .before .before .before .loop .k < length (cellPairs (pairOf (held (a .rows) (a .left .now)) (held (a .cols) (a .right .now)))) = omega (arith, c .before .before .before .before .before .before .before .before .before .before .before .before .loop .inv .1, c .before .before .before .before .before .before .before .before .before .before .before .loop-test .taken) in
-    (omega (arith, c .before .before .before .before .before .before .before .before .before .before .before .loop-test .taken), c .before .before .before .before .before .before .before .before .before .before .before .before .loop .inv .1, c .before .before .before .before .before .before .before .before .before .before .before .before .loop .inv .2,
+    let l : c .before .before .before .before .before .before .before .before .before .before .before .before .loop .k < length (cellPairs (pairOf (held (a .rows) (a .left .now)) (held (a .cols) (a .right .now)))) = omega (arith, c .before .before .before .before .before .before .before .before .before .before .before .before .loop .inv .1, c .before .before .before .before .before .before .before .before .before .before .before .loop-test .taken) in (
+      omega (arith, c .before .before .before .before .before .before .before .before .before .before .before .loop-test .taken),
+      c .before .before .before .before .before .before .before .before .before .before .before .before .loop .inv .1,
+      c .before .before .before .before .before .before .before .before .before .before .before .before .loop .inv .2,
       rw (c .before .before .before .before .before .before .before .put4 .ensures) (laid-more (sizesAt (qualityIn (a .index .now) (a .pairs .now)) (pairOf (held (a .rows) (a .left .now)) (held (a .cols) (a .right .now)))) (a .sizes .now) (c .before .before .before .before .before .before .before .before .before .before .before .before .loop .k) (c .before .before .before .before .before .before .before .before .size-of .result) (c .before .before .before .before .before .before .before .before .before .before .before .before .loop .sizes) (omega (arith, c .before .before .before .before .before .before .before .before .before .before .before .before .loop .inv .1, c .before .before .before .before .before .before .before .before .before .before .before .before .loop .inv .2, b .pre .6)) (omega arith)
-        (cell-value (λ p. (qualityIn (a .index .now) (a .pairs .now)) p .0) (cellPairs (pairOf (held (a .rows) (a .left .now)) (held (a .cols) (a .right .now)))) (c .before .before .before .before .before .before .before .before .before .before .before .before .loop .k) l (c .before .before .before .before .before .before .before .before .before .before .cell .result .left) (c .before .before .before .before .before .before .before .before .before .before .cell .result .right) (c .before .before .before .before .before .before .before .before .before .before .cell .ensures) (c .before .before .before .before .before .before .before .before .size-of .result) (c .before .before .before .before .before .before .before .before .size-of .ensures)) (c .before .before .before .before .before .before .before .before .before .before .before .before .loop .inv .3)),
+          (cell-value (λ p. (qualityIn (a .index .now) (a .pairs .now)) p .0) (cellPairs (pairOf (held (a .rows) (a .left .now)) (held (a .cols) (a .right .now)))) (c .before .before .before .before .before .before .before .before .before .before .before .before .loop .k) l (c .before .before .before .before .before .before .before .before .before .before .cell .result .left) (c .before .before .before .before .before .before .before .before .before .before .cell .result .right) (c .before .before .before .before .before .before .before .before .before .before .cell .ensures) (c .before .before .before .before .before .before .before .before .size-of .result) (c .before .before .before .before .before .before .before .before .size-of .ensures)) (c .before .before .before .before .before .before .before .before .before .before .before .before .loop .inv .3)),
       rw (c .before .before .put42 .ensures) (laid-more (massesAt (qualityIn (a .index .now) (a .pairs .now)) (pairOf (held (a .rows) (a .left .now)) (held (a .cols) (a .right .now)))) (a .masses .now) (c .before .before .before .before .before .before .before .before .before .before .before .before .loop .k) (c .before .before .before .mass-of .result) (c .before .before .before .before .before .before .before .before .before .before .before .before .loop .masses) (omega (arith, c .before .before .before .before .before .before .before .before .before .before .before .before .loop .inv .1, c .before .before .before .before .before .before .before .before .before .before .before .before .loop .inv .2, b .pre .7)) (omega arith)
-        (cell-value (λ p. (qualityIn (a .index .now) (a .pairs .now)) p .1) (cellPairs (pairOf (held (a .rows) (a .left .now)) (held (a .cols) (a .right .now)))) (c .before .before .before .before .before .before .before .before .before .before .before .before .loop .k) l (c .before .before .before .before .before .before .before .before .before .before .cell .result .left) (c .before .before .before .before .before .before .before .before .before .before .cell .result .right) (c .before .before .before .before .before .before .before .before .before .before .cell .ensures) (c .before .before .before .mass-of .result) (c .before .before .before .mass-of .ensures)) (c .before .before .before .before .before .before .before .before .before .before .before .before .loop .inv .4)))
+          (cell-value (λ p. (qualityIn (a .index .now) (a .pairs .now)) p .1) (cellPairs (pairOf (held (a .rows) (a .left .now)) (held (a .cols) (a .right .now)))) (c .before .before .before .before .before .before .before .before .before .before .before .before .loop .k) l (c .before .before .before .before .before .before .before .before .before .before .cell .result .left) (c .before .before .before .before .before .before .before .before .before .before .cell .result .right) (c .before .before .before .before .before .before .before .before .before .before .cell .ensures) (c .before .before .before .mass-of .result) (c .before .before .before .mass-of .ensures)) (c .before .before .before .before .before .before .before .before .before .before .before .before .loop .inv .4)),
+    )
 
 -- src/lib.rt:88:1
 same-length : tie.Need-same-length Inv-loop μ-loop
@@ -94,7 +97,7 @@ same-length-2 c = c .before .loop .inv .4 .long
 -- src/lib.rt:88:1
 returns : tie.Need-returns Inv-loop μ-loop
 returns c =
-    let b = c .before .before .before .before .before .before .before .before in let a = b .args in 
+    let b = c .before .before .before .before .before .before .before .before in let a = b .args in
     let h : length (cellPairs (pairOf (held (a .rows) (a .left .now)) (held (a .cols) (a .right .now)))) ≡ a .rows * a .cols = cells-length (pairOf (held (a .rows) (a .left .now)) (held (a .cols) (a .right .now))) ∙ (λ i. held-length (a .left .now) (a .rows) (b .pre .1) (b .pre .3) i * held-length (a .right .now) (a .cols) (b .pre .2) (b .pre .4) i) in
     let s : length (sizesAt (qualityIn (a .index .now) (a .pairs .now)) (pairOf (held (a .rows) (a .left .now)) (held (a .cols) (a .right .now)))) ≡ length (cellPairs (pairOf (held (a .rows) (a .left .now)) (held (a .cols) (a .right .now)))) = length-map (λ p. (qualityIn (a .index .now) (a .pairs .now)) p .0) (cellPairs (pairOf (held (a .rows) (a .left .now)) (held (a .cols) (a .right .now)))) in
     let t : length (massesAt (qualityIn (a .index .now) (a .pairs .now)) (pairOf (held (a .rows) (a .left .now)) (held (a .cols) (a .right .now)))) ≡ length (cellPairs (pairOf (held (a .rows) (a .left .now)) (held (a .cols) (a .right .now)))) = length-map (λ p. (qualityIn (a .index .now) (a .pairs .now)) p .1) (cellPairs (pairOf (held (a .rows) (a .left .now)) (held (a .cols) (a .right .now)))) in

@@ -51,10 +51,12 @@ loop-less c = search needs
 -- src/lib.rt:65:5
 loop-again : tie.Need-loop-again Inv-loop μ-loop
 loop-again c =
-    let b = c .before .before .before .before .before .before .before .before .before .before in let a = b .args in
-    (omega arith, rw (c .before .before .put4 .ensures) (laid-more (counts (held (a .n) (a .mono .now))) (a .margin .now) (c .before .before .before .before .before .before .before .loop .i) (c .before .before .before .short .result) (c .before .before .before .before .before .before .before .loop .margin)
-      (omega (arith, counts-length (a .mono .now) (a .n) (b .pre .0) (b .pre .1), b .pre .3, b .pre .1)) (omega (arith, counts-length (a .mono .now) (a .n) (b .pre .0) (b .pre .1), c .before .before .before .before .before .before .loop-test .taken))
-      (c .before .before .before .short .ensures ∙ c .before .before .before .before .count-at .ensures ∙ counts-at (a .mono .now) (a .n) (b .pre .0) (b .pre .1) (c .before .before .before .before .before .before .before .loop .i) (omega (arith, c .before .before .before .before .before .before .loop-test .taken))) (c .before .before .before .before .before .before .before .loop .inv .1)))
+    let b = c .before .before .before .before .before .before .before .before .before .before in let a = b .args in (
+      omega arith,
+      rw (c .before .before .put4 .ensures) (laid-more (counts (held (a .n) (a .mono .now))) (a .margin .now) (c .before .before .before .before .before .before .before .loop .i) (c .before .before .before .short .result) (c .before .before .before .before .before .before .before .loop .margin)
+          (omega (arith, counts-length (a .mono .now) (a .n) (b .pre .0) (b .pre .1), b .pre .3, b .pre .1)) (omega (arith, counts-length (a .mono .now) (a .n) (b .pre .0) (b .pre .1), c .before .before .before .before .before .before .loop-test .taken))
+          (c .before .before .before .short .ensures ∙ c .before .before .before .before .count-at .ensures ∙ counts-at (a .mono .now) (a .n) (b .pre .0) (b .pre .1) (c .before .before .before .before .before .before .before .loop .i) (omega (arith, c .before .before .before .before .before .before .loop-test .taken))) (c .before .before .before .before .before .before .before .loop .inv .1)),
+    )
 
 -- src/lib.rt:60:1
 same-length : tie.Need-same-length Inv-loop μ-loop

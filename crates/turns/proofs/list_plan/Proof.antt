@@ -59,7 +59,7 @@ loop-less c = search needs
 -- src/lib.rt:184:5
 loop-again : tie.Need-loop-again Inv-loop μ-loop
 loop-again c =
-    let b = c .before .before .before .before .before .before .before .before .before .before .before .before .before .before in let a = b .args in 
+    let b = c .before .before .before .before .before .before .before .before .before .before .before .before .before .before in let a = b .args in
     rw (c .before .before .list-cell .ensures .0, c .before .before .list-cell .ensures .1) (listed-more (termIn (a .index .now) (a .pairs .now)) (cellPairs (pairOf (held (a .rows) (a .left .now)) (held (a .cols) (a .right .now)))) (a .x .now) (a .list .now) (c .before .before .before .before .before .before .before .loop .k) (c .before .before .before .before .before .before .before .loop .m) (c .before .before .before .before .before .before .before .loop .list) (c .before .before .before .before .before .before .before .loop .inv) (omega (arith, b .pre .6, (cells-length (pairOf (held (a .rows) (a .left .now)) (held (a .cols) (a .right .now))) ∙ (λ i. held-length (a .left .now) (a .rows) (b .pre .1) (b .pre .3) i * held-length (a .right .now) (a .cols) (b .pre .2) (b .pre .4) i)))) (omega (arith, b .pre .6, b .pre .8, cells-fit (a .rows) (a .cols) (b .pre .3) (b .pre .4))) (c .before .before .before .before .before .before .loop-test .taken) (getD (a .x .now) (c .before .before .before .before .before .before .before .loop .k) 0) ((termIn (a .index .now) (a .pairs .now)) (with (c .before .before .before .before .before .cell .result .left) (c .before .before .before .before .before .cell .result .right))) refl (ap (termIn (a .index .now) (a .pairs .now)) (c .before .before .before .before .before .cell .ensures)))
 
 -- src/lib.rt:166:1
@@ -69,7 +69,7 @@ same-length c = c .before .loop .inv .long
 -- src/lib.rt:166:1
 returns : tie.Need-returns Inv-loop μ-loop
 returns c =
-    let b = c .before .before .before .before .before .before .before .before in let a = b .args in 
+    let b = c .before .before .before .before .before .before .before .before in let a = b .args in
     let f : length (a .x .now) ≤ length (a .list .now) = omega (arith, b .pre .6, b .pre .8, cells-fit (a .rows) (a .cols) (b .pre .3) (b .pre .4)) in
     (listed-many (termIn (a .index .now) (a .pairs .now)) (cellPairs (pairOf (held (a .rows) (a .left .now)) (held (a .cols) (a .right .now)))) (a .x .now) (a .list .now) (c .before .loop .k) (c .before .loop .m) (c .before .loop .list) (c .before .loop .inv) (omega (arith, c .loop-test .left)) f, listed-all (termIn (a .index .now) (a .pairs .now)) (cellPairs (pairOf (held (a .rows) (a .left .now)) (held (a .cols) (a .right .now)))) (a .x .now) (a .list .now) (c .before .loop .k) (c .before .loop .m) (c .before .loop .list) (c .before .loop .inv) (omega (arith, c .loop-test .left)) f)
 

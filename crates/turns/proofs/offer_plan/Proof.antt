@@ -58,13 +58,13 @@ same-length c = search needs
 -- src/lib.rt:255:9
 returns : tie.Need-returns
 returns c =
-    let b = c .before .before .before .before .before .before .before .before .before .before .before .before .before .before .before .before .before in let a = b .args in 
+    let b = c .before .before .before .before .before .before .before .before .before .before .before .before .before .before .before .before .before in let a = b .args in
     plan-replaced (qualityIn (a .index .now) (a .pairs .now)) (termIn (a .index .now) (a .pairs .now)) (actionOf (a .op) (pairOf (held (a .rows) (a .left .now)) (held (a .cols) (a .right .now)))) (a .x .now) (known-low (b .pre .0)) (c .before .before .before .before .before .before .before .before .plan-sum .result) (c .before .before .before .before .before .before .before .plan-sum2 .result) (rw (b .pre .9) at (c .before .before .before .before .before .before .before .before .plan-sum .ensures)) (rw (b .pre .10) at (c .before .before .before .before .before .before .before .plan-sum2 .ensures)) (a .best) (a .list .now) (c .before .before .before .before .before .before .cheaper .result) (c .before .before .before .before .before .before .cheaper .ensures .0) (c .before .before .before .before .before .if1 .taken) (c .before .before .before .before .before .before .cheaper .ensures .1 (c .before .before .before .before .before .if1 .taken)) (c .before .before .before .list-plan .result) (c .before .before .before .list-plan .ensures .0) _ (c .before .before .before .list-plan .ensures .1)
 
 -- src/lib.rt:230:1
 returns-2 : tie.Need-returns-2
 returns-2 c =
-    let b = c .before .before .before .before .before .before .before .before .before .before .before .before in let a = b .args in 
+    let b = c .before .before .before .before .before .before .before .before .before .before .before .before in let a = b .args in
     plan-kept (qualityIn (a .index .now) (a .pairs .now)) (termIn (a .index .now) (a .pairs .now)) (actionOf (a .op) (pairOf (held (a .rows) (a .left .now)) (held (a .cols) (a .right .now)))) (a .x .now) (known-low (b .pre .0)) (c .before .before .before .plan-sum .result) (c .before .before .plan-sum2 .result) (rw (b .pre .9) at (c .before .before .before .plan-sum .ensures)) (rw (b .pre .10) at (c .before .before .plan-sum2 .ensures)) (a .best) (a .list .now) (c .before .cheaper .result) (c .before .cheaper .ensures .0) (c .if1 .left)
 
 pub offer-plan-spec : {M : Type 1} → statement M

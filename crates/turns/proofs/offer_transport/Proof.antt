@@ -68,7 +68,7 @@ part-offer-plan-end-3 c = let b = c .before .before .before .before .before .bef
 -- src/lib.rt:343:9
 offer-plan-requires : tie.Need-offer-plan-requires
 offer-plan-requires c κs =
-    let b = c .before .before .before .before .before .before .before .before .before .before .before .before .before .before .before .before .before .before .before .before .before .before .before .before .before .before .before .before .before .before .before in let a = b .args in 
+    let b = c .before .before .before .before .before .before .before .before .before .before .before .before .before .before .before .before .before .before .before .before .before .before .before .before .before .before .before .before .before .before .before in let a = b .args in
     (b .pre .0, b .pre .1, b .pre .2, b .pre .3, b .pre .4, b .pre .5, plan-cells (qualityIn (a .index .now) (a .pairs .now)) (termIn (a .index .now) (a .pairs .now)) (a .op) (a .left .now) (a .right .now) (a .rows) (a .cols) (b .pre .1) (b .pre .2) (b .pre .3) (b .pre .4) (workOf (a .sizes .now) (a .masses .now) (a .costs .now) (a .flow .now) (a .list .now) (a .best)) _ _ _ _ (c .before .before .before .before .before .before .before .before .before .before .before .before .before .before .before .before .plan-transport .result) (c .before .before .before .before .before .before .before .before .before .before .before .before .before .before .before .before .plan-transport .ensures) (c .before .before .before .before .before .before .before .if1 .taken), plan-low (qualityIn (a .index .now) (a .pairs .now)) (termIn (a .index .now) (a .pairs .now)) (a .op) (a .left .now) (a .right .now) (a .rows) (a .cols) (b .pre .1) (b .pre .2) (b .pre .3) (b .pre .4) (workOf (a .sizes .now) (a .masses .now) (a .costs .now) (a .flow .now) (a .list .now) (a .best)) _ _ _ _ (c .before .before .before .before .before .before .before .before .before .before .before .before .before .before .before .before .plan-transport .result) (c .before .before .before .before .before .before .before .before .before .before .before .before .before .before .before .before .plan-transport .ensures) (c .before .before .before .before .before .before .before .if1 .taken) (b .pre .6), b .pre .13, tried-sizes (qualityIn (a .index .now) (a .pairs .now)) (termIn (a .index .now) (a .pairs .now)) (a .op) (a .left .now) (a .right .now) (a .rows) (a .cols) (b .pre .1) (b .pre .2) (b .pre .3) (b .pre .4) (workOf (a .sizes .now) (a .masses .now) (a .costs .now) (a .flow .now) (a .list .now) (a .best)) _ _ _ _ (c .before .before .before .before .before .before .before .before .before .before .before .before .before .before .before .before .plan-transport .result) (c .before .before .before .before .before .before .before .before .before .before .before .before .before .before .before .before .plan-transport .ensures), tried-masses (qualityIn (a .index .now) (a .pairs .now)) (termIn (a .index .now) (a .pairs .now)) (a .op) (a .left .now) (a .right .now) (a .rows) (a .cols) (b .pre .1) (b .pre .2) (b .pre .3) (b .pre .4) (workOf (a .sizes .now) (a .masses .now) (a .costs .now) (a .flow .now) (a .list .now) (a .best)) _ _ _ _ (c .before .before .before .before .before .before .before .before .before .before .before .before .before .before .before .before .plan-transport .result) (c .before .before .before .before .before .before .before .before .before .before .before .before .before .before .before .before .plan-transport .ensures))
 
 -- src/lib.rt:343:9

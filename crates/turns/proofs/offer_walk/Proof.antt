@@ -51,7 +51,7 @@ slice-aggregate-offer-transport-2 c = search needs
 -- src/lib.rt:424:37
 offer-transport-requires : tie.Need-offer-transport-requires
 offer-transport-requires c κs =
-    let b = c .before .before .before .before .before .before .before .before .before .before .before .before .before .before .before .before .before .before .before .before .before .before .before .before in let a = b .args in 
+    let b = c .before .before .before .before .before .before .before .before .before .before .before .before .before .before .before .before .before .before .before .before .before .before .before .before in let a = b .args in
     (b .pre .5, omega (arith, c .before .before .before .before .before .before .before .before .before .before .before .before .monomials .kept), omega (arith, c .before .before .before .before .before .before .before .before .before .before .before .before .monomials .kept), found-few (tablesOf (a .s .now)) (a .l) (a .r) (a .w) _ _ _ _ (c .before .before .before .before .before .before .before .before .before .before .before .before .monomials .result) (c .before .before .before .before .before .before .before .before .before .before .before .before .monomials .ensures) (c .before .before .before .before .before .before .before .before .p .given .0 .0) (c .before .before .before .before .before .before .before .before .p .given .0 .1 .0) (c .before .before .before .before .before .before .before .before .p .given .1) .0, found-few (tablesOf (a .s .now)) (a .l) (a .r) (a .w) _ _ _ _ (c .before .before .before .before .before .before .before .before .before .before .before .before .monomials .result) (c .before .before .before .before .before .before .before .before .before .before .before .before .monomials .ensures) (c .before .before .before .before .before .before .before .before .p .given .0 .0) (c .before .before .before .before .before .before .before .before .p .given .0 .1 .0) (c .before .before .before .before .before .before .before .before .p .given .1) .1, one-joined (actionsAt (tablesOf (a .s .now)) (a .l) (a .r) (a .w)) _ (b .pre .7) (found-one (tablesOf (a .s .now)) (a .l) (a .r) (a .w) _ _ _ _ (c .before .before .before .before .before .before .before .before .before .before .before .before .monomials .result) (c .before .before .before .before .before .before .before .before .before .before .before .before .monomials .ensures) (c .before .before .before .before .before .before .before .before .p .given .0 .0) (c .before .before .before .before .before .before .before .before .p .given .0 .1 .0) (c .before .before .before .before .before .before .before .before .p .given .1)), found-left (tablesOf (a .s .now)) (a .l) (a .r) (a .w) _ _ _ _ (c .before .before .before .before .before .before .before .before .before .before .before .before .monomials .result) (c .before .before .before .before .before .before .before .before .before .before .before .before .monomials .ensures) (c .before .before .before .before .before .before .before .before .p .given .0 .0) (c .before .before .before .before .before .before .before .before .p .given .0 .1 .0) (c .before .before .before .before .before .before .before .before .p .given .1), found-right (tablesOf (a .s .now)) (a .l) (a .r) (a .w) _ _ _ _ (c .before .before .before .before .before .before .before .before .before .before .before .before .monomials .result) (c .before .before .before .before .before .before .before .before .before .before .before .before .monomials .ensures) (c .before .before .before .before .before .before .before .before .p .given .0 .0) (c .before .before .before .before .before .before .before .before .p .given .0 .1 .0) (c .before .before .before .before .before .before .before .before .p .given .1), b .pre .6, b .pre .8, b .pre .9, b .pre .10, b .pre .11, b .pre .12)
 
 -- src/lib.rt:395:1

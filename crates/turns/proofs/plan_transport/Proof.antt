@@ -75,7 +75,7 @@ same-length-4 c = search needs
 -- src/lib.rt:265:1
 returns : tie.Need-returns
 returns c =
-    let b = c .before .before .before .before .before .before .before .before .before .before .before .before .before .before .before .before .before .before .before .before .before .before .before .before .before .before .before .before .before .before .before .before .before in let a = b .args in 
+    let b = c .before .before .before .before .before .before .before .before .before .before .before .before .before .before .before .before .before .before .before .before .before .before .before .before .before .before .before .before .before .before .before .before .before in let a = b .args in
     tried-is (qualityIn (a .index .now) (a .pairs .now)) (a .left .now) (a .right .now) (a .rows) (a .cols) (b .pre .1) (b .pre .2) (b .pre .3) (b .pre .4) _ _ (a .sizes .now) (a .masses .now) _ _ _ _ (a .ones .now) (c .before .before .before .before .before .before .before .before .before .before .before .before .before .before .before .before .before .before .before .before .before .before .lay-margin .ensures) (c .before .before .before .before .before .before .before .before .before .before .before .before .before .before .before .before .before .before .before .lay-margin2 .ensures) (c .before .before .before .before .before .before .before .before .before .before .before .before .before .before .before .lay-cells .ensures .0) (c .before .before .before .before .before .before .before .before .before .before .before .before .before .before .before .lay-cells .ensures .1) (b .pre .8) (cells-fit (a .rows) (a .cols) (b .pre .3) (b .pre .4)) (a .costs .now) (a .flow .now) _ _ (c .before .before .before .before .solve .result) (c .before .before .before .before .solve .ensures)
 
 pub plan-transport-spec : {M : Type 1} → statement M

@@ -27,7 +27,7 @@ slice-aggregate-turn c = search needs
 
 -- src/lib.rt:637:9
 turn-requires : tie.Need-turn-requires
-turn-requires c κs = let b = c .before .before .before .before .before .before .before .before .before .before .before in let a = b .args in (b .pre .0, b .pre .1, b .pre .2, b .pre .3, b .pre .4, refl, omega (arith, b .good .1 .1 .1 .1 .1 .1 .1 .0), omega (arith, b .good .1 .1 .1 .1 .1 .1 .1 .1 .0), omega (arith, b .good .1 .1 .1 .1 .1 .1 .1 .1 .1 .0), omega (arith, b .good .1 .1 .1 .1 .1 .1 .1 .1 .1 .1 .0), omega (arith, b .good .1 .1 .1 .1 .1 .1 .1 .1 .1 .1 .1 .0))
+turn-requires c κs = let b = c .before .before .before .before .before .before .before .before .before .before .before in let a = b .args in (b .pre .0, b .pre .1, b .pre .2, b .pre .3, b .pre .4, refl, omega (arith, c .before .before .before .before .turn-arg .given .0 .1), omega (arith, c .before .before .before .turn-arg2 .given .0 .1), omega (arith, c .before .before .turn-arg3 .given .0 .1), omega (arith, c .before .turn-arg4 .given .0 .1), omega (arith, c .turn-arg5 .given .0 .1))
 
 -- src/lib.rt:653:9
 turn-term-requires : tie.Need-turn-term-requires

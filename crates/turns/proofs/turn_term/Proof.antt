@@ -55,7 +55,7 @@ op-requires c κs = let b = c .before .before .before .before .before .before .b
 -- src/lib.rt:582:13
 intern-action-requires : tie.Need-intern-action-requires
 intern-action-requires c κs =
-    let b = c .before .before .before .before .before .before .before .before .before .before .before .before .before .before .before .before .before in let a = b .args in let h : Chosen (tablesOf (a .s .now)) (termIn (a .index .now) (a .pairs .now)) (a .list .now) (H.Aligned (c .before .before .before .before .before .before .before .before .before .how .given .0 .0)) (turnOf (tablesOf (a .s .now)) (qualityIn (a .index .now) (a .pairs .now)) (a .l, a .r) .choice) = rw (c .before .before .before .before .before .before .before .before .before .how .given .1) at (b .pre .8) in let g = turn-placed (tablesOf (a .s .now)) (b .pre .1) (qualityIn (a .index .now) (a .pairs .now)) (a .l, a .r) (actionAt (tablesOf (a .s .now)) (c .before .before .before .before .before .before .before .before .before .how .given .0 .0) .op) (actionAt (tablesOf (a .s .now)) (c .before .before .before .before .before .before .before .before .before .how .given .0 .0) .pairs) (ones (actionAt (tablesOf (a .s .now)) (c .before .before .before .before .before .before .before .before .before .how .given .0 .0) .pairs)) (h .1) in 
+    let b = c .before .before .before .before .before .before .before .before .before .before .before .before .before .before .before .before .before in let a = b .args in let h : Chosen (tablesOf (a .s .now)) (termIn (a .index .now) (a .pairs .now)) (a .list .now) (H.Aligned (c .before .before .before .before .before .before .before .before .before .how .given .0 .0)) (turnOf (tablesOf (a .s .now)) (qualityIn (a .index .now) (a .pairs .now)) (a .l, a .r) .choice) = rw (c .before .before .before .before .before .before .before .before .before .how .given .1) at (b .pre .8) in let g = turn-placed (tablesOf (a .s .now)) (b .pre .1) (qualityIn (a .index .now) (a .pairs .now)) (a .l, a .r) (actionAt (tablesOf (a .s .now)) (c .before .before .before .before .before .before .before .before .before .how .given .0 .0) .op) (actionAt (tablesOf (a .s .now)) (c .before .before .before .before .before .before .before .before .before .how .given .0 .0) .pairs) (ones (actionAt (tablesOf (a .s .now)) (c .before .before .before .before .before .before .before .before .before .how .given .0 .0) .pairs)) (h .1) in
     (b .pre .0, c .before .before .before .op .ensures .1, omega (arith, c .before .before .before .op .ensures .1, operations-many (a .s .now) (a .im) (b .pre .0), b .pre .1 .counts .fewOperations), b .pre .5, act-fits (tablesOf (a .s .now)) (termIn (a .index .now) (a .pairs .now)) (a .terms .now) (a .runs .now) (b .pre .5) (known-below (b .pre .4) (b .pre .6)) ((termIn (a .index .now) (a .pairs .now)) (a .l, a .r)) (turnOf (tablesOf (a .s .now)) (qualityIn (a .index .now) (a .pairs .now)) (a .l, a .r) .choice) (a .list .now) (actionAt (tablesOf (a .s .now)) (c .before .before .before .before .before .before .before .before .before .how .given .0 .0) .op) (actionAt (tablesOf (a .s .now)) (c .before .before .before .before .before .before .before .before .before .how .given .0 .0) .pairs) (ones (actionAt (tablesOf (a .s .now)) (c .before .before .before .before .before .before .before .before .before .how .given .0 .0) .pairs)) (h .1) _ (c .before .before .before .before .before .before .list-action .ensures .1) (c .before .before .before .before .before .before .list-action .result) (c .before .before .before .before .before .before .list-action .ensures .0), act-below (tablesOf (a .s .now)) (termIn (a .index .now) (a .pairs .now)) (a .terms .now) (a .runs .now) (b .pre .5) (known-below (b .pre .4) (b .pre .6)) ((termIn (a .index .now) (a .pairs .now)) (a .l, a .r)) (turnOf (tablesOf (a .s .now)) (qualityIn (a .index .now) (a .pairs .now)) (a .l, a .r) .choice) (a .list .now) (actionAt (tablesOf (a .s .now)) (c .before .before .before .before .before .before .before .before .before .how .given .0 .0) .op) (actionAt (tablesOf (a .s .now)) (c .before .before .before .before .before .before .before .before .before .how .given .0 .0) .pairs) (ones (actionAt (tablesOf (a .s .now)) (c .before .before .before .before .before .before .before .before .before .how .given .0 .0) .pairs)) (h .1) _ (c .before .before .before .before .before .before .list-action .ensures .1) (c .before .before .before .before .before .before .list-action .result) (c .before .before .before .before .before .before .list-action .ensures .0), act-light (tablesOf (a .s .now)) (termIn (a .index .now) (a .pairs .now)) (a .terms .now) (a .runs .now) (b .pre .5) (known-below (b .pre .4) (b .pre .6)) ((termIn (a .index .now) (a .pairs .now)) (a .l, a .r)) (turnOf (tablesOf (a .s .now)) (qualityIn (a .index .now) (a .pairs .now)) (a .l, a .r) .choice) (a .list .now) (actionAt (tablesOf (a .s .now)) (c .before .before .before .before .before .before .before .before .before .how .given .0 .0) .op) (actionAt (tablesOf (a .s .now)) (c .before .before .before .before .before .before .before .before .before .how .given .0 .0) .pairs) (ones (actionAt (tablesOf (a .s .now)) (c .before .before .before .before .before .before .before .before .before .how .given .0 .0) .pairs)) (h .1) _ (c .before .before .before .before .before .before .list-action .ensures .1) (c .before .before .before .before .before .before .list-action .result) (c .before .before .before .before .before .before .list-action .ensures .0) (g .counted) (g .few))
 
 -- src/lib.rt:584:19
@@ -65,13 +65,13 @@ enum-known-how-2 c = search needs
 -- src/lib.rt:584:28
 intern-action-requires-2 : tie.Need-intern-action-requires-2
 intern-action-requires-2 c κs =
-    let b = c .before .before .before .before .before .before .before .before .before .before .before .before in let a = b .args in let h : Planned (termIn (a .index .now) (a .pairs .now)) (a .list .now) (c .before .before .before .before .how2 .given .0 .0) (c .before .before .before .before .how2 .given .0 .1 .0) (turnOf (tablesOf (a .s .now)) (qualityIn (a .index .now) (a .pairs .now)) (a .l, a .r) .choice) = rw (c .before .before .before .before .how2 .given .1) at (b .pre .8) in let g = turn-placed (tablesOf (a .s .now)) (b .pre .1) (qualityIn (a .index .now) (a .pairs .now)) (a .l, a .r) (c .before .before .before .before .how2 .given .0 .0) (h .places) (h .plan) (h .is) in 
+    let b = c .before .before .before .before .before .before .before .before .before .before .before .before in let a = b .args in let h : Planned (termIn (a .index .now) (a .pairs .now)) (a .list .now) (c .before .before .before .before .how2 .given .0 .0) (c .before .before .before .before .how2 .given .0 .1 .0) (turnOf (tablesOf (a .s .now)) (qualityIn (a .index .now) (a .pairs .now)) (a .l, a .r) .choice) = rw (c .before .before .before .before .how2 .given .1) at (b .pre .8) in let g = turn-placed (tablesOf (a .s .now)) (b .pre .1) (qualityIn (a .index .now) (a .pairs .now)) (a .l, a .r) (c .before .before .before .before .how2 .given .0 .0) (h .places) (h .plan) (h .is) in
     (b .pre .0, omega (arith, g .operation, operations-many (a .s .now) (a .im) (b .pre .0)), omega (arith, g .operation, b .pre .1 .counts .fewOperations), b .pre .5, act-fits (tablesOf (a .s .now)) (termIn (a .index .now) (a .pairs .now)) (a .terms .now) (a .runs .now) (b .pre .5) (known-below (b .pre .4) (b .pre .6)) ((termIn (a .index .now) (a .pairs .now)) (a .l, a .r)) (turnOf (tablesOf (a .s .now)) (qualityIn (a .index .now) (a .pairs .now)) (a .l, a .r) .choice) (a .list .now) (c .before .before .before .before .how2 .given .0 .0) (h .places) (h .plan) (h .is) (a .list .now) (over-front (a .list .now) (runsOver (termIn (a .index .now) (a .pairs .now)) (h .places) (h .plan)) (c .before .before .before .before .how2 .given .0 .1 .0) (h .runs) (h .many)) (c .before .before .before .before .how2 .given .0 .1 .0) (h .many), act-below (tablesOf (a .s .now)) (termIn (a .index .now) (a .pairs .now)) (a .terms .now) (a .runs .now) (b .pre .5) (known-below (b .pre .4) (b .pre .6)) ((termIn (a .index .now) (a .pairs .now)) (a .l, a .r)) (turnOf (tablesOf (a .s .now)) (qualityIn (a .index .now) (a .pairs .now)) (a .l, a .r) .choice) (a .list .now) (c .before .before .before .before .how2 .given .0 .0) (h .places) (h .plan) (h .is) (a .list .now) (over-front (a .list .now) (runsOver (termIn (a .index .now) (a .pairs .now)) (h .places) (h .plan)) (c .before .before .before .before .how2 .given .0 .1 .0) (h .runs) (h .many)) (c .before .before .before .before .how2 .given .0 .1 .0) (h .many), act-light (tablesOf (a .s .now)) (termIn (a .index .now) (a .pairs .now)) (a .terms .now) (a .runs .now) (b .pre .5) (known-below (b .pre .4) (b .pre .6)) ((termIn (a .index .now) (a .pairs .now)) (a .l, a .r)) (turnOf (tablesOf (a .s .now)) (qualityIn (a .index .now) (a .pairs .now)) (a .l, a .r) .choice) (a .list .now) (c .before .before .before .before .how2 .given .0 .0) (h .places) (h .plan) (h .is) (a .list .now) (over-front (a .list .now) (runsOver (termIn (a .index .now) (a .pairs .now)) (h .places) (h .plan)) (c .before .before .before .before .how2 .given .0 .1 .0) (h .runs) (h .many)) (c .before .before .before .before .how2 .given .0 .1 .0) (h .many) (g .counted) (g .few))
 
 -- src/lib.rt:559:1
 returns : tie.Need-returns
 returns c =
-    let b = c .before .before .before .before .before .before .before .before .before .before in let a = b .args in 
+    let b = c .before .before .before .before .before .before .before .before .before .before in let a = b .args in
     ended-stay (tablesOf (a .s .now)) (termIn (a .index .now) (a .pairs .now)) (a .terms .now) (a .runs .now) (b .pre .5) (known-below (b .pre .4) (b .pre .6)) ((termIn (a .index .now) (a .pairs .now)) (a .l, a .r)) (turnOf (tablesOf (a .s .now)) (qualityIn (a .index .now) (a .pairs .now)) (a .l, a .r) .choice) (a .list .now) (rw (c .before .before .enum-told .given .1) at (b .pre .8)) (c .num4 .result) (c .num4 .ensures ∙ c .before .term-of .ensures)
 
 -- src/lib.rt:559:1
@@ -89,7 +89,7 @@ same-length-3 c = search needs
 -- src/lib.rt:559:1
 returns-2 : tie.Need-returns-2
 returns-2 c =
-    let b = c .before .before .before .before .before .before .before .before .before .before .before .before .before .before .before .before .before .before .before .before .before .before .before .before in let a = b .args in let h : Chosen (tablesOf (a .s .now)) (termIn (a .index .now) (a .pairs .now)) (a .list .now) (H.Aligned (c .before .before .before .before .before .before .before .before .before .before .before .before .before .before .before .before .how .given .0 .0)) (turnOf (tablesOf (a .s .now)) (qualityIn (a .index .now) (a .pairs .now)) (a .l, a .r) .choice) = rw (c .before .before .before .before .before .before .before .before .before .before .before .before .before .before .before .before .how .given .1) at (b .pre .8) in 
+    let b = c .before .before .before .before .before .before .before .before .before .before .before .before .before .before .before .before .before .before .before .before .before .before .before .before in let a = b .args in let h : Chosen (tablesOf (a .s .now)) (termIn (a .index .now) (a .pairs .now)) (a .list .now) (H.Aligned (c .before .before .before .before .before .before .before .before .before .before .before .before .before .before .before .before .how .given .0 .0)) (turnOf (tablesOf (a .s .now)) (qualityIn (a .index .now) (a .pairs .now)) (a .l, a .r) .choice) = rw (c .before .before .before .before .before .before .before .before .before .before .before .before .before .before .before .before .how .given .1) at (b .pre .8) in
     ended-act (tablesOf (a .s .now)) (termIn (a .index .now) (a .pairs .now)) (a .terms .now) (a .runs .now) (b .pre .5) (known-below (b .pre .4) (b .pre .6)) ((termIn (a .index .now) (a .pairs .now)) (a .l, a .r)) (turnOf (tablesOf (a .s .now)) (qualityIn (a .index .now) (a .pairs .now)) (a .l, a .r) .choice) (a .list .now) (actionAt (tablesOf (a .s .now)) (c .before .before .before .before .before .before .before .before .before .before .before .before .before .before .before .before .how .given .0 .0) .op) (actionAt (tablesOf (a .s .now)) (c .before .before .before .before .before .before .before .before .before .before .before .before .before .before .before .before .how .given .0 .0) .pairs) (ones (actionAt (tablesOf (a .s .now)) (c .before .before .before .before .before .before .before .before .before .before .before .before .before .before .before .before .how .given .0 .0) .pairs)) (h .1) _ (c .before .before .before .before .before .before .before .before .before .before .before .before .before .list-action .ensures .1) (c .before .before .before .before .before .before .before .before .before .before .before .before .before .list-action .result) (c .before .before .before .before .before .before .before .before .before .before .before .before .before .list-action .ensures .0) _ _ _ (c .before .before .before .before .before .before .intern-action .result) (rw (c .before .before .before .before .before .before .before .before .before .before .op .ensures .0) at (c .before .before .before .before .before .before .intern-action .ensures))
 
 -- src/lib.rt:559:1
@@ -107,7 +107,7 @@ same-length-6 c = search needs
 -- src/lib.rt:559:1
 returns-3 : tie.Need-returns-3
 returns-3 c =
-    let b = c .before .before .before .before .before .before .before .before .before .before .before .before .before .before .before .before .before .before .before in let a = b .args in let h : Planned (termIn (a .index .now) (a .pairs .now)) (a .list .now) (c .before .before .before .before .before .before .before .before .before .before .before .how2 .given .0 .0) (c .before .before .before .before .before .before .before .before .before .before .before .how2 .given .0 .1 .0) (turnOf (tablesOf (a .s .now)) (qualityIn (a .index .now) (a .pairs .now)) (a .l, a .r) .choice) = rw (c .before .before .before .before .before .before .before .before .before .before .before .how2 .given .1) at (b .pre .8) in 
+    let b = c .before .before .before .before .before .before .before .before .before .before .before .before .before .before .before .before .before .before .before in let a = b .args in let h : Planned (termIn (a .index .now) (a .pairs .now)) (a .list .now) (c .before .before .before .before .before .before .before .before .before .before .before .how2 .given .0 .0) (c .before .before .before .before .before .before .before .before .before .before .before .how2 .given .0 .1 .0) (turnOf (tablesOf (a .s .now)) (qualityIn (a .index .now) (a .pairs .now)) (a .l, a .r) .choice) = rw (c .before .before .before .before .before .before .before .before .before .before .before .how2 .given .1) at (b .pre .8) in
     ended-act (tablesOf (a .s .now)) (termIn (a .index .now) (a .pairs .now)) (a .terms .now) (a .runs .now) (b .pre .5) (known-below (b .pre .4) (b .pre .6)) ((termIn (a .index .now) (a .pairs .now)) (a .l, a .r)) (turnOf (tablesOf (a .s .now)) (qualityIn (a .index .now) (a .pairs .now)) (a .l, a .r) .choice) (a .list .now) (c .before .before .before .before .before .before .before .before .before .before .before .how2 .given .0 .0) (h .places) (h .plan) (h .is) (a .list .now) (over-front (a .list .now) (runsOver (termIn (a .index .now) (a .pairs .now)) (h .places) (h .plan)) (c .before .before .before .before .before .before .before .before .before .before .before .how2 .given .0 .1 .0) (h .runs) (h .many)) (c .before .before .before .before .before .before .before .before .before .before .before .how2 .given .0 .1 .0) (h .many) _ _ _ (c .before .before .before .before .before .before .intern-action2 .result) (c .before .before .before .before .before .before .intern-action2 .ensures)
 
 pub turn-term-spec : {M : Type 1} → statement M
