@@ -1,17 +1,17 @@
 -- The turn in the buffers is the definition's turn: the best so far has the quality of its choice, and a plan that was chosen is listed.
-use mathlib.Core.Path.{_≡_, refl, sym, ap, _∙_}
+use mathlib.Core.Path.{_≡_, refl, sym, ap}
 use mathlib.Core.Bool.{Bool, true, false}
-use mathlib.Core.List.{List, [], _∷_, _++_, map}
+use mathlib.Core.List.{List, [], _∷_}
 use mathlib.Core.Option.{Option, none, some}
-use Prim.Native.Nat.{ℕ, zero, suc, _+_, _*_, _≤_, _<_}
+use Prim.Native.Nat.{ℕ}
 use lib.ListN.{length, take, drop, replicate}
 use lib.Seq.{take-at}
 use Rattle.spec.specs.Bytes.{Two, pick}
 use Rattle.spec.specs.Image.{Tables}
 use Rattle.spec.specs.Monomial.{counts}
 use Rattle.spec.specs.Transport.{solveCells}
-use Rattle.spec.specs.Action.{TransportAction, transports, structural, cellPairs}
-use Rattle.spec.specs.Round.{better, Choice, stay, act, Turn, offer, offerActions, offerPlan, offerTransports, turnOf}
+use Rattle.spec.specs.Action.{TransportAction, transports, cellPairs}
+use Rattle.spec.specs.Round.{better, Choice, stay, act, Turn, offerPlan, offerTransports, turnOf}
 use Rattle.actions.specs.Remaining.{Stands}
 use Rattle.transport.specs.Solved.{costsAfter, flowAfter}
 use Rattle.quality.specs.Known.{over}

@@ -1,11 +1,11 @@
 -- "(size, mass), compared by size, then mass": a plan's sums against the best so far.
-use mathlib.Core.Path.{_≡_, refl, sym, ap, _∙_}
+use mathlib.Core.Path.{_≡_, refl}
 use mathlib.Core.Bool.{Bool, true, false}
-use Prim.Native.Nat.{ℕ, zero, suc, _+_, _*_, _^_, _≤_, _<_}
+use Prim.Native.Nat.{ℕ, _+_, _*_, _^_, _≤_, _<_}
 use native.Mathlib.Omega.{arith}
-use lib.Dec.{ltb, eqb}
 use borrow.Author.Tests.{le-ltb, ne-eqb, ltb-true, eqb-true}
-use Rattle.spec.specs.Bytes.{Two, both, either}
+use lib.Dec.{ltb, eqb}
+use Rattle.spec.specs.Bytes.{Two}
 use Rattle.spec.specs.Round.{better}
 use Rattle.wide.specs.declared.Wide.{Wide}
 use Rattle.wide.specs.Value.{unsigned}

@@ -1,16 +1,15 @@
 -- The cells of a transport action by their numbers: row by row.
 use mathlib.Core.Path.{_≡_, refl, sym, ap, _∙_}
-use mathlib.Core.Bool.{Bool, true, false}
 use mathlib.Core.List.{List, [], _∷_, _++_, map}
-use Prim.Native.Nat.{ℕ, zero, suc, _+_, _*_, _/_, _%_, _^_, _≤_, _<_}
+use Prim.Native.Nat.{ℕ, zero, suc, _+_, _*_, _/_, _%_, _≤_, _<_}
 use native.Mathlib.Nat.{suc-mul, mod-lt, div-add-mod', div-lt-iff-lt-mul, mul-le-mul}
 use native.Mathlib.Omega.{arith}
-use lib.ListN.{length, getD, take, drop, length-append}
+use lib.ListN.{length, getD, length-append}
 use lib.Seq.{getD-take, getD-append-add, length-take-le}
-use Rattle.lgg.specs.Lists.{length-map}
 use Rattle.spec.specs.Bytes.{Two, each}
-use Rattle.spec.specs.Monomial.{Monomial, MonomialPair, pairOf, classes, counts}
+use Rattle.spec.specs.Monomial.{Monomial, MonomialPair, pairOf, classes}
 use Rattle.spec.specs.Action.{cellPairs}
+use Rattle.lgg.specs.Lists.{length-map}
 use Rattle.ac_repr.specs.Terms.{TERMS, NUMBERS, terms, held}
 use Rattle.ac_repr.specs.TermLaws.{terms-length}
 

@@ -1,30 +1,28 @@
 -- A turn's choice made into its term: the runs in the list are the choice's, and they are what the pool takes.
 use mathlib.Core.Path.{_≡_, refl, sym, ap, _∙_}
-use mathlib.Core.Logic.{_⊎_, inl, inr}
+use mathlib.Core.Logic.{inl, inr}
 use mathlib.Core.Bool.{Bool, true, false}
 use mathlib.Core.List.{List, [], _∷_, _++_, map}
-use Prim.Native.Nat.{ℕ, zero, suc, _+_, _*_, _/_, _%_, _^_, _≤_, _<_}
-use native.Mathlib.Nat.{suc-mul, mul-le-mul-right}
+use Prim.Native.Nat.{ℕ, suc, _+_, _*_, _/_, _%_, _^_, _≤_, _<_}
 use native.Mathlib.Omega.{arith}
-use lib.Dec.{eqb}
 use borrow.Author.Tests.{eqb-false}
+use lib.Dec.{eqb}
 use lib.ListN.{length, getD, take, drop, length-append, take-append-drop}
-use Rattle.spec.specs.Bytes.{Two, pick, sum, Res, ok, refused}
+use Rattle.spec.specs.Bytes.{Two, sum, Res, ok, refused}
 use Rattle.spec.specs.Image.{Tables, kindOf, isCommutative}
-use Rattle.spec.specs.Pool.{Pool, Interned, intern, opNode, sortRuns}
+use Rattle.spec.specs.Pool.{Interned}
 use Rattle.spec.specs.Meaning.{In}
 use Rattle.spec.specs.Action.{transports}
 use Rattle.spec.specs.Monomial.{COUNT}
 use Rattle.spec.specs.Round.{Choice, stay, act, Turn, changes, turnOf, choiceTerm, actionTerm, planRuns}
-use Rattle.lgg.specs.Lists.{in-nil, in-cons, length-map}
+use Rattle.lgg.specs.Lists.{in-nil, in-cons}
 use Rattle.lgg.specs.Pool.{RunsBelow}
 use Rattle.lgg.specs.TurnBounds.{turn-small}
-use Rattle.terms.specs.Buffers.{part, unpack, poolOf, countIn, nodesIn}
+use Rattle.terms.specs.Buffers.{part, unpack, poolOf, countIn}
 use Rattle.terms.specs.Chains.{Holds}
-use Rattle.terms.specs.Interning.{enteredOf, poolAfter}
+use Rattle.terms.specs.Interning.{enteredOf}
 use Rattle.terms.specs.Results.{actionList, ActionResult}
 use Rattle.terms.specs.JoinLaws.{part-front}
-use Rattle.terms.specs.Growing.{Grows}
 use Rattle.terms.specs.GrowLaws.{grows-none}
 use Rattle.terms.specs.declared.Entered.{Entered}
 use Rattle.terms.specs.declared.Entered.the-variants as E
@@ -35,9 +33,8 @@ use Rattle.quality.specs.declared.How.the-variants as H
 use Rattle.quality.specs.declared.Best.{Best}
 use Rattle.turns.specs.Listing.{runsOver}
 use Rattle.turns.specs.Offers.{Work, workOf, offersIn}
-use Rattle.turns.specs.Agreeing.{Planned, Chosen, Agrees, Same, turn-agrees, turn-same}
+use Rattle.turns.specs.Agreeing.{Chosen, Agrees, Same, turn-agrees, turn-same}
 use Rattle.turns.specs.Taking.{takenOf, turnIn, termList, Ended, changedBy, Takes, Leaves}
-use Rattle.turns.specs.declared.Taken.{Taken}
 use Rattle.turns.specs.declared.Taken.the-variants as T
 
 -- ---- a run as one number, and back

@@ -2,16 +2,16 @@
 use mathlib.Core.Path.{_≡_, refl, sym, ap, _∙_}
 use mathlib.Core.Bool.{Bool, true, false}
 use mathlib.Core.List.{List, [], _∷_, _++_, map}
-use Prim.Native.Nat.{ℕ, zero, suc, _+_, _*_, _^_, _≤_, _<_}
+use Prim.Native.Nat.{ℕ, zero, suc, _+_, _^_, _≤_, _<_}
 use native.Mathlib.Nat.{zero-add}
 use native.Mathlib.Omega.{arith}
 use native.Mathlib.Numerals.{add-one}
-use lib.Dec.{leb}
 use borrow.Author.Tests.{leb-true}
-use lib.ListN.{length, getD, set, take, drop, length-set}
+use lib.Dec.{leb}
+use lib.ListN.{length, getD, set, drop, length-set}
 use lib.Seq.{getD-take, paste, paste-zero, paste-suc, take-all}
 use Rattle.spec.specs.Bytes.{Two, all}
-use Rattle.spec.specs.Monomial.{Monomial, MonomialPair, pairOf, counts, narrow, COUNT}
+use Rattle.spec.specs.Monomial.{Monomial, MonomialPair, counts, narrow, COUNT}
 use Rattle.spec.specs.Action.{cellPairs}
 use Rattle.spec.specs.Meaning.{In}
 use Rattle.lgg.specs.Lists.{length-map, get-in}

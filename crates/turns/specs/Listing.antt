@@ -1,12 +1,11 @@
 -- The runs of a plan: its cells with units, row by row.
 use mathlib.Core.Path.{_≡_, refl, sym, ap, _∙_}
 use mathlib.Core.Bool.{Bool, true, false}
-use mathlib.Core.List.{List, [], _∷_, _++_, map, append-assoc, append-nil}
-use Prim.Native.Nat.{ℕ, zero, suc, _+_, _*_, _^_, _≤_, _<_}
+use mathlib.Core.List.{List, [], _∷_, _++_, map, append-nil}
+use Prim.Native.Nat.{ℕ, zero, suc, _+_, _*_, _≤_, _<_}
 use native.Mathlib.Omega.{arith}
 use native.Mathlib.Numerals.{add-one}
 use lib.Dec.{eqb}
-use borrow.Author.Tests.{eq-eqb, ne-eqb}
 use lib.ListN.{length, getD, set, take, drop, length-set, drop-of-length-le, take-append-drop}
 use lib.Seq.{drop-cons, take-suc-set, drop-set-lt, append-snoc, length-take-le}
 use Rattle.spec.specs.Bytes.{Two, pick}
@@ -14,7 +13,6 @@ use Rattle.spec.specs.Monomial.{MonomialPair}
 use Rattle.spec.specs.Action.{cellPairs}
 use Rattle.spec.specs.Round.{planRuns}
 use Rattle.quality.specs.Known.{over, packed}
-use Rattle.turns.specs.Cells.{with}
 
 -- as numbers, count * 16384 + child
 abbrev pub runsOver : (Two → ℕ) → List Two → List ℕ → List ℕ

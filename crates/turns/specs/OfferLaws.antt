@@ -1,27 +1,26 @@
 -- One offer: what is laid out is the action's problem, and each way that the code goes gives the definition's offer.
 use mathlib.Core.Path.{_≡_, refl, sym, ap, _∙_}
 use mathlib.Core.Bool.{Bool, true, false}
-use mathlib.Core.List.{List, [], _∷_, _++_, map}
+use mathlib.Core.List.{List, [], _∷_, map}
 use mathlib.Core.Option.{Option, none, some}
 use Prim.Native.Nat.{ℕ, zero, suc, _+_, _-_, _*_, _^_, _≤_, _<_}
 use native.Mathlib.Nat.{add-zero, sub-zero}
 use native.Mathlib.Decide.{decLt}
 use native.Mathlib.Omega.{arith}
-use lib.Dec.{eqb}
 use lib.ListN.{length, getD, take, drop, replicate, List·getD-eq-default}
 use lib.Seq.{take-at, length-take-le}
-use Rattle.spec.specs.Bytes.{Two, pick}
+use Rattle.spec.specs.Bytes.{Two}
 use Rattle.spec.specs.Monomial.{Monomial, MonomialPair, pairOf, counts, narrow}
-use Rattle.spec.specs.Transport.{Cell, cost, forbidden, Problem, solveCells, supplyAt, rowsOf, colsOf}
+use Rattle.spec.specs.Transport.{Cell, cost, Problem, solveCells, rowsOf, colsOf}
 use Rattle.spec.specs.Action.{TransportAction, cellPairs}
-use Rattle.spec.specs.Round.{better, cellsOver, problemOver}
-use Rattle.transport.specs.Cells.{cellsFrom, problemOf}
-use Rattle.transport.specs.Solved.{Solves, isPlan, costsAfter, flowAfter, Shaped}
-use Rattle.transport.specs.SolvedLaws.{plan-small, plan-begins, plan-long}
+use Rattle.spec.specs.Round.{cellsOver, problemOver}
 use Rattle.lgg.specs.Lists.{length-map}
+use Rattle.ac_repr.specs.Terms.{TERMS, NUMBERS, held}
+use Rattle.transport.specs.Cells.{cellsFrom, problemOf}
+use Rattle.transport.specs.Solved.{Solves, isPlan, flowAfter, Shaped}
+use Rattle.transport.specs.SolvedLaws.{plan-small, plan-begins, plan-long}
 use Rattle.quality.specs.Known.{over}
 use Rattle.quality.specs.declared.Best.{Best}
-use Rattle.ac_repr.specs.Terms.{TERMS, NUMBERS, held}
 use Rattle.turns.specs.Cells.{cells-fit, cells-length, held-length}
 use Rattle.turns.specs.Laying.{sizesAt, massesAt, value-at, narrow-at, count-at, counts-length}
 use Rattle.turns.specs.Offers.{Work, workOf, actionOf, problemAt, bestAfter, listAfter, offerIn, Tried}

@@ -1,12 +1,12 @@
 -- A plan weighed against the best so far, by the sums of two words each.
 use mathlib.Core.Path.{_≡_, refl, sym, ap, _∙_}
 use mathlib.Core.Bool.{Bool, true, false}
-use mathlib.Core.List.{List, [], _∷_, _++_, map}
-use mathlib.Core.Option.{Option, none, some}
-use Prim.Native.Nat.{ℕ, zero, suc, _+_, _*_, _^_, _≤_, _<_}
+use mathlib.Core.List.{List}
+use mathlib.Core.Option.{some}
+use Prim.Native.Nat.{ℕ, _+_, _*_, _≤_}
 use native.Mathlib.Omega.{arith}
-use lib.ListN.{length, getD}
-use Rattle.spec.specs.Bytes.{Two, pick}
+use lib.ListN.{length}
+use Rattle.spec.specs.Bytes.{Two}
 use Rattle.spec.specs.Action.{TransportAction, cellPairs}
 use Rattle.spec.specs.Round.{better}
 use Rattle.wide.specs.declared.Wide.{Wide}
@@ -19,7 +19,7 @@ use Rattle.turns.specs.Sums.{dot, dot-size, dot-mass, mass-below}
 use Rattle.turns.specs.Laying.{sizesAt, massesAt}
 use Rattle.turns.specs.Listing.{runsAt}
 use Rattle.turns.specs.Better.{Words}
-use Rattle.turns.specs.Offers.{actionOf, qualityAt, bestAfter, listAfter}
+use Rattle.turns.specs.Offers.{qualityAt, bestAfter, listAfter}
 
 -- of every pair
 pub known-low : {n : ℕ} {index pairs : List ℕ} → Known n index pairs → (p : Two) → qualityIn index pairs p .1 ≤ qualityIn index pairs p .0

@@ -1,15 +1,15 @@
 -- A pair's turn as the code takes it: its quality afterwards, its term, and what it leaves in the buffers.
 use mathlib.Core.Path.{_≡_}
 use mathlib.Core.Bool.{Bool, true, false}
-use mathlib.Core.List.{List, [], _∷_, map}
-use Prim.Native.Nat.{ℕ, _≤_, _<_}
+use mathlib.Core.List.{List}
+use Prim.Native.Nat.{ℕ}
 use lib.ListN.{length}
 use Rattle.spec.specs.Bytes.{Two, Res, ok, refused}
 use Rattle.spec.specs.Image.{Tables, kindOf, isCommutative}
-use Rattle.spec.specs.Pool.{Interned, intern}
+use Rattle.spec.specs.Pool.{Interned}
 use Rattle.spec.specs.Action.{transports}
-use Rattle.spec.specs.Round.{Choice, stay, act, Turn, changes, turnOf, choiceTerm, planRuns}
-use Rattle.terms.specs.Buffers.{poolOf, part, nodesIn}
+use Rattle.spec.specs.Round.{Choice, stay, act, Turn, changes, turnOf, choiceTerm}
+use Rattle.terms.specs.Buffers.{poolOf}
 use Rattle.terms.specs.Chains.{Holds}
 use Rattle.terms.specs.Interning.{enteredOf, poolAfter}
 use Rattle.terms.specs.Growing.{Grows}

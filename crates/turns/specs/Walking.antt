@@ -1,17 +1,16 @@
 -- The walk through a pair's transports: each action found is offered in its turn.
 use mathlib.Core.Path.{_≡_, refl, sym, ap, _∙_}
 use mathlib.Core.Bool.{Bool, true, false}
-use mathlib.Core.List.{List, [], _∷_, _++_, append-nil}
-use Prim.Native.Nat.{ℕ, zero, suc, _+_, _≤_, _<_}
+use mathlib.Core.List.{List, [], _∷_, _++_}
+use Prim.Native.Nat.{ℕ, _≤_, _<_}
 use native.Mathlib.Omega.{arith}
 use lib.ListN.{length}
 use Rattle.spec.specs.Bytes.{Two, both, each}
 use Rattle.spec.specs.Image.{Tables}
-use Rattle.spec.specs.Monomial.{MonomialPair, pairOf, narrow}
-use Rattle.spec.specs.Action.{TransportAction, transports, cellPairs}
+use Rattle.spec.specs.Monomial.{pairOf, narrow}
+use Rattle.spec.specs.Action.{TransportAction, transports}
 use Rattle.spec.specs.Meaning.{In, here}
 use Rattle.laws.specs.Valid.{Valid}
-use Rattle.lgg.specs.BestMembers.{IsPair}
 use Rattle.lgg.specs.Lists.{in-left, in-right}
 use Rattle.lgg.specs.TurnAgree.{transport-joins}
 use Rattle.lgg.specs.ReadingsWithin.{joins-within}
@@ -24,7 +23,6 @@ use Rattle.ac_repr.specs.Transports.{actionsLeft, left-first, left-next, left-e
 use Rattle.ac_repr.specs.declared.pairs.Walk.{Walk}
 use Rattle.ac_repr.specs.declared.pairs.Step.{Step}
 use Rattle.ac_repr.specs.declared.pairs.Step.the-variants.{At, End}
-use Rattle.quality.specs.declared.Best.{Best}
 use Rattle.turns.specs.Laying.{Joined}
 use Rattle.turns.specs.Offers.{Work, actionOf, offerIn, offersIn}
 

@@ -1,20 +1,9 @@
-use Rattle.turns.specs.Cells.{some-column, row-in, column-in, cell-is, with}
-use Rattle.spec.specs.Bytes.{Two}
-use borrow.Author.Tests.{lt-ltb, le-ltb, le-leb, lt-leb, eq-eqb, ne-eqb}
-use Prim.Native.Nat.{ℕ, zero, suc, _≤_, _<_, _-_, _+_, _*_, _^_}
+use mathlib.Core.Path.{_∙_}
 use native.Mathlib.Omega.{arith}
-use native.Mathlib.Numerals.{add-one}
-use mathlib.Core.Path.{_≡_, refl, ap, sym, _∙_}
-use mathlib.Core.Logic.{⊎-elim}
-use mathlib.Core.List.{List, [], _∷_, _++_, append-nil}
-use lib.ListN.{length, take, drop, getD, set, length-set, length-take, length-drop, length-append, drop-of-length-le}
 use borrow.Author.Needs.{needs}
+use Rattle.turns.specs.Cells.{some-column, row-in, column-in, cell-is, with}
 use Rattle.turns.proofs.cell.Statement.{statement}
 use Rattle.turns.proofs.cell.Tie as tie
-use Rattle.turns.proofs.cell.Reads as reads
-use Rattle.turns.proofs.cell.Lts as lts
-use Rattle.ac_repr.proofs.class_at.Reads as class-at-reads
-use Rattle.turns.proofs.num.Reads as num-reads
 
 -- src/lib.rt:82:41
 div-class-at : tie.Need-div-class-at

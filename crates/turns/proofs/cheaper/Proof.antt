@@ -1,20 +1,12 @@
-use Rattle.turns.specs.Better.{high-not, low-not, words-one, better-words, false-true, Words}
+use mathlib.Core.Path.{ap, sym, _∙_}
+use Prim.Native.Nat.{_<_, _^_}
+use native.Mathlib.Omega.{arith}
+use borrow.Author.Needs.{needs}
 use Rattle.spec.specs.Round.{better}
 use Rattle.spec.specs.Bytes.{Two}
-use borrow.Author.Tests.{lt-ltb, le-ltb, le-leb, lt-leb, eq-eqb, ne-eqb}
-use Prim.Native.Nat.{ℕ, zero, suc, _≤_, _<_, _-_, _+_, _*_, _^_}
-use native.Mathlib.Omega.{arith}
-use native.Mathlib.Numerals.{add-one}
-use mathlib.Core.Path.{_≡_, refl, ap, sym, _∙_}
-use mathlib.Core.Logic.{⊎-elim}
-use mathlib.Core.List.{List, [], _∷_, _++_, append-nil}
-use lib.ListN.{length, take, drop, getD, set, length-set, length-take, length-drop, length-append, drop-of-length-le}
-use borrow.Author.Needs.{needs}
+use Rattle.turns.specs.Better.{high-not, low-not, words-one, better-words, false-true}
 use Rattle.turns.proofs.cheaper.Statement.{statement}
 use Rattle.turns.proofs.cheaper.Tie as tie
-use Rattle.turns.proofs.cheaper.Reads as reads
-use Rattle.turns.proofs.cheaper.Lts as lts
-use Rattle.quality.proofs.better.Reads as better-reads
 
 -- src/lib.rt:137:9
 returns : tie.Need-returns

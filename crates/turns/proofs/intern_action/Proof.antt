@@ -1,21 +1,7 @@
-use Rattle.spec.specs.Image.{tablesOf, kindOf, isCommutative}
-use borrow.Author.Tests.{lt-ltb, le-ltb, le-leb, lt-leb, eq-eqb, ne-eqb}
-use Prim.Native.Nat.{ℕ, zero, suc, _≤_, _<_, _-_, _+_, _*_, _^_}
 use native.Mathlib.Omega.{arith}
-use native.Mathlib.Numerals.{add-one}
-use mathlib.Core.Path.{_≡_, refl, ap, sym, _∙_}
-use mathlib.Core.Logic.{⊎-elim}
-use mathlib.Core.List.{List, [], _∷_, _++_, append-nil}
-use lib.ListN.{length, take, drop, getD, set, length-set, length-take, length-drop, length-append, drop-of-length-le}
 use borrow.Author.Needs.{needs}
 use Rattle.turns.proofs.intern_action.Statement.{statement}
 use Rattle.turns.proofs.intern_action.Tie as tie
-use Rattle.turns.proofs.intern_action.Reads as reads
-use Rattle.turns.proofs.intern_action.Lts as lts
-use Rattle.id.proofs.is_commutative.Reads as is-commutative-reads
-use Rattle.image.proofs.kind.Reads as kind-reads
-use Rattle.terms.proofs.intern_action_result.Reads as intern-action-result-reads
-use Rattle.turns.proofs.low.Reads as low-reads
 
 -- src/lib.rt:554:42
 kind-requires : tie.Need-kind-requires

@@ -1,29 +1,17 @@
-use Rattle.turns.specs.Cells.{cells-length, held-length}
-use Rattle.lgg.specs.Lists.{length-map}
-use Rattle.turns.specs.Cells.{cells-fit, cell-count}
-use Rattle.turns.specs.Laying.{Laid, laid-none, laid-more, laid-all, sizesAt, massesAt, cell-value, cell-joined}
-use Rattle.spec.specs.Monomial.{MonomialPair, pairOf}
-use Rattle.spec.specs.Bytes.{Two}
+use mathlib.Core.Path.{_≡_, refl, _∙_}
+use Prim.Native.Nat.{_≤_, _<_, _-_, _*_}
+use native.Mathlib.Omega.{arith}
+use borrow.Author.Needs.{needs}
+use lib.ListN.{length}
+use Rattle.spec.specs.Monomial.{pairOf}
 use Rattle.spec.specs.Action.{cellPairs}
+use Rattle.lgg.specs.Lists.{length-map}
 use Rattle.ac_repr.specs.Terms.{held}
 use Rattle.quality.specs.Known.{qualityIn}
-use borrow.Author.Needs.{needs}
-use borrow.Author.Tests.{lt-ltb, le-ltb, le-leb, lt-leb, eq-eqb, ne-eqb}
-use Prim.Native.Nat.{ℕ, zero, suc, _≤_, _<_, _-_, _+_, _*_, _^_}
-use native.Mathlib.Omega.{arith}
-use native.Mathlib.Numerals.{add-one}
-use mathlib.Core.Path.{_≡_, refl, ap, sym, _∙_}
-use mathlib.Core.Logic.{⊎-elim}
-use mathlib.Core.List.{List, [], _∷_, _++_, append-nil}
-use lib.ListN.{length, take, drop, getD, set, length-set, length-take, length-drop, length-append, drop-of-length-le}
+use Rattle.turns.specs.Cells.{cells-length, held-length, cells-fit, cell-count}
+use Rattle.turns.specs.Laying.{Laid, laid-none, laid-more, laid-all, sizesAt, massesAt, cell-value, cell-joined}
 use Rattle.turns.proofs.lay_cells.Statement.{statement}
 use Rattle.turns.proofs.lay_cells.Tie as tie
-use Rattle.turns.proofs.lay_cells.Reads as reads
-use Rattle.turns.proofs.lay_cells.Lts as lts
-use Rattle.quality.proofs.mass_of.Reads as mass-of-reads
-use Rattle.quality.proofs.size_of.Reads as size-of-reads
-use Rattle.turns.proofs.cell.Reads as cell-reads
-use Rattle.turns.proofs.put4.Reads as put4-reads
 
 abbrev Inv-loop : tie.InvT-loop
 Inv-loop index pairs n left rows right cols sizes₀ masses₀ count k₀ sizes masses k = (k ≤ count) × (count ≡ rows * cols) × (count ≤ 4225) × Laid (sizesAt (qualityIn index pairs) (pairOf (held rows left) (held cols right))) sizes₀ k sizes × Laid (massesAt (qualityIn index pairs) (pairOf (held rows left) (held cols right))) masses₀ k masses

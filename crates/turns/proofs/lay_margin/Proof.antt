@@ -1,22 +1,12 @@
-use Rattle.turns.specs.Laying.{Laid, laid-none, laid-more, laid-all, counts-length, counts-at, counts-fit}
+use mathlib.Core.Path.{_∙_}
+use Prim.Native.Nat.{_≤_, _-_}
+use native.Mathlib.Omega.{arith}
+use borrow.Author.Needs.{needs}
 use Rattle.spec.specs.Monomial.{counts}
 use Rattle.ac_repr.specs.Terms.{held}
-use borrow.Author.Needs.{needs}
-use borrow.Author.Tests.{lt-ltb, le-ltb, le-leb, lt-leb, eq-eqb, ne-eqb}
-use Prim.Native.Nat.{ℕ, zero, suc, _≤_, _<_, _-_, _+_, _*_, _^_}
-use native.Mathlib.Omega.{arith}
-use native.Mathlib.Numerals.{add-one}
-use mathlib.Core.Path.{_≡_, refl, ap, sym, _∙_}
-use mathlib.Core.Logic.{⊎-elim}
-use mathlib.Core.List.{List, [], _∷_, _++_, append-nil}
-use lib.ListN.{length, take, drop, getD, set, length-set, length-take, length-drop, length-append, drop-of-length-le}
+use Rattle.turns.specs.Laying.{Laid, laid-none, laid-more, laid-all, counts-length, counts-at, counts-fit}
 use Rattle.turns.proofs.lay_margin.Statement.{statement}
 use Rattle.turns.proofs.lay_margin.Tie as tie
-use Rattle.turns.proofs.lay_margin.Reads as reads
-use Rattle.turns.proofs.lay_margin.Lts as lts
-use Rattle.ac_repr.proofs.count_at.Reads as count-at-reads
-use Rattle.turns.proofs.put4.Reads as put4-reads
-use Rattle.turns.proofs.short.Reads as short-reads
 
 abbrev Inv-loop : tie.InvT-loop
 Inv-loop mono n margin₀ i₀ margin i = (i ≤ n) × Laid (counts (held n mono)) margin₀ i margin

@@ -1,22 +1,10 @@
-use Rattle.spec.specs.Bytes.{pick}
-use lib.Dec.{eqb}
-use Rattle.turns.specs.Listing.{manyAfter, cellAfter}
-use borrow.Author.Tests.{lt-ltb, le-ltb, le-leb, lt-leb, eq-eqb, ne-eqb}
-use Prim.Native.Nat.{ℕ, zero, suc, _≤_, _<_, _-_, _+_, _*_, _^_}
-use native.Mathlib.Omega.{arith}
-use native.Mathlib.Numerals.{add-one}
-use mathlib.Core.Path.{_≡_, refl, ap, sym, _∙_}
-use mathlib.Core.Logic.{⊎-elim}
-use mathlib.Core.List.{List, [], _∷_, _++_, append-nil}
-use lib.ListN.{length, take, drop, getD, set, length-set, length-take, length-drop, length-append, drop-of-length-le}
+use mathlib.Core.Path.{refl, ap, _∙_}
+use Prim.Native.Nat.{ℕ, _+_, _*_}
+use borrow.Author.Tests.{eq-eqb, ne-eqb}
 use borrow.Author.Needs.{needs}
+use lib.ListN.{set}
 use Rattle.turns.proofs.list_cell.Statement.{statement}
 use Rattle.turns.proofs.list_cell.Tie as tie
-use Rattle.turns.proofs.list_cell.Reads as reads
-use Rattle.turns.proofs.list_cell.Lts as lts
-use Rattle.quality.proofs.term_of.Reads as term-of-reads
-use Rattle.turns.proofs.num8.Reads as num8-reads
-use Rattle.turns.proofs.put8.Reads as put8-reads
 
 -- src/lib.rt:159:9
 returns : tie.Need-returns

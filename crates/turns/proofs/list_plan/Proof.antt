@@ -1,26 +1,17 @@
-use Rattle.turns.specs.Cells.{cells-fit, cells-length, held-length, with}
-use Rattle.turns.specs.Laying.{cell-joined}
-use Rattle.turns.specs.Listing.{Listed, listed-none, listed-more, listed-many, listed-all, manyAfter, cellAfter}
-use Rattle.spec.specs.Monomial.{MonomialPair, pairOf}
-use Rattle.spec.specs.Bytes.{Two}
+use mathlib.Core.Path.{refl, ap, _∙_}
+use Prim.Native.Nat.{_≤_, _-_, _*_}
+use native.Mathlib.Omega.{arith}
+use borrow.Author.Needs.{needs}
+use lib.ListN.{length, getD}
+use Rattle.spec.specs.Monomial.{pairOf}
 use Rattle.spec.specs.Action.{cellPairs}
 use Rattle.ac_repr.specs.Terms.{held}
 use Rattle.quality.specs.Known.{termIn}
-use borrow.Author.Needs.{needs}
-use borrow.Author.Tests.{lt-ltb, le-ltb, le-leb, lt-leb, eq-eqb, ne-eqb}
-use Prim.Native.Nat.{ℕ, zero, suc, _≤_, _<_, _-_, _+_, _*_, _^_}
-use native.Mathlib.Omega.{arith}
-use native.Mathlib.Numerals.{add-one}
-use mathlib.Core.Path.{_≡_, refl, ap, sym, _∙_}
-use mathlib.Core.Logic.{⊎-elim}
-use mathlib.Core.List.{List, [], _∷_, _++_, append-nil}
-use lib.ListN.{length, take, drop, getD, set, length-set, length-take, length-drop, length-append, drop-of-length-le}
+use Rattle.turns.specs.Cells.{cells-fit, cells-length, held-length, with}
+use Rattle.turns.specs.Laying.{cell-joined}
+use Rattle.turns.specs.Listing.{Listed, listed-none, listed-more, listed-many, listed-all}
 use Rattle.turns.proofs.list_plan.Statement.{statement}
 use Rattle.turns.proofs.list_plan.Tie as tie
-use Rattle.turns.proofs.list_plan.Reads as reads
-use Rattle.turns.proofs.list_plan.Lts as lts
-use Rattle.turns.proofs.cell.Reads as cell-reads
-use Rattle.turns.proofs.list_cell.Reads as list-cell-reads
 
 abbrev Inv-loop : tie.InvT-loop
 Inv-loop index pairs n left rows right cols x list₀ m₀ k₀ list m k = Listed (termIn index pairs) (cellPairs (pairOf (held rows left) (held cols right))) x list₀ k m list

@@ -1,31 +1,18 @@
-use Rattle.turns.specs.Cells.{cells-fit, cells-length, held-length}
-use Rattle.turns.specs.Laying.{sizesAt, massesAt}
-use Rattle.turns.specs.Offers.{actionOf, bestAfter, listAfter}
-use Rattle.turns.specs.PlanLaws.{known-low, mass-le, plan-kept, plan-replaced}
-use Rattle.turns.specs.Sums.{dot}
-use Rattle.wide.specs.Wrap.{Natural}
-use Rattle.spec.specs.Monomial.{MonomialPair, pairOf}
-use Rattle.spec.specs.Bytes.{Two}
+use mathlib.Core.Path.{ap, sym, _∙_}
+use Prim.Native.Nat.{_*_}
+use native.Mathlib.Omega.{arith}
+use borrow.Author.Needs.{needs}
+use lib.ListN.{length}
+use Rattle.spec.specs.Monomial.{pairOf}
 use Rattle.spec.specs.Action.{cellPairs}
+use Rattle.lgg.specs.Lists.{length-map}
 use Rattle.ac_repr.specs.Terms.{held}
 use Rattle.quality.specs.Known.{qualityIn, termIn}
-use Rattle.lgg.specs.Lists.{length-map}
-use borrow.Author.Tests.{lt-ltb, le-ltb, le-leb, lt-leb, eq-eqb, ne-eqb}
-use Prim.Native.Nat.{ℕ, zero, suc, _≤_, _<_, _-_, _+_, _*_, _^_}
-use native.Mathlib.Omega.{arith}
-use native.Mathlib.Numerals.{add-one}
-use mathlib.Core.Path.{_≡_, refl, ap, sym, _∙_}
-use mathlib.Core.Logic.{⊎-elim}
-use mathlib.Core.List.{List, [], _∷_, _++_, append-nil}
-use lib.ListN.{length, take, drop, getD, set, length-set, length-take, length-drop, length-append, drop-of-length-le}
-use borrow.Author.Needs.{needs}
+use Rattle.turns.specs.Cells.{cells-fit, cells-length, held-length}
+use Rattle.turns.specs.Offers.{actionOf}
+use Rattle.turns.specs.PlanLaws.{known-low, mass-le, plan-kept, plan-replaced}
 use Rattle.turns.proofs.offer_plan.Statement.{statement}
 use Rattle.turns.proofs.offer_plan.Tie as tie
-use Rattle.turns.proofs.offer_plan.Reads as reads
-use Rattle.turns.proofs.offer_plan.Lts as lts
-use Rattle.turns.proofs.cheaper.Reads as cheaper-reads
-use Rattle.turns.proofs.list_plan.Reads as list-plan-reads
-use Rattle.turns.proofs.plan_sum.Reads as plan-sum-reads
 
 -- src/lib.rt:251:9
 plan-sum-requires : tie.Need-plan-sum-requires

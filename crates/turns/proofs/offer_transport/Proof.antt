@@ -1,25 +1,11 @@
-use Rattle.turns.specs.Cells.{cells-fit}
-use Rattle.spec.specs.Monomial.{pairOf}
-use Rattle.spec.specs.Bytes.{Two}
-use Rattle.ac_repr.specs.Terms.{held}
+use native.Mathlib.Omega.{arith}
+use borrow.Author.Needs.{needs}
 use Rattle.quality.specs.Known.{qualityIn, termIn}
+use Rattle.turns.specs.Cells.{cells-fit}
 use Rattle.turns.specs.Offers.{workOf}
 use Rattle.turns.specs.OfferLaws.{tried-sizes, tried-masses, offer-none, plan-cells, plan-low, offer-some}
-use borrow.Author.Tests.{lt-ltb, le-ltb, le-leb, lt-leb, eq-eqb, ne-eqb}
-use Prim.Native.Nat.{ℕ, zero, suc, _≤_, _<_, _-_, _+_, _*_, _^_}
-use native.Mathlib.Omega.{arith}
-use native.Mathlib.Numerals.{add-one}
-use mathlib.Core.Path.{_≡_, refl, ap, sym, _∙_}
-use mathlib.Core.Logic.{⊎-elim}
-use mathlib.Core.List.{List, [], _∷_, _++_, append-nil}
-use lib.ListN.{length, take, drop, getD, set, length-set, length-take, length-drop, length-append, drop-of-length-le}
-use borrow.Author.Needs.{needs}
 use Rattle.turns.proofs.offer_transport.Statement.{statement}
 use Rattle.turns.proofs.offer_transport.Tie as tie
-use Rattle.turns.proofs.offer_transport.Reads as reads
-use Rattle.turns.proofs.offer_transport.Lts as lts
-use Rattle.turns.proofs.offer_plan.Reads as offer-plan-reads
-use Rattle.turns.proofs.plan_transport.Reads as plan-transport-reads
 
 -- src/lib.rt:328:17
 mul-count : tie.Need-mul-count

@@ -1,25 +1,14 @@
+use mathlib.Core.Path.{_≡_, refl}
+use native.Mathlib.Omega.{arith}
+use borrow.Author.Needs.{needs}
+use lib.ListN.{length}
 use Rattle.spec.specs.Image.{tablesOf}
-use Rattle.spec.specs.Bytes.{Two}
 use Rattle.image.specs.Loaded.{operations-many, classes-many}
 use Rattle.quality.specs.Known.{qualityIn, termIn}
-use Rattle.turns.specs.Offers.{workOf, offersIn}
+use Rattle.turns.specs.Offers.{workOf}
 use Rattle.turns.specs.Walking.{Walking, walkLeft, walking-first, walking-end, walking-within, walking-joined, walking-next, walking-less}
-use borrow.Author.Needs.{needs}
-use borrow.Author.Tests.{lt-ltb, le-ltb, le-leb, lt-leb, eq-eqb, ne-eqb}
-use Prim.Native.Nat.{ℕ, zero, suc, _≤_, _<_, _-_, _+_, _*_, _^_}
-use native.Mathlib.Omega.{arith}
-use native.Mathlib.Numerals.{add-one}
-use mathlib.Core.Path.{_≡_, refl, ap, sym, _∙_}
-use mathlib.Core.Logic.{⊎-elim}
-use mathlib.Core.List.{List, [], _∷_, _++_, append-nil}
-use lib.ListN.{length, take, drop, getD, set, length-set, length-take, length-drop, length-append, drop-of-length-le}
 use Rattle.turns.proofs.offer_transports.Statement.{statement}
 use Rattle.turns.proofs.offer_transports.Tie as tie
-use Rattle.turns.proofs.offer_transports.Reads as reads
-use Rattle.turns.proofs.offer_transports.Lts as lts
-use Rattle.ac_repr.proofs.pairs.first.Reads as first-reads
-use Rattle.ac_repr.proofs.pairs.next.Reads as next-reads
-use Rattle.turns.proofs.offer_walk.Reads as offer-walk-reads
 
 abbrev Inv-loop : tie.InvT-loop
 Inv-loop s im index pairs n l r ones sizes₀ masses₀ costs₀ flow₀ list₀ best₀ x₀ sizes masses costs flow list best x =

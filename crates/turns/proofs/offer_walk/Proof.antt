@@ -1,24 +1,12 @@
-use Rattle.spec.specs.Image.{tablesOf}
-use Rattle.spec.specs.Bytes.{Two}
-use Rattle.quality.specs.Known.{qualityIn, termIn}
-use Rattle.turns.specs.Offers.{workOf, actionOf, offersIn}
-use Rattle.ac_repr.specs.Walk.{actionsAt}
-use Rattle.turns.specs.Walking.{offers-none, offers-one, one-joined, found-none, found-few, found-one, found-left, found-right}
-use borrow.Author.Tests.{lt-ltb, le-ltb, le-leb, lt-leb, eq-eqb, ne-eqb}
-use Prim.Native.Nat.{ℕ, zero, suc, _≤_, _<_, _-_, _+_, _*_, _^_}
 use native.Mathlib.Omega.{arith}
-use native.Mathlib.Numerals.{add-one}
-use mathlib.Core.Path.{_≡_, refl, ap, sym, _∙_}
-use mathlib.Core.Logic.{⊎-elim}
-use mathlib.Core.List.{List, [], _∷_, _++_, append-nil}
-use lib.ListN.{length, take, drop, getD, set, length-set, length-take, length-drop, length-append, drop-of-length-le}
 use borrow.Author.Needs.{needs}
+use Rattle.spec.specs.Image.{tablesOf}
+use Rattle.ac_repr.specs.Walk.{actionsAt}
+use Rattle.quality.specs.Known.{qualityIn, termIn}
+use Rattle.turns.specs.Offers.{workOf}
+use Rattle.turns.specs.Walking.{offers-none, offers-one, one-joined, found-none, found-few, found-one, found-left, found-right}
 use Rattle.turns.proofs.offer_walk.Statement.{statement}
 use Rattle.turns.proofs.offer_walk.Tie as tie
-use Rattle.turns.proofs.offer_walk.Reads as reads
-use Rattle.turns.proofs.offer_walk.Lts as lts
-use Rattle.ac_repr.proofs.pairs.monomials.Reads as monomials-reads
-use Rattle.turns.proofs.offer_transport.Reads as offer-transport-reads
 
 -- src/lib.rt:421:55
 slice-aggregate-monomials : tie.Need-slice-aggregate-monomials

@@ -1,19 +1,11 @@
-use Rattle.turns.specs.Sums.{dot, Summed, summed-none, summed-more, summed-all, product-fits}
-use borrow.Author.Needs.{needs}
-use borrow.Author.Tests.{lt-ltb, le-ltb, le-leb, lt-leb, eq-eqb, ne-eqb}
-use Prim.Native.Nat.{ℕ, zero, suc, _≤_, _<_, _-_, _+_, _*_, _^_}
+use mathlib.Core.Path.{refl}
+use Prim.Native.Nat.{_≤_, _-_}
 use native.Mathlib.Omega.{arith}
-use native.Mathlib.Numerals.{add-one}
-use mathlib.Core.Path.{_≡_, refl, ap, sym, _∙_}
-use mathlib.Core.Logic.{⊎-elim}
-use mathlib.Core.List.{List, [], _∷_, _++_, append-nil}
-use lib.ListN.{length, take, drop, getD, set, length-set, length-take, length-drop, length-append, drop-of-length-le}
+use borrow.Author.Needs.{needs}
+use lib.ListN.{length, getD}
+use Rattle.turns.specs.Sums.{Summed, summed-none, summed-more, summed-all, product-fits}
 use Rattle.turns.proofs.plan_sum.Statement.{statement}
 use Rattle.turns.proofs.plan_sum.Tie as tie
-use Rattle.turns.proofs.plan_sum.Reads as reads
-use Rattle.turns.proofs.plan_sum.Lts as lts
-use Rattle.turns.proofs.num8.Reads as num8-reads
-use Rattle.wide.proofs.Wide.wrapping_add.Reads as wrapping-add-reads
 
 abbrev Inv-loop : tie.InvT-loop
 Inv-loop x per t₀ i₀ t i = (i ≤ length x) × Summed x per i t

@@ -1,26 +1,13 @@
-use Rattle.turns.specs.Cells.{cells-fit}
-use Rattle.spec.specs.Monomial.{pairOf}
-use Rattle.spec.specs.Bytes.{Two}
-use Rattle.ac_repr.specs.Terms.{held}
-use Rattle.quality.specs.Known.{qualityIn, termIn}
-use lib.ListN.{length-replicate}
-use Rattle.turns.specs.OfferLaws.{tried-is}
-use borrow.Author.Tests.{lt-ltb, le-ltb, le-leb, lt-leb, eq-eqb, ne-eqb}
-use Prim.Native.Nat.{ℕ, zero, suc, _≤_, _<_, _-_, _+_, _*_, _^_}
+use mathlib.Core.Path.{_≡_, ap, _∙_}
+use Prim.Native.Nat.{ℕ}
 use native.Mathlib.Omega.{arith}
-use native.Mathlib.Numerals.{add-one}
-use mathlib.Core.Path.{_≡_, refl, ap, sym, _∙_}
-use mathlib.Core.Logic.{⊎-elim}
-use mathlib.Core.List.{List, [], _∷_, _++_, append-nil}
-use lib.ListN.{length, take, drop, getD, set, length-set, length-take, length-drop, length-append, drop-of-length-le}
 use borrow.Author.Needs.{needs}
+use lib.ListN.{length-replicate, length}
+use Rattle.quality.specs.Known.{qualityIn}
+use Rattle.turns.specs.Cells.{cells-fit}
+use Rattle.turns.specs.OfferLaws.{tried-is}
 use Rattle.turns.proofs.plan_transport.Statement.{statement}
 use Rattle.turns.proofs.plan_transport.Tie as tie
-use Rattle.turns.proofs.plan_transport.Reads as reads
-use Rattle.turns.proofs.plan_transport.Lts as lts
-use Rattle.turns.proofs.lay_cells.Reads as lay-cells-reads
-use Rattle.turns.proofs.lay_margin.Reads as lay-margin-reads
-use Rattle.turns.proofs.solve.Reads as solve-reads
 
 -- src/lib.rt:287:28
 slice-aggregate-lay-margin : tie.Need-slice-aggregate-lay-margin

@@ -1,19 +1,9 @@
+use native.Mathlib.Omega.{arith}
+use borrow.Author.Needs.{needs}
 use Rattle.turns.specs.OfferLaws.{parts-shaped, parts-solved}
 use Rattle.turns.specs.Cells.{cells-fit}
-use borrow.Author.Tests.{lt-ltb, le-ltb, le-leb, lt-leb, eq-eqb, ne-eqb}
-use Prim.Native.Nat.{ℕ, zero, suc, _≤_, _<_, _-_, _+_, _*_, _^_}
-use native.Mathlib.Omega.{arith}
-use native.Mathlib.Numerals.{add-one}
-use mathlib.Core.Path.{_≡_, refl, ap, sym, _∙_}
-use mathlib.Core.Logic.{⊎-elim}
-use mathlib.Core.List.{List, [], _∷_, _++_, append-nil}
-use lib.ListN.{length, take, drop, getD, set, length-set, length-take, length-drop, length-append, drop-of-length-le}
-use borrow.Author.Needs.{needs}
 use Rattle.turns.proofs.solve.Statement.{statement}
 use Rattle.turns.proofs.solve.Tie as tie
-use Rattle.turns.proofs.solve.Reads as reads
-use Rattle.turns.proofs.solve.Lts as lts
-use Rattle.transport.proofs.solve_cells.Reads as solve-cells-reads
 
 -- src/lib.rt:217:17
 mul-count : tie.Need-mul-count

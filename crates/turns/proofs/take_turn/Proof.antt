@@ -1,25 +1,11 @@
-use Rattle.spec.specs.Image.{tablesOf}
-use Rattle.spec.specs.Bytes.{Two}
-use Rattle.quality.specs.Known.{qualityIn, termIn, numberIn}
-use Rattle.turns.specs.Offers.{workOf, offersIn}
-use Rattle.turns.specs.Ending.{takes-full, takes-to, turn-leaves}
-use borrow.Author.Tests.{lt-ltb, le-ltb, le-leb, lt-leb, eq-eqb, ne-eqb}
-use Prim.Native.Nat.{ℕ, zero, suc, _≤_, _<_, _-_, _+_, _*_, _^_}
+use mathlib.Core.Path.{refl}
 use native.Mathlib.Omega.{arith}
-use native.Mathlib.Numerals.{add-one}
-use mathlib.Core.Path.{_≡_, refl, ap, sym, _∙_}
-use mathlib.Core.Logic.{⊎-elim}
-use mathlib.Core.List.{List, [], _∷_, _++_, append-nil}
-use lib.ListN.{length, take, drop, getD, set, length-set, length-take, length-drop, length-append, drop-of-length-le}
 use borrow.Author.Needs.{needs}
+use Rattle.spec.specs.Image.{tablesOf}
+use Rattle.quality.specs.Known.{qualityIn, termIn}
+use Rattle.turns.specs.Ending.{takes-full, takes-to, turn-leaves}
 use Rattle.turns.proofs.take_turn.Statement.{statement}
 use Rattle.turns.proofs.take_turn.Tie as tie
-use Rattle.turns.proofs.take_turn.Reads as reads
-use Rattle.turns.proofs.take_turn.Lts as lts
-use Rattle.turns.proofs.changed.Reads as changed-reads
-use Rattle.turns.proofs.short.Reads as short-reads
-use Rattle.turns.proofs.turn.Reads as turn-reads
-use Rattle.turns.proofs.turn_term.Reads as turn-term-reads
 
 -- src/lib.rt:645:9
 slice-aggregate-turn : tie.Need-slice-aggregate-turn

@@ -1,24 +1,12 @@
+use native.Mathlib.Omega.{arith}
+use borrow.Author.Needs.{needs}
 use Rattle.spec.specs.Image.{tablesOf}
-use Rattle.spec.specs.Bytes.{Two}
 use Rattle.quality.specs.Known.{qualityIn, termIn, numberIn}
-use Rattle.turns.specs.Offers.{workOf, offersIn}
+use Rattle.turns.specs.Offers.{workOf}
 use Rattle.turns.specs.PlanLaws.{known-low}
 use Rattle.turns.specs.Ending.{turn-done, turn-left, turn-fits}
-use borrow.Author.Tests.{lt-ltb, le-ltb, le-leb, lt-leb, eq-eqb, ne-eqb}
-use Prim.Native.Nat.{ℕ, zero, suc, _≤_, _<_, _-_, _+_, _*_, _^_}
-use native.Mathlib.Omega.{arith}
-use native.Mathlib.Numerals.{add-one}
-use mathlib.Core.Path.{_≡_, refl, ap, sym, _∙_}
-use mathlib.Core.Logic.{⊎-elim}
-use mathlib.Core.List.{List, [], _∷_, _++_, append-nil}
-use lib.ListN.{length, take, drop, getD, set, length-set, length-take, length-drop, length-append, drop-of-length-le}
-use borrow.Author.Needs.{needs}
 use Rattle.turns.proofs.turn.Statement.{statement}
 use Rattle.turns.proofs.turn.Tie as tie
-use Rattle.turns.proofs.turn.Reads as reads
-use Rattle.turns.proofs.turn.Lts as lts
-use Rattle.quality.proofs.best_aligned.Reads as best-aligned-reads
-use Rattle.turns.proofs.offer_transports.Reads as offer-transports-reads
 
 -- src/lib.rt:522:9
 best-aligned-requires : tie.Need-best-aligned-requires

@@ -1,32 +1,18 @@
+use mathlib.Core.Path.{_∙_}
+use native.Mathlib.Omega.{arith}
+use borrow.Author.Needs.{needs}
 use Rattle.spec.specs.Image.{tablesOf}
-use Rattle.spec.specs.Bytes.{Two}
 use Rattle.spec.specs.Round.{turnOf, ones}
+use Rattle.lgg.specs.TurnPlaces.{turn-placed}
 use Rattle.image.specs.Loaded.{operations-many, classes-many}
 use Rattle.actions.specs.Remaining.{actionAt}
-use Rattle.lgg.specs.TurnPlaces.{turn-placed}
 use Rattle.quality.specs.Known.{qualityIn, termIn}
 use Rattle.quality.specs.declared.How.the-variants as H
 use Rattle.turns.specs.Listing.{runsOver}
 use Rattle.turns.specs.Agreeing.{Chosen, Planned}
 use Rattle.turns.specs.Ending.{known-below, over-front, act-fits, act-below, act-light, ended-stay, ended-act}
-use borrow.Author.Tests.{lt-ltb, le-ltb, le-leb, lt-leb, eq-eqb, ne-eqb}
-use Prim.Native.Nat.{ℕ, zero, suc, _≤_, _<_, _-_, _+_, _*_, _^_}
-use native.Mathlib.Omega.{arith}
-use native.Mathlib.Numerals.{add-one}
-use mathlib.Core.Path.{_≡_, refl, ap, sym, _∙_}
-use mathlib.Core.Logic.{⊎-elim}
-use mathlib.Core.List.{List, [], _∷_, _++_, append-nil}
-use lib.ListN.{length, take, drop, getD, set, length-set, length-take, length-drop, length-append, drop-of-length-le}
-use borrow.Author.Needs.{needs}
 use Rattle.turns.proofs.turn_term.Statement.{statement}
 use Rattle.turns.proofs.turn_term.Tie as tie
-use Rattle.turns.proofs.turn_term.Reads as reads
-use Rattle.turns.proofs.turn_term.Lts as lts
-use Rattle.actions.proofs.op.Reads as op-reads
-use Rattle.quality.proofs.list_action.Reads as list-action-reads
-use Rattle.quality.proofs.term_of.Reads as term-of-reads
-use Rattle.turns.proofs.intern_action.Reads as intern-action-reads
-use Rattle.turns.proofs.num4.Reads as num4-reads
 
 -- src/lib.rt:579:41
 enum-told : tie.Need-enum-told
