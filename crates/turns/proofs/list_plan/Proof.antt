@@ -7,9 +7,9 @@ use Rattle.spec.specs.Monomial.{pairOf}
 use Rattle.spec.specs.Action.{cellPairs}
 use Rattle.ac_repr.specs.Terms.{held}
 use Rattle.quality.specs.Known.{termIn}
+use Rattle.turns.specs.Listing.{Listed, listed-none, listed-more, listed-many, listed-all}
 use Rattle.turns.specs.Cells.{cells-fit, cells-length, held-length, with}
 use Rattle.turns.specs.Laying.{cell-joined}
-use Rattle.turns.specs.Listing.{Listed, listed-none, listed-more, listed-many, listed-all}
 use Rattle.turns.proofs.list_plan.Statement.{statement}
 use Rattle.turns.proofs.list_plan.Tie as tie
 
@@ -21,7 +21,10 @@ abbrev μ-loop : tie.MeasureT-loop
 
 -- src/lib.rt:184:5
 loop-holds : tie.Need-loop-holds Inv-loop μ-loop
-loop-holds c = let b = c .before .before .before .before .before .before in let a = b .args in listed-none (termIn (a .index .now) (a .pairs .now)) (cellPairs (pairOf (held (a .rows) (a .left .now)) (held (a .cols) (a .right .now)))) (a .x .now) (a .list .now)
+loop-holds c =
+    let b = c .before .before .before .before .before .before in
+    let a = b .args in
+    listed-none (termIn (a .index .now) (a .pairs .now)) (cellPairs (pairOf (held (a .rows) (a .left .now)) (held (a .cols) (a .right .now)))) (a .x .now) (a .list .now)
 
 -- src/lib.rt:185:13
 cell-requires : tie.Need-cell-requires Inv-loop μ-loop
@@ -37,11 +40,18 @@ shared-slice-read-list-cell c = search needs
 
 -- src/lib.rt:186:9
 list-cell-requires : tie.Need-list-cell-requires Inv-loop μ-loop
-list-cell-requires c κs = let b = c .before .before .before .before .before .before .before .before .before .before .before in let a = b .args in let j = cell-joined (pairOf (held (a .rows) (a .left .now)) (held (a .cols) (a .right .now))) (b .pre .5) (c .before .before .before .before .loop .k) (omega (arith, b .pre .6, c .before .before .before .loop-test .taken, (cells-length (pairOf (held (a .rows) (a .left .now)) (held (a .cols) (a .right .now))) ∙ (λ i. held-length (a .left .now) (a .rows) (b .pre .1) (b .pre .3) i * held-length (a .right .now) (a .cols) (b .pre .2) (b .pre .4) i)))) (c .before .before .cell .result .left) (c .before .before .cell .result .right) (c .before .before .cell .ensures) in (b .pre .0, j .0, j .1, b .pre .7 (c .before .before .before .before .loop .k) (c .before .before .before .loop-test .taken), omega (arith, c .before .before .before .before .loop .inv .few, c .before .before .before .before .loop .inv .long, b .pre .8, b .pre .6, c .before .before .before .loop-test .taken, cells-fit (a .rows) (a .cols) (b .pre .3) (b .pre .4)))
+list-cell-requires c κs =
+    let b = c .before .before .before .before .before .before .before .before .before .before .before in
+    let a = b .args in
+    let m = pairOf (held (a .rows) (a .left .now)) (held (a .cols) (a .right .now)) in
+    let j = cell-joined m (b .pre .5) (c .before .before .before .before .loop .k) (omega (arith, b .pre .6, c .before .before .before .loop-test .taken, (cells-length m ∙ (λ i. held-length (a .left .now) (a .rows) (b .pre .1) (b .pre .3) i * held-length (a .right .now) (a .cols) (b .pre .2) (b .pre .4) i)))) (c .before .before .cell .result .left) (c .before .before .cell .result .right) (c .before .before .cell .ensures) in (b .pre .0, j .0, j .1, b .pre .7 (c .before .before .before .before .loop .k) (c .before .before .before .loop-test .taken), omega (arith, c .before .before .before .before .loop .inv .few, c .before .before .before .before .loop .inv .long, b .pre .8, b .pre .6, c .before .before .before .loop-test .taken, cells-fit (a .rows) (a .cols) (b .pre .3) (b .pre .4)))
 
 -- src/lib.rt:187:9
 add-k : tie.Need-add-k Inv-loop μ-loop
-add-k c = let b = c .before .before .before .before .before .before .before .before .before .before .before .before .before .before in let a = b .args in record { fits = omega (arith, c .before .before .before .before .before .before .loop-test .taken, b .pre .6, cells-fit (a .rows) (a .cols) (b .pre .3) (b .pre .4)) }
+add-k c =
+    let b = c .before .before .before .before .before .before .before .before .before .before .before .before .before .before in
+    let a = b .args in
+    record { fits = omega (arith, c .before .before .before .before .before .before .loop-test .taken, b .pre .6, cells-fit (a .rows) (a .cols) (b .pre .3) (b .pre .4)) }
 
 -- src/lib.rt:184:5
 loop-less : tie.Need-loop-less Inv-loop μ-loop
@@ -50,8 +60,11 @@ loop-less c = search needs
 -- src/lib.rt:184:5
 loop-again : tie.Need-loop-again Inv-loop μ-loop
 loop-again c =
-    let b = c .before .before .before .before .before .before .before .before .before .before .before .before .before .before in let a = b .args in
-    rw (c .before .before .list-cell .ensures .0, c .before .before .list-cell .ensures .1) (listed-more (termIn (a .index .now) (a .pairs .now)) (cellPairs (pairOf (held (a .rows) (a .left .now)) (held (a .cols) (a .right .now)))) (a .x .now) (a .list .now) (c .before .before .before .before .before .before .before .loop .k) (c .before .before .before .before .before .before .before .loop .m) (c .before .before .before .before .before .before .before .loop .list) (c .before .before .before .before .before .before .before .loop .inv) (omega (arith, b .pre .6, (cells-length (pairOf (held (a .rows) (a .left .now)) (held (a .cols) (a .right .now))) ∙ (λ i. held-length (a .left .now) (a .rows) (b .pre .1) (b .pre .3) i * held-length (a .right .now) (a .cols) (b .pre .2) (b .pre .4) i)))) (omega (arith, b .pre .6, b .pre .8, cells-fit (a .rows) (a .cols) (b .pre .3) (b .pre .4))) (c .before .before .before .before .before .before .loop-test .taken) (getD (a .x .now) (c .before .before .before .before .before .before .before .loop .k) 0) ((termIn (a .index .now) (a .pairs .now)) (with (c .before .before .before .before .before .cell .result .left) (c .before .before .before .before .before .cell .result .right))) refl (ap (termIn (a .index .now) (a .pairs .now)) (c .before .before .before .before .before .cell .ensures)))
+    let b = c .before .before .before .before .before .before .before .before .before .before .before .before .before .before in
+    let a = b .args in
+    let m = pairOf (held (a .rows) (a .left .now)) (held (a .cols) (a .right .now)) in
+    let of = termIn (a .index .now) (a .pairs .now) in
+    rw (c .before .before .list-cell .ensures .0, c .before .before .list-cell .ensures .1) (listed-more of (cellPairs m) (a .x .now) (a .list .now) (c .before .before .before .before .before .before .before .loop .k) (c .before .before .before .before .before .before .before .loop .m) (c .before .before .before .before .before .before .before .loop .list) (c .before .before .before .before .before .before .before .loop .inv) (omega (arith, b .pre .6, (cells-length m ∙ (λ i. held-length (a .left .now) (a .rows) (b .pre .1) (b .pre .3) i * held-length (a .right .now) (a .cols) (b .pre .2) (b .pre .4) i)))) (omega (arith, b .pre .6, b .pre .8, cells-fit (a .rows) (a .cols) (b .pre .3) (b .pre .4))) (c .before .before .before .before .before .before .loop-test .taken) (getD (a .x .now) (c .before .before .before .before .before .before .before .loop .k) 0) (of (with (c .before .before .before .before .before .cell .result .left) (c .before .before .before .before .before .cell .result .right))) refl (ap of (c .before .before .before .before .before .cell .ensures)))
 
 -- src/lib.rt:166:1
 same-length : tie.Need-same-length Inv-loop μ-loop
@@ -60,9 +73,12 @@ same-length c = c .before .loop .inv .long
 -- src/lib.rt:166:1
 returns : tie.Need-returns Inv-loop μ-loop
 returns c =
-    let b = c .before .before .before .before .before .before .before .before in let a = b .args in
+    let b = c .before .before .before .before .before .before .before .before in
+    let a = b .args in
+    let m = pairOf (held (a .rows) (a .left .now)) (held (a .cols) (a .right .now)) in
+    let of = termIn (a .index .now) (a .pairs .now) in
     let f : length (a .x .now) ≤ length (a .list .now) = omega (arith, b .pre .6, b .pre .8, cells-fit (a .rows) (a .cols) (b .pre .3) (b .pre .4)) in
-    (listed-many (termIn (a .index .now) (a .pairs .now)) (cellPairs (pairOf (held (a .rows) (a .left .now)) (held (a .cols) (a .right .now)))) (a .x .now) (a .list .now) (c .before .loop .k) (c .before .loop .m) (c .before .loop .list) (c .before .loop .inv) (omega (arith, c .loop-test .left)) f, listed-all (termIn (a .index .now) (a .pairs .now)) (cellPairs (pairOf (held (a .rows) (a .left .now)) (held (a .cols) (a .right .now)))) (a .x .now) (a .list .now) (c .before .loop .k) (c .before .loop .m) (c .before .loop .list) (c .before .loop .inv) (omega (arith, c .loop-test .left)) f)
+    (listed-many of (cellPairs m) (a .x .now) (a .list .now) (c .before .loop .k) (c .before .loop .m) (c .before .loop .list) (c .before .loop .inv) (omega (arith, c .loop-test .left)) f, listed-all of (cellPairs m) (a .x .now) (a .list .now) (c .before .loop .k) (c .before .loop .m) (c .before .loop .list) (c .before .loop .inv) (omega (arith, c .loop-test .left)) f)
 
 pub list-plan-spec : {M : Type 1} → statement M
 list-plan-spec =

@@ -54,8 +54,13 @@ part-offer-plan-end-3 c = let b = c .before .before .before .before .before .bef
 -- src/lib.rt:343:9
 offer-plan-requires : tie.Need-offer-plan-requires
 offer-plan-requires c κs =
-    let b = c .before .before .before .before .before .before .before .before .before .before .before .before .before .before .before .before .before .before .before .before .before .before .before .before .before .before .before .before .before .before .before in let a = b .args in
-    (b .pre .0, b .pre .1, b .pre .2, b .pre .3, b .pre .4, b .pre .5, plan-cells (qualityIn (a .index .now) (a .pairs .now)) (termIn (a .index .now) (a .pairs .now)) (a .op) (a .left .now) (a .right .now) (a .rows) (a .cols) (b .pre .1) (b .pre .2) (b .pre .3) (b .pre .4) (workOf (a .sizes .now) (a .masses .now) (a .costs .now) (a .flow .now) (a .list .now) (a .best)) _ _ _ _ (c .before .before .before .before .before .before .before .before .before .before .before .before .before .before .before .before .plan-transport .result) (c .before .before .before .before .before .before .before .before .before .before .before .before .before .before .before .before .plan-transport .ensures) (c .before .before .before .before .before .before .before .if1 .taken), plan-low (qualityIn (a .index .now) (a .pairs .now)) (termIn (a .index .now) (a .pairs .now)) (a .op) (a .left .now) (a .right .now) (a .rows) (a .cols) (b .pre .1) (b .pre .2) (b .pre .3) (b .pre .4) (workOf (a .sizes .now) (a .masses .now) (a .costs .now) (a .flow .now) (a .list .now) (a .best)) _ _ _ _ (c .before .before .before .before .before .before .before .before .before .before .before .before .before .before .before .before .plan-transport .result) (c .before .before .before .before .before .before .before .before .before .before .before .before .before .before .before .before .plan-transport .ensures) (c .before .before .before .before .before .before .before .if1 .taken) (b .pre .6), b .pre .13, tried-sizes (qualityIn (a .index .now) (a .pairs .now)) (termIn (a .index .now) (a .pairs .now)) (a .op) (a .left .now) (a .right .now) (a .rows) (a .cols) (b .pre .1) (b .pre .2) (b .pre .3) (b .pre .4) (workOf (a .sizes .now) (a .masses .now) (a .costs .now) (a .flow .now) (a .list .now) (a .best)) _ _ _ _ (c .before .before .before .before .before .before .before .before .before .before .before .before .before .before .before .before .plan-transport .result) (c .before .before .before .before .before .before .before .before .before .before .before .before .before .before .before .before .plan-transport .ensures), tried-masses (qualityIn (a .index .now) (a .pairs .now)) (termIn (a .index .now) (a .pairs .now)) (a .op) (a .left .now) (a .right .now) (a .rows) (a .cols) (b .pre .1) (b .pre .2) (b .pre .3) (b .pre .4) (workOf (a .sizes .now) (a .masses .now) (a .costs .now) (a .flow .now) (a .list .now) (a .best)) _ _ _ _ (c .before .before .before .before .before .before .before .before .before .before .before .before .before .before .before .before .plan-transport .result) (c .before .before .before .before .before .before .before .before .before .before .before .before .before .before .before .before .plan-transport .ensures))
+    let b = c .before .before .before .before .before .before .before .before .before .before .before .before .before .before .before .before .before .before .before .before .before .before .before .before .before .before .before .before .before .before .before in
+    let a = b .args in
+    let the-if1 = c .before .before .before .before .before .before .before .if1 in
+    let the-plan-transport = c .before .before .before .before .before .before .before .before .before .before .before .before .before .before .before .before .plan-transport in
+    let q = qualityIn (a .index .now) (a .pairs .now) in
+    let of = termIn (a .index .now) (a .pairs .now) in
+    (b .pre .0, b .pre .1, b .pre .2, b .pre .3, b .pre .4, b .pre .5, plan-cells q of (a .op) (a .left .now) (a .right .now) (a .rows) (a .cols) (b .pre .1) (b .pre .2) (b .pre .3) (b .pre .4) (workOf (a .sizes .now) (a .masses .now) (a .costs .now) (a .flow .now) (a .list .now) (a .best)) _ _ _ _ (the-plan-transport .result) (the-plan-transport .ensures) (the-if1 .taken), plan-low q of (a .op) (a .left .now) (a .right .now) (a .rows) (a .cols) (b .pre .1) (b .pre .2) (b .pre .3) (b .pre .4) (workOf (a .sizes .now) (a .masses .now) (a .costs .now) (a .flow .now) (a .list .now) (a .best)) _ _ _ _ (the-plan-transport .result) (the-plan-transport .ensures) (the-if1 .taken) (b .pre .6), b .pre .13, tried-sizes q of (a .op) (a .left .now) (a .right .now) (a .rows) (a .cols) (b .pre .1) (b .pre .2) (b .pre .3) (b .pre .4) (workOf (a .sizes .now) (a .masses .now) (a .costs .now) (a .flow .now) (a .list .now) (a .best)) _ _ _ _ (the-plan-transport .result) (the-plan-transport .ensures), tried-masses q of (a .op) (a .left .now) (a .right .now) (a .rows) (a .cols) (b .pre .1) (b .pre .2) (b .pre .3) (b .pre .4) (workOf (a .sizes .now) (a .masses .now) (a .costs .now) (a .flow .now) (a .list .now) (a .best)) _ _ _ _ (the-plan-transport .result) (the-plan-transport .ensures))
 
 -- src/lib.rt:343:9
 same-length : tie.Need-same-length
@@ -79,7 +84,12 @@ same-length-5 c = search needs
 
 -- src/lib.rt:343:9
 returns : tie.Need-returns
-returns c = let b = c .before .before .before .before .before .before .before .before .before .before .before .before .before .before .before .before .before .before .before .before .before .before .before .before .before .before .before .before .before .before .before .before .before .before in let a = b .args in offer-some (qualityIn (a .index .now) (a .pairs .now)) (termIn (a .index .now) (a .pairs .now)) (a .op) (a .left .now) (a .right .now) (a .rows) (a .cols) (b .pre .1) (b .pre .2) (b .pre .3) (b .pre .4) (workOf (a .sizes .now) (a .masses .now) (a .costs .now) (a .flow .now) (a .list .now) (a .best)) _ _ _ _ (c .before .before .before .before .before .before .before .before .before .before .before .before .before .before .before .before .before .before .before .plan-transport .result) (c .before .before .before .before .before .before .before .before .before .before .before .before .before .before .before .before .before .before .before .plan-transport .ensures) (c .before .before .before .before .before .before .before .before .before .before .if1 .taken) _ _ (c .before .before .offer-plan .ensures .0) (c .before .before .offer-plan .ensures .1)
+returns c =
+    let b = c .before .before .before .before .before .before .before .before .before .before .before .before .before .before .before .before .before .before .before .before .before .before .before .before .before .before .before .before .before .before .before .before .before .before in
+    let a = b .args in
+    let the-offer-plan = c .before .before .offer-plan in
+    let the-plan-transport = c .before .before .before .before .before .before .before .before .before .before .before .before .before .before .before .before .before .before .before .plan-transport in
+    offer-some (qualityIn (a .index .now) (a .pairs .now)) (termIn (a .index .now) (a .pairs .now)) (a .op) (a .left .now) (a .right .now) (a .rows) (a .cols) (b .pre .1) (b .pre .2) (b .pre .3) (b .pre .4) (workOf (a .sizes .now) (a .masses .now) (a .costs .now) (a .flow .now) (a .list .now) (a .best)) _ _ _ _ (the-plan-transport .result) (the-plan-transport .ensures) (c .before .before .before .before .before .before .before .before .before .before .if1 .taken) _ _ (the-offer-plan .ensures .0) (the-offer-plan .ensures .1)
 
 -- src/lib.rt:304:1
 same-length-6 : tie.Need-same-length-6
@@ -99,7 +109,11 @@ same-length-9 c = search needs
 
 -- src/lib.rt:304:1
 returns-2 : tie.Need-returns-2
-returns-2 c = let b = c .before .before .before .before .before .before .before .before .before .before .before .before .before .before .before .before .before .before .before .before .before .before .before .before in let a = b .args in offer-none (qualityIn (a .index .now) (a .pairs .now)) (termIn (a .index .now) (a .pairs .now)) (a .op) (a .left .now) (a .right .now) (a .rows) (a .cols) (b .pre .1) (b .pre .2) (b .pre .3) (b .pre .4) (workOf (a .sizes .now) (a .masses .now) (a .costs .now) (a .flow .now) (a .list .now) (a .best)) _ _ _ _ (c .before .before .before .before .before .before .before .before .before .plan-transport .result) (c .before .before .before .before .before .before .before .before .before .plan-transport .ensures) (c .if1 .left)
+returns-2 c =
+    let b = c .before .before .before .before .before .before .before .before .before .before .before .before .before .before .before .before .before .before .before .before .before .before .before .before in
+    let a = b .args in
+    let the-plan-transport = c .before .before .before .before .before .before .before .before .before .plan-transport in
+    offer-none (qualityIn (a .index .now) (a .pairs .now)) (termIn (a .index .now) (a .pairs .now)) (a .op) (a .left .now) (a .right .now) (a .rows) (a .cols) (b .pre .1) (b .pre .2) (b .pre .3) (b .pre .4) (workOf (a .sizes .now) (a .masses .now) (a .costs .now) (a .flow .now) (a .list .now) (a .best)) _ _ _ _ (the-plan-transport .result) (the-plan-transport .ensures) (c .if1 .left)
 
 pub offer-transport-spec : {M : Type 1} → statement M
 offer-transport-spec =

@@ -24,7 +24,10 @@ first-requires c κs = search needs
 
 -- src/lib.rt:469:5
 loop-holds : tie.Need-loop-holds Inv-loop μ-loop
-loop-holds c = let b = c .before .before .before .before .before .before .before .before .before .before in let a = b .args in (walking-first (tablesOf (a .s .now)) (qualityIn (a .index .now) (a .pairs .now)) (termIn (a .index .now) (a .pairs .now)) (a .l) (a .r) (workOf (a .sizes .now) (a .masses .now) (a .costs .now) (a .flow .now) (a .list .now) (a .b)) (c .first .result) (b .pre .1) (rw (classes-many (a .s .now) (a .im) (b .pre .0)) (b .pre .2)) (rw (classes-many (a .s .now) (a .im) (b .pre .0)) (b .pre .3)) (c .first .ensures), refl, refl, refl, refl, refl)
+loop-holds c =
+    let b = c .before .before .before .before .before .before .before .before .before .before in
+    let a = b .args in
+    (walking-first (tablesOf (a .s .now)) (qualityIn (a .index .now) (a .pairs .now)) (termIn (a .index .now) (a .pairs .now)) (a .l) (a .r) (workOf (a .sizes .now) (a .masses .now) (a .costs .now) (a .flow .now) (a .list .now) (a .b)) (c .first .result) (b .pre .1) (rw (classes-many (a .s .now) (a .im) (b .pre .0)) (b .pre .2)) (rw (classes-many (a .s .now) (a .im) (b .pre .0)) (b .pre .3)) (c .first .ensures), refl, refl, refl, refl, refl)
 
 -- src/lib.rt:472:17
 enum-told : tie.Need-enum-told Inv-loop μ-loop
@@ -52,7 +55,10 @@ same-length-5 c = c .before .before .loop .inv .5
 
 -- src/lib.rt:472:17
 returns : tie.Need-returns Inv-loop μ-loop
-returns c = let b = c .before .before .before .before .before .before .before .before .before .before .before .before .before in let a = b .args in walking-end (tablesOf (a .s .now)) (qualityIn (a .index .now) (a .pairs .now)) (termIn (a .index .now) (a .pairs .now)) (a .l) (a .r) (workOf (a .sizes .now) (a .masses .now) (a .costs .now) (a .flow .now) (a .list .now) (a .b)) (workOf (c .before .before .loop .sizes) (c .before .before .loop .masses) (c .before .before .loop .costs) (c .before .before .loop .flow) (c .before .before .loop .list) (c .before .before .loop .best)) (c .before .before .loop .x) (c .enum-told .given .1) (c .before .before .loop .inv .0)
+returns c =
+    let b = c .before .before .before .before .before .before .before .before .before .before .before .before .before in
+    let a = b .args in
+    walking-end (tablesOf (a .s .now)) (qualityIn (a .index .now) (a .pairs .now)) (termIn (a .index .now) (a .pairs .now)) (a .l) (a .r) (workOf (a .sizes .now) (a .masses .now) (a .costs .now) (a .flow .now) (a .list .now) (a .b)) (workOf (c .before .before .loop .sizes) (c .before .before .loop .masses) (c .before .before .loop .costs) (c .before .before .loop .flow) (c .before .before .loop .list) (c .before .before .loop .best)) (c .before .before .loop .x) (c .enum-told .given .1) (c .before .before .loop .inv .0)
 
 -- src/lib.rt:474:22
 enum-known-x : tie.Need-enum-known-x Inv-loop μ-loop
@@ -61,21 +67,32 @@ enum-known-x c = search needs
 -- src/lib.rt:475:17
 offer-walk-requires : tie.Need-offer-walk-requires Inv-loop μ-loop
 offer-walk-requires c κs =
-    let b = c .before .before .before .before .before .before .before .before .before .before .before .before .before .before .before .before .before .before .before in let a = b .args in
-    (b .pre .0, b .pre .1, b .pre .2, b .pre .3, rw (← operations-many (a .s .now) (a .im) (b .pre .0)) (walking-within (tablesOf (a .s .now)) (qualityIn (a .index .now) (a .pairs .now)) (termIn (a .index .now) (a .pairs .now)) (a .l) (a .r) (workOf (a .sizes .now) (a .masses .now) (a .costs .now) (a .flow .now) (a .list .now) (a .b)) (workOf (c .before .before .before .before .before .before .before .before .loop .sizes) (c .before .before .before .before .before .before .before .before .loop .masses) (c .before .before .before .before .before .before .before .before .loop .costs) (c .before .before .before .before .before .before .before .before .loop .flow) (c .before .before .before .before .before .before .before .before .loop .list) (c .before .before .before .before .before .before .before .before .loop .best)) (c .before .before .before .before .before .before .before .before .loop .x) (c .before .before .before .before .before .before .x .given .0 .0) (c .before .before .before .before .before .before .x .given .1) (c .before .before .before .before .before .before .before .before .loop .inv .0) .0), b .pre .4, b .pre .5, walking-joined (tablesOf (a .s .now)) (qualityIn (a .index .now) (a .pairs .now)) (termIn (a .index .now) (a .pairs .now)) (a .l) (a .r) (workOf (a .sizes .now) (a .masses .now) (a .costs .now) (a .flow .now) (a .list .now) (a .b)) (workOf (c .before .before .before .before .before .before .before .before .loop .sizes) (c .before .before .before .before .before .before .before .before .loop .masses) (c .before .before .before .before .before .before .before .before .loop .costs) (c .before .before .before .before .before .before .before .before .loop .flow) (c .before .before .before .before .before .before .before .before .loop .list) (c .before .before .before .before .before .before .before .before .loop .best)) (c .before .before .before .before .before .before .before .before .loop .x) (c .before .before .before .before .before .before .x .given .0 .0) (c .before .before .before .before .before .before .x .given .1) (c .before .before .before .before .before .before .before .before .loop .inv .0), omega (arith, c .before .before .before .before .before .before .before .before .loop .inv .1, b .pre .6), omega (arith, c .before .before .before .before .before .before .before .before .loop .inv .2, b .pre .7), omega (arith, c .before .before .before .before .before .before .before .before .loop .inv .3, b .pre .8), omega (arith, c .before .before .before .before .before .before .before .before .loop .inv .4, b .pre .9), omega (arith, c .before .before .before .before .before .before .before .before .loop .inv .5, b .pre .10))
+    let b = c .before .before .before .before .before .before .before .before .before .before .before .before .before .before .before .before .before .before .before in
+    let a = b .args in
+    let q = qualityIn (a .index .now) (a .pairs .now) in
+    let of = termIn (a .index .now) (a .pairs .now) in
+    let t = tablesOf (a .s .now) in
+    (b .pre .0, b .pre .1, b .pre .2, b .pre .3, rw (← operations-many (a .s .now) (a .im) (b .pre .0)) (walking-within t q of (a .l) (a .r) (workOf (a .sizes .now) (a .masses .now) (a .costs .now) (a .flow .now) (a .list .now) (a .b)) (workOf (c .before .before .before .before .before .before .before .before .loop .sizes) (c .before .before .before .before .before .before .before .before .loop .masses) (c .before .before .before .before .before .before .before .before .loop .costs) (c .before .before .before .before .before .before .before .before .loop .flow) (c .before .before .before .before .before .before .before .before .loop .list) (c .before .before .before .before .before .before .before .before .loop .best)) (c .before .before .before .before .before .before .before .before .loop .x) (c .before .before .before .before .before .before .x .given .0 .0) (c .before .before .before .before .before .before .x .given .1) (c .before .before .before .before .before .before .before .before .loop .inv .0) .0), b .pre .4, b .pre .5, walking-joined t q of (a .l) (a .r) (workOf (a .sizes .now) (a .masses .now) (a .costs .now) (a .flow .now) (a .list .now) (a .b)) (workOf (c .before .before .before .before .before .before .before .before .loop .sizes) (c .before .before .before .before .before .before .before .before .loop .masses) (c .before .before .before .before .before .before .before .before .loop .costs) (c .before .before .before .before .before .before .before .before .loop .flow) (c .before .before .before .before .before .before .before .before .loop .list) (c .before .before .before .before .before .before .before .before .loop .best)) (c .before .before .before .before .before .before .before .before .loop .x) (c .before .before .before .before .before .before .x .given .0 .0) (c .before .before .before .before .before .before .x .given .1) (c .before .before .before .before .before .before .before .before .loop .inv .0), omega (arith, c .before .before .before .before .before .before .before .before .loop .inv .1, b .pre .6), omega (arith, c .before .before .before .before .before .before .before .before .loop .inv .2, b .pre .7), omega (arith, c .before .before .before .before .before .before .before .before .loop .inv .3, b .pre .8), omega (arith, c .before .before .before .before .before .before .before .before .loop .inv .4, b .pre .9), omega (arith, c .before .before .before .before .before .before .before .before .loop .inv .5, b .pre .10))
 
 -- src/lib.rt:492:17
 next-requires : tie.Need-next-requires Inv-loop μ-loop
-next-requires c κs = let b = c .before .before .before .before .before .before .before .before .before .before .before .before .before .before .before .before .before .before .before .before .before .before .before .before .before .before .before .before .before .before in let a = b .args in (b .pre .0, b .pre .1, b .pre .2, b .pre .3, walking-within (tablesOf (a .s .now)) (qualityIn (a .index .now) (a .pairs .now)) (termIn (a .index .now) (a .pairs .now)) (a .l) (a .r) (workOf (a .sizes .now) (a .masses .now) (a .costs .now) (a .flow .now) (a .list .now) (a .b)) (workOf (c .before .before .before .before .before .before .before .before .before .before .before .before .before .before .before .before .before .before .before .loop .sizes) (c .before .before .before .before .before .before .before .before .before .before .before .before .before .before .before .before .before .before .before .loop .masses) (c .before .before .before .before .before .before .before .before .before .before .before .before .before .before .before .before .before .before .before .loop .costs) (c .before .before .before .before .before .before .before .before .before .before .before .before .before .before .before .before .before .before .before .loop .flow) (c .before .before .before .before .before .before .before .before .before .before .before .before .before .before .before .before .before .before .before .loop .list) (c .before .before .before .before .before .before .before .before .before .before .before .before .before .before .before .before .before .before .before .loop .best)) (c .before .before .before .before .before .before .before .before .before .before .before .before .before .before .before .before .before .before .before .loop .x) (c .before .before .before .before .before .before .before .before .before .before .before .before .before .before .before .before .before .x .given .0 .0) (c .before .before .before .before .before .before .before .before .before .before .before .before .before .before .before .before .before .x .given .1) (c .before .before .before .before .before .before .before .before .before .before .before .before .before .before .before .before .before .before .before .loop .inv .0))
+next-requires c κs =
+    let b = c .before .before .before .before .before .before .before .before .before .before .before .before .before .before .before .before .before .before .before .before .before .before .before .before .before .before .before .before .before .before in
+    let a = b .args in
+    (b .pre .0, b .pre .1, b .pre .2, b .pre .3, walking-within (tablesOf (a .s .now)) (qualityIn (a .index .now) (a .pairs .now)) (termIn (a .index .now) (a .pairs .now)) (a .l) (a .r) (workOf (a .sizes .now) (a .masses .now) (a .costs .now) (a .flow .now) (a .list .now) (a .b)) (workOf (c .before .before .before .before .before .before .before .before .before .before .before .before .before .before .before .before .before .before .before .loop .sizes) (c .before .before .before .before .before .before .before .before .before .before .before .before .before .before .before .before .before .before .before .loop .masses) (c .before .before .before .before .before .before .before .before .before .before .before .before .before .before .before .before .before .before .before .loop .costs) (c .before .before .before .before .before .before .before .before .before .before .before .before .before .before .before .before .before .before .before .loop .flow) (c .before .before .before .before .before .before .before .before .before .before .before .before .before .before .before .before .before .before .before .loop .list) (c .before .before .before .before .before .before .before .before .before .before .before .before .before .before .before .before .before .before .before .loop .best)) (c .before .before .before .before .before .before .before .before .before .before .before .before .before .before .before .before .before .before .before .loop .x) (c .before .before .before .before .before .before .before .before .before .before .before .before .before .before .before .before .before .x .given .0 .0) (c .before .before .before .before .before .before .before .before .before .before .before .before .before .before .before .before .before .x .given .1) (c .before .before .before .before .before .before .before .before .before .before .before .before .before .before .before .before .before .before .before .loop .inv .0))
 
 -- src/lib.rt:469:5
 loop-less : tie.Need-loop-less Inv-loop μ-loop
-loop-less c = let b = c .before .before .before .before .before .before .before .before .before .before .before .before .before .before .before .before .before .before .before .before .before .before .before .before .before .before .before .before .before .before .before in let a = b .args in walking-less (tablesOf (a .s .now)) (qualityIn (a .index .now) (a .pairs .now)) (termIn (a .index .now) (a .pairs .now)) (a .l) (a .r) (workOf (a .sizes .now) (a .masses .now) (a .costs .now) (a .flow .now) (a .list .now) (a .b)) (workOf (c .before .before .before .before .before .before .before .before .before .before .before .before .before .before .before .before .before .before .before .before .loop .sizes) (c .before .before .before .before .before .before .before .before .before .before .before .before .before .before .before .before .before .before .before .before .loop .masses) (c .before .before .before .before .before .before .before .before .before .before .before .before .before .before .before .before .before .before .before .before .loop .costs) (c .before .before .before .before .before .before .before .before .before .before .before .before .before .before .before .before .before .before .before .before .loop .flow) (c .before .before .before .before .before .before .before .before .before .before .before .before .before .before .before .before .before .before .before .before .loop .list) (c .before .before .before .before .before .before .before .before .before .before .before .before .before .before .before .before .before .before .before .before .loop .best)) (c .before .before .before .before .before .before .before .before .before .before .before .before .before .before .before .before .before .before .before .before .loop .x) (c .before .before .before .before .before .before .before .before .before .before .before .before .before .before .before .before .before .before .x .given .0 .0) (c .before .before .before .before .before .before .before .before .before .before .before .before .before .before .before .before .before .before .x .given .1) (c .before .before .before .before .before .before .before .before .before .before .before .before .before .before .before .before .before .before .before .before .loop .inv .0) (c .next .result) (c .next .ensures)
+loop-less c =
+    let b = c .before .before .before .before .before .before .before .before .before .before .before .before .before .before .before .before .before .before .before .before .before .before .before .before .before .before .before .before .before .before .before in
+    let a = b .args in
+    walking-less (tablesOf (a .s .now)) (qualityIn (a .index .now) (a .pairs .now)) (termIn (a .index .now) (a .pairs .now)) (a .l) (a .r) (workOf (a .sizes .now) (a .masses .now) (a .costs .now) (a .flow .now) (a .list .now) (a .b)) (workOf (c .before .before .before .before .before .before .before .before .before .before .before .before .before .before .before .before .before .before .before .before .loop .sizes) (c .before .before .before .before .before .before .before .before .before .before .before .before .before .before .before .before .before .before .before .before .loop .masses) (c .before .before .before .before .before .before .before .before .before .before .before .before .before .before .before .before .before .before .before .before .loop .costs) (c .before .before .before .before .before .before .before .before .before .before .before .before .before .before .before .before .before .before .before .before .loop .flow) (c .before .before .before .before .before .before .before .before .before .before .before .before .before .before .before .before .before .before .before .before .loop .list) (c .before .before .before .before .before .before .before .before .before .before .before .before .before .before .before .before .before .before .before .before .loop .best)) (c .before .before .before .before .before .before .before .before .before .before .before .before .before .before .before .before .before .before .before .before .loop .x) (c .before .before .before .before .before .before .before .before .before .before .before .before .before .before .before .before .before .before .x .given .0 .0) (c .before .before .before .before .before .before .before .before .before .before .before .before .before .before .before .before .before .before .x .given .1) (c .before .before .before .before .before .before .before .before .before .before .before .before .before .before .before .before .before .before .before .before .loop .inv .0) (c .next .result) (c .next .ensures)
 
 -- src/lib.rt:469:5
 loop-again : tie.Need-loop-again Inv-loop μ-loop
 loop-again c =
-    let b = c .before .before .before .before .before .before .before .before .before .before .before .before .before .before .before .before .before .before .before .before .before .before .before .before .before .before .before .before .before .before .before in let a = b .args in
+    let b = c .before .before .before .before .before .before .before .before .before .before .before .before .before .before .before .before .before .before .before .before .before .before .before .before .before .before .before .before .before .before .before in
+    let a = b .args in
     (walking-next (tablesOf (a .s .now)) (qualityIn (a .index .now) (a .pairs .now)) (termIn (a .index .now) (a .pairs .now)) (a .l) (a .r) (workOf (a .sizes .now) (a .masses .now) (a .costs .now) (a .flow .now) (a .list .now) (a .b)) (workOf (c .before .before .before .before .before .before .before .before .before .before .before .before .before .before .before .before .before .before .before .before .loop .sizes) (c .before .before .before .before .before .before .before .before .before .before .before .before .before .before .before .before .before .before .before .before .loop .masses) (c .before .before .before .before .before .before .before .before .before .before .before .before .before .before .before .before .before .before .before .before .loop .costs) (c .before .before .before .before .before .before .before .before .before .before .before .before .before .before .before .before .before .before .before .before .loop .flow) (c .before .before .before .before .before .before .before .before .before .before .before .before .before .before .before .before .before .before .before .before .loop .list) (c .before .before .before .before .before .before .before .before .before .before .before .before .before .before .before .before .before .before .before .before .loop .best)) (c .before .before .before .before .before .before .before .before .before .before .before .before .before .before .before .before .before .before .before .before .loop .x) (c .before .before .before .before .before .before .before .before .before .before .before .before .before .before .before .before .before .before .x .given .0 .0) (c .before .before .before .before .before .before .before .before .before .before .before .before .before .before .before .before .before .before .x .given .1) (c .before .before .before .before .before .before .before .before .before .before .before .before .before .before .before .before .before .before .before .before .loop .inv .0) (c .next .result) (c .next .ensures) _ (c .before .before .before .before .before .before .before .before .before .before .before .offer-walk .ensures), omega (arith, c .before .before .before .before .before .before .before .before .before .before .before .before .before .before .before .before .before .before .before .before .loop .inv .1, c .before .before .before .before .before .before .before .before .before .before .before .offer-walk .kept), omega (arith, c .before .before .before .before .before .before .before .before .before .before .before .before .before .before .before .before .before .before .before .before .loop .inv .2, c .before .before .before .before .before .before .before .before .before .before .before .offer-walk .kept), omega (arith, c .before .before .before .before .before .before .before .before .before .before .before .before .before .before .before .before .before .before .before .before .loop .inv .3, c .before .before .before .before .before .before .before .before .before .before .before .offer-walk .kept), omega (arith, c .before .before .before .before .before .before .before .before .before .before .before .before .before .before .before .before .before .before .before .before .loop .inv .4, c .before .before .before .before .before .before .before .before .before .before .before .offer-walk .kept), omega (arith, c .before .before .before .before .before .before .before .before .before .before .before .before .before .before .before .before .before .before .before .before .loop .inv .5, c .before .before .before .before .before .before .before .before .before .before .before .offer-walk .kept))
 
 pub offer-transports-spec : {M : Type 1} → statement M

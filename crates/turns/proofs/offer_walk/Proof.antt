@@ -39,12 +39,19 @@ slice-aggregate-offer-transport-2 c = search needs
 -- src/lib.rt:424:37
 offer-transport-requires : tie.Need-offer-transport-requires
 offer-transport-requires c κs =
-    let b = c .before .before .before .before .before .before .before .before .before .before .before .before .before .before .before .before .before .before .before .before .before .before .before .before in let a = b .args in
-    (b .pre .5, omega (arith, c .before .before .before .before .before .before .before .before .before .before .before .before .monomials .kept), omega (arith, c .before .before .before .before .before .before .before .before .before .before .before .before .monomials .kept), found-few (tablesOf (a .s .now)) (a .l) (a .r) (a .w) _ _ _ _ (c .before .before .before .before .before .before .before .before .before .before .before .before .monomials .result) (c .before .before .before .before .before .before .before .before .before .before .before .before .monomials .ensures) (c .before .before .before .before .before .before .before .before .p .given .0 .0) (c .before .before .before .before .before .before .before .before .p .given .0 .1 .0) (c .before .before .before .before .before .before .before .before .p .given .1) .0, found-few (tablesOf (a .s .now)) (a .l) (a .r) (a .w) _ _ _ _ (c .before .before .before .before .before .before .before .before .before .before .before .before .monomials .result) (c .before .before .before .before .before .before .before .before .before .before .before .before .monomials .ensures) (c .before .before .before .before .before .before .before .before .p .given .0 .0) (c .before .before .before .before .before .before .before .before .p .given .0 .1 .0) (c .before .before .before .before .before .before .before .before .p .given .1) .1, one-joined (actionsAt (tablesOf (a .s .now)) (a .l) (a .r) (a .w)) _ (b .pre .7) (found-one (tablesOf (a .s .now)) (a .l) (a .r) (a .w) _ _ _ _ (c .before .before .before .before .before .before .before .before .before .before .before .before .monomials .result) (c .before .before .before .before .before .before .before .before .before .before .before .before .monomials .ensures) (c .before .before .before .before .before .before .before .before .p .given .0 .0) (c .before .before .before .before .before .before .before .before .p .given .0 .1 .0) (c .before .before .before .before .before .before .before .before .p .given .1)), found-left (tablesOf (a .s .now)) (a .l) (a .r) (a .w) _ _ _ _ (c .before .before .before .before .before .before .before .before .before .before .before .before .monomials .result) (c .before .before .before .before .before .before .before .before .before .before .before .before .monomials .ensures) (c .before .before .before .before .before .before .before .before .p .given .0 .0) (c .before .before .before .before .before .before .before .before .p .given .0 .1 .0) (c .before .before .before .before .before .before .before .before .p .given .1), found-right (tablesOf (a .s .now)) (a .l) (a .r) (a .w) _ _ _ _ (c .before .before .before .before .before .before .before .before .before .before .before .before .monomials .result) (c .before .before .before .before .before .before .before .before .before .before .before .before .monomials .ensures) (c .before .before .before .before .before .before .before .before .p .given .0 .0) (c .before .before .before .before .before .before .before .before .p .given .0 .1 .0) (c .before .before .before .before .before .before .before .before .p .given .1), b .pre .6, b .pre .8, b .pre .9, b .pre .10, b .pre .11, b .pre .12)
+    let b = c .before .before .before .before .before .before .before .before .before .before .before .before .before .before .before .before .before .before .before .before .before .before .before .before in
+    let a = b .args in
+    let t = tablesOf (a .s .now) in
+    (b .pre .5, omega (arith, c .before .before .before .before .before .before .before .before .before .before .before .before .monomials .kept), omega (arith, c .before .before .before .before .before .before .before .before .before .before .before .before .monomials .kept), found-few t (a .l) (a .r) (a .w) _ _ _ _ (c .before .before .before .before .before .before .before .before .before .before .before .before .monomials .result) (c .before .before .before .before .before .before .before .before .before .before .before .before .monomials .ensures) (c .before .before .before .before .before .before .before .before .p .given .0 .0) (c .before .before .before .before .before .before .before .before .p .given .0 .1 .0) (c .before .before .before .before .before .before .before .before .p .given .1) .0, found-few t (a .l) (a .r) (a .w) _ _ _ _ (c .before .before .before .before .before .before .before .before .before .before .before .before .monomials .result) (c .before .before .before .before .before .before .before .before .before .before .before .before .monomials .ensures) (c .before .before .before .before .before .before .before .before .p .given .0 .0) (c .before .before .before .before .before .before .before .before .p .given .0 .1 .0) (c .before .before .before .before .before .before .before .before .p .given .1) .1, one-joined (actionsAt t (a .l) (a .r) (a .w)) _ (b .pre .7) (found-one t (a .l) (a .r) (a .w) _ _ _ _ (c .before .before .before .before .before .before .before .before .before .before .before .before .monomials .result) (c .before .before .before .before .before .before .before .before .before .before .before .before .monomials .ensures) (c .before .before .before .before .before .before .before .before .p .given .0 .0) (c .before .before .before .before .before .before .before .before .p .given .0 .1 .0) (c .before .before .before .before .before .before .before .before .p .given .1)), found-left t (a .l) (a .r) (a .w) _ _ _ _ (c .before .before .before .before .before .before .before .before .before .before .before .before .monomials .result) (c .before .before .before .before .before .before .before .before .before .before .before .before .monomials .ensures) (c .before .before .before .before .before .before .before .before .p .given .0 .0) (c .before .before .before .before .before .before .before .before .p .given .0 .1 .0) (c .before .before .before .before .before .before .before .before .p .given .1), found-right t (a .l) (a .r) (a .w) _ _ _ _ (c .before .before .before .before .before .before .before .before .before .before .before .before .monomials .result) (c .before .before .before .before .before .before .before .before .before .before .before .before .monomials .ensures) (c .before .before .before .before .before .before .before .before .p .given .0 .0) (c .before .before .before .before .before .before .before .before .p .given .0 .1 .0) (c .before .before .before .before .before .before .before .before .p .given .1), b .pre .6, b .pre .8, b .pre .9, b .pre .10, b .pre .11, b .pre .12)
 
 -- src/lib.rt:395:1
 returns : tie.Need-returns
-returns c = let b = c .before .before .before .before .before .before .before .before .before .before .before .before .before .before .before .before in let a = b .args in offers-none (qualityIn (a .index .now) (a .pairs .now)) (termIn (a .index .now) (a .pairs .now)) (actionsAt (tablesOf (a .s .now)) (a .l) (a .r) (a .w)) (workOf (a .sizes .now) (a .masses .now) (a .costs .now) (a .flow .now) (a .list .now) (a .best)) (found-none (tablesOf (a .s .now)) (a .l) (a .r) (a .w) _ _ _ _ (c .before .before .before .before .monomials .result) (c .before .before .before .before .monomials .ensures) (c .enum-told .given .1))
+returns c =
+    let b = c .before .before .before .before .before .before .before .before .before .before .before .before .before .before .before .before in
+    let a = b .args in
+    let the-monomials = c .before .before .before .before .monomials in
+    let t = tablesOf (a .s .now) in
+    offers-none (qualityIn (a .index .now) (a .pairs .now)) (termIn (a .index .now) (a .pairs .now)) (actionsAt t (a .l) (a .r) (a .w)) (workOf (a .sizes .now) (a .masses .now) (a .costs .now) (a .flow .now) (a .list .now) (a .best)) (found-none t (a .l) (a .r) (a .w) _ _ _ _ (the-monomials .result) (the-monomials .ensures) (c .enum-told .given .1))
 
 -- src/lib.rt:395:1
 same-length : tie.Need-same-length
@@ -68,7 +75,13 @@ same-length-5 c = search needs
 
 -- src/lib.rt:395:1
 returns-2 : tie.Need-returns-2
-returns-2 c = let b = c .before .before .before .before .before .before .before .before .before .before .before .before .before .before .before .before .before .before .before .before .before .before .before .before .before .before .before .before .before .before .before .before .before .before .before in let a = b .args in offers-one (qualityIn (a .index .now) (a .pairs .now)) (termIn (a .index .now) (a .pairs .now)) (actionsAt (tablesOf (a .s .now)) (a .l) (a .r) (a .w)) _ (workOf (a .sizes .now) (a .masses .now) (a .costs .now) (a .flow .now) (a .list .now) (a .best)) _ (found-one (tablesOf (a .s .now)) (a .l) (a .r) (a .w) _ _ _ _ (c .before .before .before .before .before .before .before .before .before .before .before .before .before .before .before .before .before .before .before .before .before .before .before .monomials .result) (c .before .before .before .before .before .before .before .before .before .before .before .before .before .before .before .before .before .before .before .before .before .before .before .monomials .ensures) (c .before .before .before .before .before .before .before .before .before .before .before .before .before .before .before .before .before .before .before .p .given .0 .0) (c .before .before .before .before .before .before .before .before .before .before .before .before .before .before .before .before .before .before .before .p .given .0 .1 .0) (c .before .before .before .before .before .before .before .before .before .before .before .before .before .before .before .before .before .before .before .p .given .1)) (c .before .before .before .before .before .before .before .before .before .before .offer-transport .ensures)
+returns-2 c =
+    let b = c .before .before .before .before .before .before .before .before .before .before .before .before .before .before .before .before .before .before .before .before .before .before .before .before .before .before .before .before .before .before .before .before .before .before .before in
+    let a = b .args in
+    let the-monomials = c .before .before .before .before .before .before .before .before .before .before .before .before .before .before .before .before .before .before .before .before .before .before .before .monomials in
+    let the-p = c .before .before .before .before .before .before .before .before .before .before .before .before .before .before .before .before .before .before .before .p in
+    let t = tablesOf (a .s .now) in
+    offers-one (qualityIn (a .index .now) (a .pairs .now)) (termIn (a .index .now) (a .pairs .now)) (actionsAt t (a .l) (a .r) (a .w)) _ (workOf (a .sizes .now) (a .masses .now) (a .costs .now) (a .flow .now) (a .list .now) (a .best)) _ (found-one t (a .l) (a .r) (a .w) _ _ _ _ (the-monomials .result) (the-monomials .ensures) (the-p .given .0 .0) (the-p .given .0 .1 .0) (the-p .given .1)) (c .before .before .before .before .before .before .before .before .before .before .offer-transport .ensures)
 
 pub offer-walk-spec : {M : Type 1} → statement M
 offer-walk-spec =

@@ -39,10 +39,14 @@ same-length-5 c = search needs
 -- src/lib.rt:500:1
 returns : tie.Need-returns
 returns c =
-    let b = c .before .before .before .before .before .before .before .before .before .before .before .before .before .before .before .before .before .before .before .before .before .before .before .before .before .before in let a = b .args in
+    let b = c .before .before .before .before .before .before .before .before .before .before .before .before .before .before .before .before .before .before .before .before .before .before .before .before .before .before in
+    let a = b .args in
+    let q = qualityIn (a .index .now) (a .pairs .now) in
+    let of = termIn (a .index .now) (a .pairs .now) in
+    let t = tablesOf (a .s .now) in
     let f = c .before .before .before .before .before .before .before .before .before .before .before .before .before .before .before .before .before .before .before .before .before .before .before .shared-slice-known3 .given (numberIn (a .index .now) (a .l, a .r)) in
-    let z = turn-fits (tablesOf (a .s .now)) (qualityIn (a .index .now) (a .pairs .now)) (termIn (a .index .now) (a .pairs .now)) (a .l, a .r) _ (c .before .before .before .before .before .before .before .before .before .before .offer-transports .result) (turn-done (tablesOf (a .s .now)) (qualityIn (a .index .now) (a .pairs .now)) (termIn (a .index .now) (a .pairs .now)) (a .l, a .r) (workOf (a .sizes .now) (a .masses .now) (a .costs .now) (a .flow .now) (a .list .now) (c .before .before .before .before .before .before .before .before .before .before .before .before .before .before .before .before .best-aligned .result)) _ (c .before .before .before .before .before .before .before .before .before .before .offer-transports .ensures) (c .before .before .before .before .before .before .before .before .before .before .before .before .before .before .before .before .best-aligned .ensures)) (known-low (b .pre .4)) (omega (arith, f .fits)) in
-    (turn-done (tablesOf (a .s .now)) (qualityIn (a .index .now) (a .pairs .now)) (termIn (a .index .now) (a .pairs .now)) (a .l, a .r) (workOf (a .sizes .now) (a .masses .now) (a .costs .now) (a .flow .now) (a .list .now) (c .before .before .before .before .before .before .before .before .before .before .before .before .before .before .before .before .best-aligned .result)) _ (c .before .before .before .before .before .before .before .before .before .before .offer-transports .ensures) (c .before .before .before .before .before .before .before .before .before .before .before .before .before .before .before .before .best-aligned .ensures), turn-left (tablesOf (a .s .now)) (qualityIn (a .index .now) (a .pairs .now)) (termIn (a .index .now) (a .pairs .now)) (a .l, a .r) (workOf (a .sizes .now) (a .masses .now) (a .costs .now) (a .flow .now) (a .list .now) (c .before .before .before .before .before .before .before .before .before .before .before .before .before .before .before .before .best-aligned .result)) _ (c .before .before .before .before .before .before .before .before .before .before .offer-transports .ensures) (c .before .before .before .before .before .before .before .before .before .before .before .before .before .before .before .before .best-aligned .ensures), z .0, z .1)
+    let z = turn-fits t q of (a .l, a .r) _ (c .before .before .before .before .before .before .before .before .before .before .offer-transports .result) (turn-done t q of (a .l, a .r) (workOf (a .sizes .now) (a .masses .now) (a .costs .now) (a .flow .now) (a .list .now) (c .before .before .before .before .before .before .before .before .before .before .before .before .before .before .before .before .best-aligned .result)) _ (c .before .before .before .before .before .before .before .before .before .before .offer-transports .ensures) (c .before .before .before .before .before .before .before .before .before .before .before .before .before .before .before .before .best-aligned .ensures)) (known-low (b .pre .4)) (omega (arith, f .fits)) in
+    (turn-done t q of (a .l, a .r) (workOf (a .sizes .now) (a .masses .now) (a .costs .now) (a .flow .now) (a .list .now) (c .before .before .before .before .before .before .before .before .before .before .before .before .before .before .before .before .best-aligned .result)) _ (c .before .before .before .before .before .before .before .before .before .before .offer-transports .ensures) (c .before .before .before .before .before .before .before .before .before .before .before .before .before .before .before .before .best-aligned .ensures), turn-left t q of (a .l, a .r) (workOf (a .sizes .now) (a .masses .now) (a .costs .now) (a .flow .now) (a .list .now) (c .before .before .before .before .before .before .before .before .before .before .before .before .before .before .before .before .best-aligned .result)) _ (c .before .before .before .before .before .before .before .before .before .before .offer-transports .ensures) (c .before .before .before .before .before .before .before .before .before .before .before .before .before .before .before .before .best-aligned .ensures), z .0, z .1)
 
 pub turn-spec : {M : Type 1} → statement M
 turn-spec =
