@@ -1,0 +1,5 @@
+pub mod Arrays
+pub mod ArrayLaws
+pub mod Settling
+pub mod StartSizes
+pub mod Answers
