@@ -40,3 +40,6 @@ pub mod TurnBounds
 pub mod TurnPlaces
 pub mod TurnsFrom
 pub mod RoundsFrom
+pub mod Standing
+pub mod TurnRead
+pub mod RunFrom

@@ -1,14 +1,12 @@
 -- The rounds as a loop runs them: one round from a state, by what its turns come to; the fuel is out of sight.
 use mathlib.Core.Path.{_≡_, refl, sym, ap, _∙_}
 use mathlib.Core.Bool.{Bool, true, false}
-use mathlib.Core.List.{List, [], _∷_, map}
-use Prim.Native.Nat.{ℕ, zero, suc, _+_, _≤_, _<_}
-use native.Mathlib.Numerals.{add-one}
+use mathlib.Core.List.{List, map}
+use Prim.Native.Nat.{ℕ, zero, suc, _+_, _≤_}
 use native.Mathlib.Omega.{arith}
 use lib.ListN.{length}
 use Rattle.spec.specs.Bytes.{any, Two, Res, ok, refused, _>>=_, Checked, passed, cutShort}
 use Rattle.spec.specs.Image.{Tables}
-use Rattle.spec.specs.Pool.{Pool}
 use Rattle.spec.specs.Round.{lookUp, Turn, changes, turnsOf, Terms, turnsTerms}
 use Rattle.spec.specs.Run.{Outcome, State, outcome, roundTerms, afterRound, roundsFrom}
 use Rattle.lgg.specs.Results.{refused-ok, ok-inj, passed-inj, cut-passed}
@@ -111,3 +109,7 @@ module _ (t : Tables) (ps : List Two) where
     rounds-next r c e q =
         by-turns (ok (passed r c)) e ∙ ap {B = Res Outcome} (λ (z : Bool). elim z [ false ↦ ok (outcome true ps s) | true ↦ roundsFrom b t ps (stateAfter s (turnsAt t ps s) r c) ]) q
         ∙ rounds-of b (stateAfter s (turnsAt t ps s) r c) (omega (arith, round-left b c s r e))
+
+    -- the rounds are no more than the checks
+    pub rounds-counted : (B : ℕ) (r : Terms) (c : ℕ) → roundAt t ps s b ≡ ok (passed r c) → s .rounds + s .budget ≤ B → suc (s .rounds) + c ≤ B
+    rounds-counted B r c e h = omega (arith, round-left b c s r e)

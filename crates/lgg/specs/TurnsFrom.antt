@@ -1,18 +1,19 @@
 -- The turns of a round and the starting terms as a loop runs them: the terms so far, and what the rest from pair k on comes to.
 use mathlib.Core.Path.{_≡_, refl, sym, ap, ap₂, _∙_}
+use mathlib.Core.Bool.{Bool, true, false}
 use mathlib.Core.List.{List, [], _∷_, _++_, map, append-nil, append-assoc}
 use Prim.Native.Nat.{ℕ, zero, suc, _+_, _≤_, _<_}
 use native.Mathlib.Nat.{not-suc-le-zero}
 use native.Mathlib.Numerals.{add-one}
 use native.Mathlib.Omega.{arith}
-use lib.ListN.{length, getD, drop, drop-of-length-le}
+use lib.ListN.{length, getD, take, drop, drop-of-length-le}
 use lib.Seq.{drop-cons}
-use Rattle.spec.specs.Bytes.{Two, Res, ok, refused, _>>=_, Checked, passed, cutShort}
+use Rattle.spec.specs.Bytes.{any, either, Two, Res, ok, refused, _>>=_, Checked, passed, cutShort}
 use Rattle.spec.specs.Image.{Tables}
 use Rattle.spec.specs.Pool.{Pool, Interned, startingTerm}
-use Rattle.spec.specs.Round.{lookUp, Choice, Turn, turnOf, turnsOf, choiceTerm, Terms, prepend, turnsTerms}
+use Rattle.spec.specs.Round.{lookUp, Turn, changes, turnOf, turnsOf, choiceTerm, Terms, prepend, turnsTerms}
 use Rattle.spec.specs.Run.{startingTerms}
-use Rattle.lgg.specs.Lists.{length-map}
+use Rattle.lgg.specs.Lists.{length-map, map-map}
 
 -- ---- lists
 pub get-map : {A B : Type 0} (f : A → B) (l : List A) (k : ℕ) (d : A) (e : B) → k < length l → getD (map f l) k e ≡ f (getD l k d)
@@ -27,6 +28,50 @@ turns-length t ps qs = length-map (turnOf t (lookUp (0, 0) ps qs)) ps
 pub turn-at : (t : Tables) (ps qs : List Two) (k : ℕ) (d : Turn) → k < length ps → getD (turnsOf t ps qs) k d ≡ turnOf t (lookUp (0, 0) ps qs) (getD ps k (0, 0))
 unfolding turnsOf
 turn-at t ps qs k d h = get-map (turnOf t (lookUp (0, 0) ps qs)) ps k (0, 0) d h
+
+-- pair k's entry in the list of the round's qualities
+pub quality-at : (t : Tables) (ps qs : List Two) (k : ℕ) → k < length ps → getD (map (λ w. w .quality) (turnsOf t ps qs)) k (0, 0) ≡ turnOf t (lookUp (0, 0) ps qs) (getD ps k (0, 0)) .quality
+unfolding turnsOf
+quality-at t ps qs k h =
+    ap (λ (l : List Two). getD l k (0, 0)) (map-map (turnOf t (lookUp (0, 0) ps qs)) (λ w. w .quality) ps)
+    ∙ get-map (λ p. turnOf t (lookUp (0, 0) ps qs) p .quality) ps k (0, 0) (0, 0) h
+
+-- whether one of the first k turns changes its pair
+abbrev pub changedBy : Tables → List Two → List Two → ℕ → Bool
+changedBy t ps qs k = any changes (take k (turnsOf t ps qs))
+
+any-take : {A : Type 0} (f : A → Bool) (l : List A) (k : ℕ) (d : A) → k < length l → any f (take (suc k) l) ≡ either (any f (take k l)) (f (getD l k d))
+unfolding any
+any-take f [] k d h = absurd (not-suc-le-zero h)
+any-take f (x ∷ l) zero d h = go (f x)
+  where
+    go : (b : Bool) → elim b [ true ↦ true | false ↦ false ] ≡ b
+    go true = refl
+    go false = refl
+any-take f (x ∷ l) (suc k) d h = go (f x) (any-take f l k d (omega arith))
+  where
+    go : (b : Bool) → any f (take (suc k) l) ≡ either (any f (take k l)) (f (getD l k d)) → elim b [ true ↦ true | false ↦ any f (take (suc k) l) ] ≡ either (elim b [ true ↦ true | false ↦ any f (take k l) ]) (f (getD l k d))
+    go true e = refl
+    go false e = e
+
+pub changed-begin : (t : Tables) (ps qs : List Two) → changedBy t ps qs 0 ≡ false
+unfolding any
+changed-begin t ps qs = refl
+
+pub changed-turn : (t : Tables) (ps qs : List Two) (k : ℕ) → k < length ps → changedBy t ps qs (k + 1) ≡ either (changedBy t ps qs k) (changes (turnOf t (lookUp (0, 0) ps qs) (getD ps k (0, 0))))
+changed-turn t ps qs k h =
+    let d = turnOf t (lookUp (0, 0) ps qs) (0, 0) in
+    rw (add-one k) (any-take changes (turnsOf t ps qs) k d (omega (arith, turns-length t ps qs))
+    ∙ ap (λ (w : Turn). either (changedBy t ps qs k) (changes w)) (turn-at t ps qs k d h))
+
+pub changed-end : (t : Tables) (ps qs : List Two) (k : ℕ) → length ps ≤ k → changedBy t ps qs k ≡ any changes (turnsOf t ps qs)
+changed-end t ps qs k h = ap (any changes) (all-taken (turnsOf t ps qs) k (omega (arith, turns-length t ps qs)))
+  where
+    all-taken : (l : List Turn) (k : ℕ) → length l ≤ k → take k l ≡ l
+    all-taken [] zero h = refl
+    all-taken [] (suc k) h = refl
+    all-taken (x ∷ l) zero h = absurd (not-suc-le-zero h)
+    all-taken (x ∷ l) (suc k) h = ap (λ (z : List Turn). x ∷ z) (all-taken l k (omega arith))
 
 -- ---- the terms so far put before the terms of the rest
 abbrev pub prefixed : List ℕ → Res (Checked Terms) → Res (Checked Terms)
