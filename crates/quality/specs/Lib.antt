@@ -1,0 +1,4 @@
+pub mod Known
+pub mod Aligned
+pub mod Sums
+pub mod Offers
