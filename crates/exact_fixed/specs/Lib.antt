@@ -2,4 +2,9 @@ pub mod Arrays
 pub mod ArrayLaws
 pub mod Settling
 pub mod StartSizes
+pub mod Graphs
+pub mod Starting
+pub mod Turning
 pub mod Answers
+pub mod AnswerLaws
+pub mod Running

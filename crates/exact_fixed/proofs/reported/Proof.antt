@@ -1,0 +1,39 @@
+use borrow.Author.Tests.{lt-ltb, le-ltb, le-leb, lt-leb, eq-eqb, ne-eqb}
+use Prim.Native.Nat.{ℕ, zero, suc, _≤_, _<_, _-_, _+_, _*_, _^_}
+use native.Mathlib.Omega.{arith}
+use native.Mathlib.Numerals.{add-one}
+use mathlib.Core.Path.{_≡_, refl, ap, sym, _∙_}
+use mathlib.Core.Logic.{⊎-elim}
+use mathlib.Core.List.{List, [], _∷_, _++_, append-nil}
+use lib.ListN.{length, take, drop, getD, set, length-set, length-take, length-drop, length-append, drop-of-length-le}
+use borrow.Author.Needs.{needs}
+use Rattle.exact_fixed.proofs.reported.Statement.{statement}
+use Rattle.exact_fixed.proofs.reported.Tie as tie
+use Rattle.exact_fixed.proofs.reported.Reads as reads
+use Rattle.exact_fixed.proofs.reported.Lts as lts
+use Rattle.exact_fixed.proofs.num.Reads as num-reads
+
+-- src/lib.rt:247:15
+shared-slice-read-t6 : tie.Need-shared-slice-read-t6
+shared-slice-read-t6 c = search needs
+
+-- src/lib.rt:248:15
+shared-slice-read-t8 : tie.Need-shared-slice-read-t8
+shared-slice-read-t8 c = search needs
+
+-- src/lib.rt:249:19
+shared-slice-read-num : tie.Need-shared-slice-read-num
+shared-slice-read-num c = search needs
+
+-- src/lib.rt:249:15
+num-requires : tie.Need-num-requires
+num-requires c κs = search needs
+
+-- src/lib.rt:239:1
+returns : tie.Need-returns
+returns c = ?
+
+pub reported-spec : {M : Type 1} → statement M
+reported-spec =
+    tie.close
+    (tie.spec shared-slice-read-t6 shared-slice-read-t8 shared-slice-read-num num-requires returns)

@@ -1,0 +1,103 @@
+use borrow.Author.Tests.{lt-ltb, le-ltb, le-leb, lt-leb, eq-eqb, ne-eqb}
+use Prim.Native.Nat.{ℕ, zero, suc, _≤_, _<_, _-_, _+_, _*_, _^_}
+use native.Mathlib.Omega.{arith}
+use native.Mathlib.Numerals.{add-one}
+use mathlib.Core.Path.{_≡_, refl, ap, sym, _∙_}
+use mathlib.Core.Logic.{⊎-elim}
+use mathlib.Core.List.{List, [], _∷_, _++_, append-nil}
+use lib.ListN.{length, take, drop, getD, set, length-set, length-take, length-drop, length-append, drop-of-length-le}
+use borrow.Author.Needs.{needs}
+use Rattle.exact_fixed.proofs.start_one.Statement.{statement}
+use Rattle.exact_fixed.proofs.start_one.Tie as tie
+use Rattle.exact_fixed.proofs.start_one.Reads as reads
+use Rattle.exact_fixed.proofs.start_one.Lts as lts
+use Rattle.exact_fixed.proofs.evaluate_generalize_action.Reads as evaluate-generalize-action-reads
+use Rattle.exact_fixed.proofs.give.Reads as give-reads
+use Rattle.exact_fixed.proofs.short.Reads as short-reads
+use Rattle.exact_fixed.proofs.start_mass.Reads as start-mass-reads
+use Rattle.exact_fixed.proofs.start_size.Reads as start-size-reads
+
+-- src/lib.rt:190:9
+evaluate-generalize-action-requires : tie.Need-evaluate-generalize-action-requires
+evaluate-generalize-action-requires c κs = search needs
+
+-- src/lib.rt:193:13
+enum-told : tie.Need-enum-told
+enum-told c = search needs
+
+-- src/lib.rt:193:13
+same-length : tie.Need-same-length
+same-length c = search needs
+
+-- src/lib.rt:193:13
+same-length-2 : tie.Need-same-length-2
+same-length-2 c = search needs
+
+-- src/lib.rt:193:13
+same-length-3 : tie.Need-same-length-3
+same-length-3 c = search needs
+
+-- src/lib.rt:193:13
+returns : tie.Need-returns
+returns c = ?
+
+-- src/lib.rt:195:23
+enum-known-e : tie.Need-enum-known-e
+enum-known-e c = search needs
+
+-- src/lib.rt:196:17
+start-size-requires : tie.Need-start-size-requires
+start-size-requires c κs = search needs
+
+-- src/lib.rt:197:17
+start-mass-requires : tie.Need-start-mass-requires
+start-mass-requires c κs = search needs
+
+-- src/lib.rt:198:40
+short-requires : tie.Need-short-requires
+short-requires c κs = search needs
+
+-- src/lib.rt:198:13
+give-requires : tie.Need-give-requires
+give-requires c κs = search needs
+
+-- src/lib.rt:199:13
+same-length-4 : tie.Need-same-length-4
+same-length-4 c = search needs
+
+-- src/lib.rt:199:13
+same-length-5 : tie.Need-same-length-5
+same-length-5 c = search needs
+
+-- src/lib.rt:199:13
+same-length-6 : tie.Need-same-length-6
+same-length-6 c = search needs
+
+-- src/lib.rt:199:13
+same-length-7 : tie.Need-same-length-7
+same-length-7 c = search needs
+
+-- src/lib.rt:199:13
+returns-2 : tie.Need-returns-2
+returns-2 c = ?
+
+pub start-one-spec : {M : Type 1} → statement M
+start-one-spec =
+    tie.close
+    (tie.spec
+    evaluate-generalize-action-requires
+    enum-told
+    same-length
+    same-length-2
+    same-length-3
+    returns
+    enum-known-e
+    start-size-requires
+    start-mass-requires
+    short-requires
+    give-requires
+    same-length-4
+    same-length-5
+    same-length-6
+    same-length-7
+    returns-2)

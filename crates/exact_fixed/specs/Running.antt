@@ -1,0 +1,112 @@
+-- The rounds: "The run is complete at the first finished round without change." "one cut short leaves every quality as it was"
+use mathlib.Core.Path.{_≡_, refl, sym, ap, ap₂, _∙_}
+use mathlib.Core.Bool.{Bool, true, false}
+use mathlib.Core.List.{List, [], _∷_, _++_, map}
+use Prim.Native.Nat.{ℕ, zero, suc, _+_, _≤_, _<_}
+use native.Mathlib.Omega.{arith}
+use native.Mathlib.Numerals.{add-one}
+use lib.ListN.{length, getD}
+use Rattle.spec.specs.Bytes.{any, Two, Res, ok, refused, Checked, passed, cutShort}
+use Rattle.spec.specs.Image.{Tables}
+use Rattle.spec.specs.Pool.{Pool}
+use Rattle.spec.specs.Round.{Turn, changes, Terms}
+use Rattle.spec.specs.Run as run
+use Rattle.spec.specs.Run.{State, outcome}
+use Rattle.spec.specs.Listing.{listingOf}
+use Rattle.lgg.specs.PoolIntern.{Extends, extends-refl, extends-within}
+use Rattle.lgg.specs.Rounds.{Closed}
+use Rattle.lgg.specs.RoundsFrom.{turnsAt, roundAt, stateAfter, roundsOf, rounds-expired, rounds-refused, rounds-cut, rounds-quiet, rounds-next, round-left}
+use Rattle.lgg.specs.Standing.{Standing, standing-next, listing-cut}
+use Rattle.terms.specs.Buffers.{poolOf, nodesIn, part, countIn}
+use Rattle.terms.specs.PoolLaws.{pool-length}
+use Rattle.terms.specs.Chains.{Holds}
+use Rattle.exact_fixed.specs.Arrays.{twos, NEW, qualitiesIn, termsIn, stateIn}
+use Rattle.exact_fixed.specs.ArrayLaws.{twos-at}
+use Rattle.terms.specs.PartLaws.{part-at}
+use Rattle.exact_fixed.specs.Graphs.{Graphs, Reads}
+use Rattle.exact_fixed.specs.Turning.{Turning, turns-done, turns-changed, turns-qualities}
+use Rattle.exact_fixed.specs.Answers.{outcomeIn, RanTo}
+use Rattle.exact_fixed.specs.declared.Outcome.{Outcome}
+use Rattle.exact_fixed.specs.declared.Ran.the-variants as R
+
+-- the outcome that the arrays report
+abbrev pub reportedIn : List ℕ → Bool → ℕ → ℕ → Outcome
+reportedIn pairs complete n rounds = record { complete = complete; pairs = n; rounds = rounds; size = getD pairs 0 0; mass = getD pairs 4096 0; root = getD pairs 8192 0 }
+
+-- between two rounds: b checks are left, and the rounds come to m
+pub record Running (t : Tables) (ps : List Two) (m : Res run.Outcome) (pairs terms runs : List ℕ) (rounds b : ℕ) : Type 0 where
+  pub rest : m ≡ roundsOf t ps (stateIn pairs terms runs (length ps) rounds b)
+  pub standing : Standing t ps (stateIn pairs terms runs (length ps) rounds b)
+  pub long : 24576 ≤ length pairs
+  pub holds : Holds terms runs
+
+-- the round is over the state, whatever it counts
+pub standing-any : (t : Tables) (ps : List Two) (pairs terms runs : List ℕ) (n r b c d : ℕ) → Standing t ps (stateIn pairs terms runs n r b) → Standing t ps (stateIn pairs terms runs n c d)
+standing-any t ps pairs terms runs n r b c d S = record { many = S .many; named = S .named; valid = S .valid; within = S .within; low = S .low; small = S .small }
+
+module _ (t : Tables) (ps : List Two) (m : Res run.Outcome) (pairs terms runs : List ℕ) (rounds b : ℕ) (some : 0 < length ps) (X : Running t ps m pairs terms runs rounds b) where
+  abbrev State′ : State
+  State′ = stateIn pairs terms runs (length ps) rounds b
+
+  -- the first pair's numbers, where the arrays still read the state
+  report : (pairs′ : List ℕ) → Reads State′ pairs′ (length ps) → (complete : Bool) (pool : Pool)
+      → _≡_ {A = run.Outcome} (record { complete = complete; pairs = length ps; rounds = rounds; quality = getD (State′ .qualities) 0 (0, 0); pool = pool; root = getD (State′ .terms) 0 0 })
+        (record { complete = complete; pairs = length ps; rounds = rounds; quality = (getD pairs′ 0 0, getD pairs′ 4096 0); pool = pool; root = getD pairs′ 8192 0 })
+  report pairs′ R complete pool =
+      let q : getD (State′ .qualities) 0 (0, 0) ≡ (getD pairs′ 0 0, getD pairs′ 4096 0) = ap (λ (l : List Two). getD l 0 (0, 0)) (sym (R .qualities)) ∙ twos-at pairs′ pairs′ 0 4096 (length ps) 0 some in
+      let r : getD (State′ .terms) 0 0 ≡ getD pairs′ 8192 0 = ap (λ (l : List ℕ). getD l 0 0) (sym (R .terms)) ∙ part-at pairs′ 8192 (length ps) 0 some in
+      λ i. record { complete = complete; pairs = length ps; rounds = rounds; quality = q i; pool = pool; root = r i }
+
+  -- the run ends with the state, in a pool that may have grown
+  ends : (complete : Bool) (pairs′ terms′ runs′ : List ℕ) → m ≡ ok (outcome complete ps State′) → Reads State′ pairs′ (length ps) → Holds terms′ runs′ → Extends (poolOf terms runs) (poolOf terms′ runs′)
+      → RanTo m terms′ runs′ (R.Done (reportedIn pairs′ complete (length ps) rounds))
+  ends complete pairs′ terms′ runs′ e R H g =
+      let same = report pairs′ R complete (poolOf terms′ runs′) in
+      let root : getD (State′ .terms) 0 0 ≡ getD pairs′ 8192 0 = ap (λ (o : run.Outcome). o .root) same in
+      (
+        outcome complete ps State′,
+        e,
+        listing-cut t ps State′ complete (poolOf terms′ runs′) (X .standing) some (H .valid) g ∙ ap listingOf same,
+        H,
+        omega (arith, root, extends-within g (getD (State′ .terms) 0 0) (X .standing .within 0 some), pool-length terms′ runs′)
+      )
+
+  pub run-expired : b ≡ 0 → RanTo m terms runs (R.Done (reportedIn pairs false (length ps) rounds))
+  run-expired e = ends false pairs terms runs (X .rest ∙ rounds-expired t ps State′ e) (record { long = X .long; qualities = refl; terms = refl }) (X .holds) (extends-refl (poolOf terms runs))
+
+  module _ (c : ℕ) (left : b ≡ c + 1) where
+    pub run-refused : roundAt t ps State′ c ≡ refused 13 → RanTo m terms runs (R.Stopped 13)
+    run-refused e = X .rest ∙ rounds-refused t ps State′ c left 13 e
+
+    pub run-cut : (pairs′ terms′ runs′ : List ℕ) → roundAt t ps State′ c ≡ ok cutShort → Reads State′ pairs′ (length ps) → Holds terms′ runs′ → Extends (poolOf terms runs) (poolOf terms′ runs′)
+        → RanTo m terms′ runs′ (R.Done (reportedIn pairs′ false (length ps) rounds))
+    run-cut pairs′ terms′ runs′ e R H g = ends false pairs′ terms′ runs′ (X .rest ∙ rounds-cut t ps State′ c left e) R H g
+
+    module _ (pairs′ terms′ runs′ : List ℕ) (d : ℕ) (changed : Bool) (T : Turning t ps State′ (roundAt t ps State′ c) pairs′ terms′ runs′ (length ps) d changed) where
+      abbrev After : Terms
+      After = record { pool = poolOf terms′ runs′; terms = termsIn pairs′ NEW (length ps) }
+
+      pub run-quiet : changed ≡ false → RanTo m terms′ runs′ (R.Done (reportedIn pairs′ true (length ps) rounds))
+      run-quiet q =
+          ends true pairs′ terms′ runs′
+          (X .rest ∙ rounds-quiet t ps State′ c left After d (turns-done t ps State′ (roundAt t ps State′ c) pairs′ terms′ runs′ d changed T) (sym (turns-changed t ps State′ (roundAt t ps State′ c) pairs′ terms′ runs′ d changed T) ∙ q))
+          (T .reads) (T .holds) (T .midway .grown)
+
+      -- the checks of the round
+      pub run-left : c ≡ length ps + d
+      run-left = round-left t ps c d State′ After (turns-done t ps State′ (roundAt t ps State′ c) pairs′ terms′ runs′ d changed T)
+
+      pub run-next : Closed t ps → changed ≡ true → (pairs″ : List ℕ) → length pairs″ ≡ length pairs′ → qualitiesIn pairs″ 0 (length ps) ≡ qualitiesIn pairs′ NEW (length ps) → termsIn pairs″ 0 (length ps) ≡ termsIn pairs′ NEW (length ps)
+          → Running t ps m pairs″ terms′ runs′ (rounds + 1) d
+      run-next closed q pairs″ l eq et =
+          let done = turns-done t ps State′ (roundAt t ps State′ c) pairs′ terms′ runs′ d changed T in
+          let qs : qualitiesIn pairs″ 0 (length ps) ≡ map (λ w. w .quality) (turnsAt t ps State′) = eq ∙ turns-qualities t ps State′ (roundAt t ps State′ c) pairs′ terms′ runs′ d changed T in
+          let one = add-one rounds in
+          let next : stateAfter State′ (turnsAt t ps State′) After d ≡ stateIn pairs″ terms′ runs′ (length ps) (rounds + 1) d =
+              λ i. record { pool = poolOf terms′ runs′; qualities = sym qs i; terms = sym et i; rounds = sym one i; budget = d } in
+          record {
+            rest = X .rest ∙ rounds-next t ps State′ c left After d done (sym (turns-changed t ps State′ (roundAt t ps State′ c) pairs′ terms′ runs′ d changed T) ∙ q) ∙ ap (roundsOf t ps) next;
+            standing = rw (← next) (standing-next t ps State′ (X .standing) closed c d After done);
+            long = omega (arith, T .reads .long);
+            holds = T .holds;
+          }
