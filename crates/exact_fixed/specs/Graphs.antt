@@ -21,8 +21,8 @@ use Rattle.quality.specs.Known.{numberIn, qualityIn, termIn, Known}
 use Rattle.terms.specs.Buffers.{countIn, poolOf, nodesIn, part}
 use Rattle.terms.specs.PoolLaws.{pool-length}
 use Rattle.terms.specs.PartLaws.{part-at}
-use Rattle.exact_fixed.specs.Arrays.{twos, qualitiesIn, termsIn}
-use Rattle.exact_fixed.specs.ArrayLaws.{twos-at}
+use Rattle.exact_fixed.specs.Arrays.{twos, pairsIn, qualitiesIn, termsIn}
+use Rattle.exact_fixed.specs.ArrayLaws.{twos-length, twos-at}
 
 -- every pair is one of classes of the image
 abbrev pub InRange : Tables → List Two → Type 0
@@ -86,3 +86,16 @@ module _ (t : Tables) (ps : List Two) (n : ℕ) (index : List ℕ) (G : Graphs t
     terms-here from j done terms runs e M k h =
         let z : getD (s .terms) k 0 < length from = rw e (S .within k (omega (arith, G .many))) in
         omega (arith, term-here k h, extends-within (M .grown) (getD (s .terms) k 0) z, pool-length terms runs)
+
+-- ---- pair k, by its classes in the arrays
+module _ (t : Tables) (lefts rights : List ℕ) (n k : ℕ) (h : k < n) where
+  pub pair-at : (l r : ℕ) → l ≡ getD lefts k 0 → r ≡ getD rights k 0 → _≡_ {A = Two} (l, r) (getD (pairsIn lefts rights n) k (0, 0))
+  pair-at l r e f =
+      let z : k ≡ 0 + k = omega arith in
+      ap₂ (λ (x y : ℕ). (x, y)) (e ∙ ap (λ (i : ℕ). getD lefts i 0) z) (f ∙ ap (λ (i : ℕ). getD rights i 0) z) ∙ sym (twos-at lefts rights 0 0 n k h)
+
+  pub pair-ranged : InRange t (pairsIn lefts rights n) → (l r : ℕ) → l ≡ getD lefts k 0 → r ≡ getD rights k 0 → (l < length (t .classes)) × (r < length (t .classes))
+  pair-ranged i l r e f =
+      let z = i (getD (pairsIn lefts rights n) k (0, 0)) (get-in (pairsIn lefts rights n) k (omega (arith, twos-length lefts rights 0 0 n))) in
+      let q = pair-at l r e f in
+      (omega (arith, z .0, ap (λ (p : Two). p .0) q), omega (arith, z .1, ap (λ (p : Two). p .1) q))

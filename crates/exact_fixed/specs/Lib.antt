@@ -2,6 +2,7 @@ pub mod Arrays
 pub mod ArrayLaws
 pub mod Settling
 pub mod StartSizes
+pub mod Spending
 pub mod Graphs
 pub mod Starting
 pub mod Turning

@@ -5,7 +5,7 @@ use mathlib.Core.List.{List, [], _∷_, _++_, map}
 use Prim.Native.Nat.{ℕ, zero, suc, _+_, _≤_, _<_}
 use native.Mathlib.Omega.{arith}
 use native.Mathlib.Numerals.{add-one}
-use lib.ListN.{length, getD, take}
+use lib.ListN.{length, getD, take, replicate}
 use lib.Seq.{take-suc, take-all}
 use Rattle.spec.specs.Bytes.{Two, Res, ok, refused, Checked, passed, cutShort}
 use Rattle.spec.specs.Image.{Tables}
@@ -96,3 +96,12 @@ module _ (t : Tables) (ps : List Two) (whole : Res (Checked Terms)) (from : Pool
 
   pub start-qualities : qualitiesIn pairs 0 (length ps) ≡ map (startingQuality t) ps
   start-qualities = X .qualities ∙ ap (map (startingQuality t)) (take-all (length ps) ps (omega arith))
+
+-- no best term is kept yet
+pub kept-none : (t : Tables) (p : Pool) (n : ℕ) → Kept t p (replicate n 0)
+kept-none t p n c h k = absurd (omega (arith, zeros n c))
+  where
+    zeros : (n i : ℕ) → _≡_ {A = ℕ} (getD (replicate n 0) i 0) 0
+    zeros zero i = refl
+    zeros (suc n) zero = refl
+    zeros (suc n) (suc i) = zeros n i

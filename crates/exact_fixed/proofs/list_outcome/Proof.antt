@@ -1,3 +1,5 @@
+use Rattle.exact_fixed.specs.Answers.{outcomeIn}
+use Rattle.exact_fixed.specs.AnswerLaws.{answer-bytes, answer-full}
 use borrow.Author.Tests.{lt-ltb, le-ltb, le-leb, lt-leb, eq-eqb, ne-eqb}
 use Prim.Native.Nat.{ℕ, zero, suc, _≤_, _<_, _-_, _+_, _*_, _^_}
 use native.Mathlib.Omega.{arith}
@@ -43,7 +45,11 @@ same-length-2 c = search needs
 
 -- src/lib.rt:275:13
 returns : tie.Need-returns
-returns c = ?
+returns c =
+    let s = c .before .before .before .before .before .before .before .before .before .before .before .before .before .before .before .before in
+    let a = s .args in
+    let x = c .before .before .before .before .before .before .list .ensures in
+    answer-full (outcomeIn (a .o) (a .terms .now) (a .runs .now)) (a .out .now) _ (sym (c .enum-told .given .1) ∙ x .answer) (x .output)
 
 -- src/lib.rt:277:24
 enum-known-w : tie.Need-enum-known-w
@@ -59,7 +65,11 @@ same-length-4 c = search needs
 
 -- src/lib.rt:278:13
 returns-2 : tie.Need-returns-2
-returns-2 c = ?
+returns-2 c =
+    let s = c .before .before .before .before .before .before .before .before .before .before .before .before .before .before .before .before .before in
+    let a = s .args in
+    let x = c .before .before .before .before .before .before .before .list .ensures in
+    answer-bytes (outcomeIn (a .o) (a .terms .now) (a .runs .now)) (a .out .now) _ _ (sym (c .before .w .given .1) ∙ x .answer) (x .output)
 
 pub list-outcome-spec : {M : Type 1} → statement M
 list-outcome-spec =

@@ -31,7 +31,7 @@ num-requires c κs = search needs
 
 -- src/lib.rt:239:1
 returns : tie.Need-returns
-returns c = ?
+returns c = ap (λ (x : ℕ). record { complete = c .before .before .before .before .before .args .complete; pairs = c .before .before .before .before .before .args .n; rounds = c .before .before .before .before .before .args .rounds; size = getD (c .before .before .before .before .before .args .pairs .now) 0 0; mass = getD (c .before .before .before .before .before .args .pairs .now) 4096 0; root = x }) (c .num .ensures .0)
 
 pub reported-spec : {M : Type 1} → statement M
 reported-spec =
