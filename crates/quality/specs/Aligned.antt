@@ -16,21 +16,24 @@ use Rattle.quality.specs.declared.Best.{Best}
 abbrev pub actAt : Tables → State → Choice
 actAt t v = act (actionAt t v .op) (actionAt t v .pairs) (ones (actionAt t v .pairs))
 
+-- what was chosen; a plan is not chosen among structural actions
 abbrev pub choiceAt : Tables → How → Choice
 choiceAt t Stay = stay
 choiceAt t (Aligned v) = actAt t v
 choiceAt t (Plan o n) = stay
 
--- an action stands at the state chosen; no plan is chosen yet
+-- an action stands at the state chosen
 abbrev pub StandsAt : Tables → How → Type 0
 StandsAt t Stay = Unit
 StandsAt t (Aligned v) = Stands t v
 StandsAt t (Plan o n) = ⊥
 
+-- the first strictly best of what the pair has and of what its structural actions give
 unfoldable pub afterAligned : Tables → (Two → Two) → Two → Turn
 unfolding offerActions structural
 afterAligned t q p = offerActions q (structural t (p .0) (p .1)) (record { quality = q p; choice = stay })
 
+-- b is that, and fits
 pub record Aligns (t : Tables) (q : Two → Two) (p : Two) (b : Best) : Type 0 where
   pub quality : (b .size, b .mass) ≡ afterAligned t q p .quality
   pub choice : choiceAt t (b .how) ≡ afterAligned t q p .choice

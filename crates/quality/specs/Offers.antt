@@ -1,14 +1,14 @@
 -- A pair's structural actions, offered one after the other.
 use mathlib.Core.Path.{_≡_, refl, sym, ap, _∙_}
 use mathlib.Core.Bool.{Bool, true, false}
-use mathlib.Core.List.{List, [], _∷_, map}
-use Prim.Native.Nat.{ℕ, suc, _+_, _<_, _^_}
+use mathlib.Core.List.{List, [], _∷_}
+use Prim.Native.Nat.{ℕ, _<_}
 use native.Mathlib.Omega.{arith}
 use lib.ListN.{length}
 use Rattle.spec.specs.Bytes.{Two, pick}
 use Rattle.spec.specs.Image.{Tables}
-use Rattle.spec.specs.Action.{Action, structural}
-use Rattle.spec.specs.Round.{better, qualityOver, ones, Choice, stay, Turn, offer, offerActions}
+use Rattle.spec.specs.Action.{Action, structural, transports}
+use Rattle.spec.specs.Round.{better, Choice, stay, Turn, offer, offerActions, offerTransports, turnOf}
 use Rattle.actions.specs.Remaining.{Stands, actionAt, afterOf, listFrom}
 use Rattle.actions.specs.declared.State.{State}
 use Rattle.quality.specs.declared.How.the-variants.{Stay, Aligned}
@@ -57,5 +57,11 @@ module _ (t : Tables) (q : Two → Two) (l r : ℕ) where
           small = (G .sound .1, G .sound .2);
         }
 
-  pub fewer : (w v u : State) → listFrom t l r w ≡ actionAt t v ∷ listFrom t l r (afterOf v) → u ≡ afterOf v → length (listFrom t l r u) < length (listFrom t l r w)
-  fewer w v u e f = omega (arith, ap (λ (z : List Action). length z) e, ap (λ (z : State). length (listFrom t l r z)) f)
+-- an action less is left behind the one found
+pub fewer : (t : Tables) (l r : ℕ) (w v u : State) → listFrom t l r w ≡ actionAt t v ∷ listFrom t l r (afterOf v) → u ≡ afterOf v → length (listFrom t l r u) < length (listFrom t l r w)
+fewer t l r w v u e f = omega (arith, ap (λ (z : List Action). length z) e, ap (λ (z : State). length (listFrom t l r z)) f)
+
+-- ---- the turn: transport comes behind
+pub turn-after : (t : Tables) (q : Two → Two) (p : Two) → turnOf t q p ≡ offerTransports q (transports t (p .0) (p .1)) (afterAligned t q p)
+unfolding turnOf afterAligned
+turn-after t q p = refl

@@ -1,6 +1,6 @@
-// Qualities by pair, and the best structural action of a pair (exact_fixed.rs, `relax`).
+// Qualities by pair, and the best structural action of a pair (exact_fixed.rs).
 ghost use mathlib.Core.Path.{_≡_};
-ghost use Prim.Native.Nat.{_+_, _*_, _^_, _≤_, _<_};
+ghost use Prim.Native.Nat.{_+_, _≤_, _<_};
 ghost use lib.ListN.{length, getD, set};
 ghost use Rattle.spec.specs.Image.{tablesOf};
 ghost use Rattle.spec.specs.Round as round;
@@ -33,7 +33,7 @@ pub struct Best {
 }
 
 // The quality of an action.
-struct Sum {
+struct Quality {
     size: u64,
     mass: u64,
 }
@@ -117,7 +117,14 @@ pub fn better(size: u64, mass: u64, b: Best) -> bool
 
 // ---- the structural actions of a pair
 // "An action gives 1 plus the sum of count × size, and the sum of count × mass."
-fn weigh(s: &[u8], im: Image, v: State, index: &[u16], pairs: &[u32], n: usize) -> Sum
+fn structural_quality(
+    s: &[u8],
+    im: Image,
+    v: State,
+    index: &[u16],
+    pairs: &[u32],
+    n: usize,
+) -> Quality
     requires { ⌜ Loaded (now s) im × Valid (tablesOf (now s)) × Stands (tablesOf (now s)) v × Known n (now index) (now pairs) ⌝ }
     ensures { λ x. ⌜ Weighs (qualityIn (now (index .entry)) (now (pairs .entry))) (actionAt (tablesOf (now (s .entry))) v) (x .size) (x .mass) ⌝ }
 {
@@ -132,7 +139,7 @@ fn weigh(s: &[u8], im: Image, v: State, index: &[u16], pairs: &[u32], n: usize) 
         mass += num8(mass_of(index, pairs, n, l, r));
         k += 1;
     }
-    Sum {
+    Quality {
         size: size,
         mass: mass,
     }
@@ -143,7 +150,7 @@ fn offer(s: &[u8], im: Image, v: State, index: &[u16], pairs: &[u32], n: usize, 
     requires { ⌜ Loaded (now s) im × Valid (tablesOf (now s)) × Stands (tablesOf (now s)) v × Known n (now index) (now pairs) ⌝ }
     ensures { λ x. ⌜ Offered (tablesOf (now (s .entry))) (qualityIn (now (index .entry)) (now (pairs .entry))) v b x ⌝ }
 {
-    let q = weigh(s, im, v, index, pairs, n);
+    let q = structural_quality(s, im, v, index, pairs, n);
     if better(q.size, q.mass, b) {
         return Best {
             size: q.size,
