@@ -14,8 +14,9 @@ use Rattle.spec.specs.Merge.{outputAfter}
 use Rattle.listing.specs.Lists as L
 use Rattle.listing.specs.declared.Written.{Written}
 use Rattle.listing.specs.declared.Written.the-variants as W
-use Rattle.exact_fixed.specs.Answers.{outcomeIn, RanTo, listedOf, answerOf, Answers}
+use Rattle.exact_fixed.specs.Answers.{outcomeIn, ranOf, Listable, RanTo, listedOf, answerOf, Answers}
 use Rattle.exact_fixed.specs.declared.Outcome.{Outcome}
+use Rattle.exact_fixed.specs.declared.Ran.{Ran}
 use Rattle.exact_fixed.specs.declared.Ran.the-variants as R
 use Rattle.exact_fixed.specs.declared.Answer.{Answer}
 use Rattle.exact_fixed.specs.declared.Answer.the-variants as A
@@ -64,3 +65,12 @@ unfolding listedOf
 answer-same m u v out out′ r e s X =
     let z : listedOf m (length out) ≡ listedOf (ok v) (length out) = rw e (ap (λ (l : List ℕ). rule 14 (leb (length l) (length out)) >>= λ _. ok l) s) in
     record { answer = X .answer ∙ sym z; output = X .output ∙ ap (outputAfter out) (sym z) }
+
+-- the answer of a run that came to m
+pub ran-listable : (m : Res run.Outcome) (terms runs : List ℕ) (x : Ran) → RanTo m terms runs x → Listable x terms runs
+ran-listable m terms runs (R.Stopped k) X = tt
+ran-listable m terms runs (R.Done o) X = (X .3, X .4)
+
+pub ran-answers : (m : Res run.Outcome) (terms runs : List ℕ) (x : Ran) (out out′ : List ℕ) (r : Answer) → RanTo m terms runs x → Answers (ranOf x terms runs) out out′ r → Answers m out out′ r
+ran-answers m terms runs (R.Stopped k) out out′ r X Y = rw X Y
+ran-answers m terms runs (R.Done o) out out′ r X Y = answer-same m (X .0) (outcomeIn o terms runs) out out′ r (X .1) (X .2) Y

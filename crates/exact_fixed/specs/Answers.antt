@@ -21,6 +21,15 @@ use Rattle.exact_fixed.specs.declared.Answer.the-variants as A
 abbrev pub outcomeIn : Outcome → List ℕ → List ℕ → run.Outcome
 outcomeIn o terms runs = record { complete = o .complete; pairs = o .pairs; rounds = o .rounds; quality = (o .size, o .mass); pool = poolOf terms runs; root = o .root }
 
+-- what is answered of a run: an outcome whose pool the buffers hold, or a refusal
+abbrev pub ranOf : Ran → List ℕ → List ℕ → Res run.Outcome
+ranOf (R.Stopped k) terms runs = refused k
+ranOf (R.Done o) terms runs = ok (outcomeIn o terms runs)
+
+abbrev pub Listable : Ran → List ℕ → List ℕ → Type 0
+Listable (R.Stopped k) terms runs = Unit
+Listable (R.Done o) terms runs = Holds terms runs × (o .root < countIn terms)
+
 -- The buffers hold the outcome of a run that came to m; a pool that is larger gives the same listing.
 abbrev pub RanTo : Res run.Outcome → List ℕ → List ℕ → Ran → Type 0
 RanTo m terms runs (R.Stopped k) = m ≡ refused k

@@ -6,6 +6,14 @@ pub mod Spending
 pub mod Graphs
 pub mod Starting
 pub mod Turning
+pub mod Taking
+pub mod TakeLaws
 pub mod Answers
 pub mod AnswerLaws
 pub mod Running
+pub mod RunLaws
+pub mod Building
+pub mod Beginning
+pub mod GraphLaws
+pub mod BeginLaws
+pub mod FinishLaws

@@ -33,80 +33,89 @@ use Rattle.exact_fixed.specs.declared.Ran.the-variants as R
 abbrev pub reportedIn : List ℕ → Bool → ℕ → ℕ → Outcome
 reportedIn pairs complete n rounds = record { complete = complete; pairs = n; rounds = rounds; size = getD pairs 0 0; mass = getD pairs 4096 0; root = getD pairs 8192 0 }
 
--- between two rounds: b checks are left, and the rounds come to m
-pub record Running (t : Tables) (ps : List Two) (m : Res run.Outcome) (pairs terms runs : List ℕ) (rounds b : ℕ) : Type 0 where
-  pub rest : m ≡ roundsOf t ps (stateIn pairs terms runs (length ps) rounds b)
-  pub standing : Standing t ps (stateIn pairs terms runs (length ps) rounds b)
+-- between two rounds over n pairs: b checks are left, and the rounds come to m
+pub record Running (t : Tables) (ps : List Two) (n : ℕ) (m : Res run.Outcome) (pairs terms runs : List ℕ) (rounds b : ℕ) : Type 0 where
+  pub rest : m ≡ roundsOf t ps (stateIn pairs terms runs n rounds b)
+  pub standing : Standing t ps (stateIn pairs terms runs n rounds b)
   pub long : 24576 ≤ length pairs
   pub holds : Holds terms runs
 
--- the round is over the state, whatever it counts
+-- what stands does not depend on what is counted
 pub standing-any : (t : Tables) (ps : List Two) (pairs terms runs : List ℕ) (n r b c d : ℕ) → Standing t ps (stateIn pairs terms runs n r b) → Standing t ps (stateIn pairs terms runs n c d)
 standing-any t ps pairs terms runs n r b c d S = record { many = S .many; named = S .named; valid = S .valid; within = S .within; low = S .low; small = S .small }
 
-module _ (t : Tables) (ps : List Two) (m : Res run.Outcome) (pairs terms runs : List ℕ) (rounds b : ℕ) (some : 0 < length ps) (X : Running t ps m pairs terms runs rounds b) where
-  abbrev State′ : State
-  State′ = stateIn pairs terms runs (length ps) rounds b
+module _ (t : Tables) (ps : List Two) (n : ℕ) (many : length ps ≡ n) (some : 0 < n) (m : Res run.Outcome) (pairs terms runs : List ℕ) (rounds b : ℕ) (X : Running t ps n m pairs terms runs rounds b) where
+  abbrev Here : State
+  Here = stateIn pairs terms runs n rounds b
+
+  -- the state that a round reads
+  abbrev Read : State
+  Read = stateIn pairs terms runs n 0 0
+
+  has-some : 0 < length ps
+  has-some = omega arith
 
   -- the first pair's numbers, where the arrays still read the state
-  report : (pairs′ : List ℕ) → Reads State′ pairs′ (length ps) → (complete : Bool) (pool : Pool)
-      → _≡_ {A = run.Outcome} (record { complete = complete; pairs = length ps; rounds = rounds; quality = getD (State′ .qualities) 0 (0, 0); pool = pool; root = getD (State′ .terms) 0 0 })
-        (record { complete = complete; pairs = length ps; rounds = rounds; quality = (getD pairs′ 0 0, getD pairs′ 4096 0); pool = pool; root = getD pairs′ 8192 0 })
+  report : (pairs′ : List ℕ) → Reads Read pairs′ (length ps) → (complete : Bool) (pool : Pool)
+      → _≡_ {A = run.Outcome} (record { complete = complete; pairs = length ps; rounds = rounds; quality = getD (Here .qualities) 0 (0, 0); pool = pool; root = getD (Here .terms) 0 0 })
+        (record { complete = complete; pairs = n; rounds = rounds; quality = (getD pairs′ 0 0, getD pairs′ 4096 0); pool = pool; root = getD pairs′ 8192 0 })
   report pairs′ R complete pool =
-      let q : getD (State′ .qualities) 0 (0, 0) ≡ (getD pairs′ 0 0, getD pairs′ 4096 0) = ap (λ (l : List Two). getD l 0 (0, 0)) (sym (R .qualities)) ∙ twos-at pairs′ pairs′ 0 4096 (length ps) 0 some in
-      let r : getD (State′ .terms) 0 0 ≡ getD pairs′ 8192 0 = ap (λ (l : List ℕ). getD l 0 0) (sym (R .terms)) ∙ part-at pairs′ 8192 (length ps) 0 some in
-      λ i. record { complete = complete; pairs = length ps; rounds = rounds; quality = q i; pool = pool; root = r i }
+      let q : getD (Here .qualities) 0 (0, 0) ≡ (getD pairs′ 0 0, getD pairs′ 4096 0) = ap (λ (l : List Two). getD l 0 (0, 0)) (sym (R .qualities)) ∙ twos-at pairs′ pairs′ 0 4096 (length ps) 0 has-some in
+      let r : getD (Here .terms) 0 0 ≡ getD pairs′ 8192 0 = ap (λ (l : List ℕ). getD l 0 0) (sym (R .terms)) ∙ part-at pairs′ 8192 (length ps) 0 has-some in
+      λ i. record { complete = complete; pairs = many i; rounds = rounds; quality = q i; pool = pool; root = r i }
 
   -- the run ends with the state, in a pool that may have grown
-  ends : (complete : Bool) (pairs′ terms′ runs′ : List ℕ) → m ≡ ok (outcome complete ps State′) → Reads State′ pairs′ (length ps) → Holds terms′ runs′ → Extends (poolOf terms runs) (poolOf terms′ runs′)
-      → RanTo m terms′ runs′ (R.Done (reportedIn pairs′ complete (length ps) rounds))
+  ends : (complete : Bool) (pairs′ terms′ runs′ : List ℕ) → m ≡ ok (outcome complete ps Here) → Reads Read pairs′ (length ps) → Holds terms′ runs′ → Extends (poolOf terms runs) (poolOf terms′ runs′)
+      → RanTo m terms′ runs′ (R.Done (reportedIn pairs′ complete n rounds))
   ends complete pairs′ terms′ runs′ e R H g =
       let same = report pairs′ R complete (poolOf terms′ runs′) in
-      let root : getD (State′ .terms) 0 0 ≡ getD pairs′ 8192 0 = ap (λ (o : run.Outcome). o .root) same in
+      let root : getD (Here .terms) 0 0 ≡ getD pairs′ 8192 0 = ap (λ (o : run.Outcome). o .root) same in
       (
-        outcome complete ps State′,
+        outcome complete ps Here,
         e,
-        listing-cut t ps State′ complete (poolOf terms′ runs′) (X .standing) some (H .valid) g ∙ ap listingOf same,
+        listing-cut t ps Here complete (poolOf terms′ runs′) (X .standing) has-some (H .valid) g ∙ ap listingOf same,
         H,
-        omega (arith, root, extends-within g (getD (State′ .terms) 0 0) (X .standing .within 0 some), pool-length terms′ runs′)
+        omega (arith, root, extends-within g (getD (Here .terms) 0 0) (X .standing .within 0 has-some), pool-length terms′ runs′)
       )
 
-  pub run-expired : b ≡ 0 → RanTo m terms runs (R.Done (reportedIn pairs false (length ps) rounds))
-  run-expired e = ends false pairs terms runs (X .rest ∙ rounds-expired t ps State′ e) (record { long = X .long; qualities = refl; terms = refl }) (X .holds) (extends-refl (poolOf terms runs))
+  pub run-expired : b ≡ 0 → RanTo m terms runs (R.Done (reportedIn pairs false n rounds))
+  run-expired e = ends false pairs terms runs (X .rest ∙ rounds-expired t ps Here e) (rw many (record { long = X .long; qualities = refl; terms = refl })) (X .holds) (extends-refl (poolOf terms runs))
 
   module _ (c : ℕ) (left : b ≡ c + 1) where
-    pub run-refused : roundAt t ps State′ c ≡ refused 13 → RanTo m terms runs (R.Stopped 13)
-    run-refused e = X .rest ∙ rounds-refused t ps State′ c left 13 e
+    pub run-refused : (terms′ runs′ : List ℕ) → roundAt t ps Read c ≡ refused 13 → RanTo m terms′ runs′ (R.Stopped 13)
+    run-refused terms′ runs′ e = X .rest ∙ rounds-refused t ps Here c left 13 e
 
-    pub run-cut : (pairs′ terms′ runs′ : List ℕ) → roundAt t ps State′ c ≡ ok cutShort → Reads State′ pairs′ (length ps) → Holds terms′ runs′ → Extends (poolOf terms runs) (poolOf terms′ runs′)
-        → RanTo m terms′ runs′ (R.Done (reportedIn pairs′ false (length ps) rounds))
-    run-cut pairs′ terms′ runs′ e R H g = ends false pairs′ terms′ runs′ (X .rest ∙ rounds-cut t ps State′ c left e) R H g
+    pub run-cut : (pairs′ terms′ runs′ : List ℕ) → (roundAt t ps Read c ≡ ok cutShort) × Reads Read pairs′ (length ps) × Holds terms′ runs′ × Extends (poolOf terms runs) (poolOf terms′ runs′)
+        → RanTo m terms′ runs′ (R.Done (reportedIn pairs′ false n rounds))
+    run-cut pairs′ terms′ runs′ (e, R, H, g) = ends false pairs′ terms′ runs′ (X .rest ∙ rounds-cut t ps Here c left e) R H g
 
-    module _ (pairs′ terms′ runs′ : List ℕ) (d : ℕ) (changed : Bool) (T : Turning t ps State′ (roundAt t ps State′ c) pairs′ terms′ runs′ (length ps) d changed) where
+    module _ (pairs′ terms′ runs′ : List ℕ) (d : ℕ) (changed : Bool) (T : Turning t ps Read (roundAt t ps Read c) pairs′ terms′ runs′ (length ps) d changed) where
       abbrev After : Terms
       After = record { pool = poolOf terms′ runs′; terms = termsIn pairs′ NEW (length ps) }
 
-      pub run-quiet : changed ≡ false → RanTo m terms′ runs′ (R.Done (reportedIn pairs′ true (length ps) rounds))
-      run-quiet q =
-          ends true pairs′ terms′ runs′
-          (X .rest ∙ rounds-quiet t ps State′ c left After d (turns-done t ps State′ (roundAt t ps State′ c) pairs′ terms′ runs′ d changed T) (sym (turns-changed t ps State′ (roundAt t ps State′ c) pairs′ terms′ runs′ d changed T) ∙ q))
-          (T .reads) (T .holds) (T .midway .grown)
+      done : roundAt t ps Read c ≡ ok (passed After d)
+      done = turns-done t ps Read (roundAt t ps Read c) pairs′ terms′ runs′ d changed T
+
+      told : changed ≡ any changes (turnsAt t ps Read)
+      told = turns-changed t ps Read (roundAt t ps Read c) pairs′ terms′ runs′ d changed T
+
+      pub run-quiet : changed ≡ false → RanTo m terms′ runs′ (R.Done (reportedIn pairs′ true n rounds))
+      run-quiet q = ends true pairs′ terms′ runs′ (X .rest ∙ rounds-quiet t ps Here c left After d done (sym told ∙ q)) (T .reads) (T .holds) (T .midway .grown)
 
       -- the checks of the round
       pub run-left : c ≡ length ps + d
-      run-left = round-left t ps c d State′ After (turns-done t ps State′ (roundAt t ps State′ c) pairs′ terms′ runs′ d changed T)
+      run-left = round-left t ps c d Here After done
 
-      pub run-next : Closed t ps → changed ≡ true → (pairs″ : List ℕ) → length pairs″ ≡ length pairs′ → qualitiesIn pairs″ 0 (length ps) ≡ qualitiesIn pairs′ NEW (length ps) → termsIn pairs″ 0 (length ps) ≡ termsIn pairs′ NEW (length ps)
-          → Running t ps m pairs″ terms′ runs′ (rounds + 1) d
+      pub run-next : Closed t ps → changed ≡ true → (pairs″ : List ℕ) → length pairs″ ≡ length pairs′ → qualitiesIn pairs″ 0 n ≡ qualitiesIn pairs′ NEW n → termsIn pairs″ 0 n ≡ termsIn pairs′ NEW n → Running t ps n m pairs″ terms′ runs′ (rounds + 1) d
       run-next closed q pairs″ l eq et =
-          let done = turns-done t ps State′ (roundAt t ps State′ c) pairs′ terms′ runs′ d changed T in
-          let qs : qualitiesIn pairs″ 0 (length ps) ≡ map (λ w. w .quality) (turnsAt t ps State′) = eq ∙ turns-qualities t ps State′ (roundAt t ps State′ c) pairs′ terms′ runs′ d changed T in
+          let qs : qualitiesIn pairs″ 0 n ≡ map (λ w. w .quality) (turnsAt t ps Here) = eq ∙ ap (λ (i : ℕ). qualitiesIn pairs′ NEW i) (sym many) ∙ turns-qualities t ps Read (roundAt t ps Read c) pairs′ terms′ runs′ d changed T in
+          let ts : termsIn pairs″ 0 n ≡ termsIn pairs′ NEW (length ps) = et ∙ ap (λ (i : ℕ). termsIn pairs′ NEW i) (sym many) in
           let one = add-one rounds in
-          let next : stateAfter State′ (turnsAt t ps State′) After d ≡ stateIn pairs″ terms′ runs′ (length ps) (rounds + 1) d =
-              λ i. record { pool = poolOf terms′ runs′; qualities = sym qs i; terms = sym et i; rounds = sym one i; budget = d } in
+          let next : stateAfter Here (turnsAt t ps Here) After d ≡ stateIn pairs″ terms′ runs′ n (rounds + 1) d =
+              λ i. record { pool = poolOf terms′ runs′; qualities = sym qs i; terms = sym ts i; rounds = sym one i; budget = d } in
           record {
-            rest = X .rest ∙ rounds-next t ps State′ c left After d done (sym (turns-changed t ps State′ (roundAt t ps State′ c) pairs′ terms′ runs′ d changed T) ∙ q) ∙ ap (roundsOf t ps) next;
-            standing = rw (← next) (standing-next t ps State′ (X .standing) closed c d After done);
+            rest = X .rest ∙ rounds-next t ps Here c left After d done (sym told ∙ q) ∙ ap (roundsOf t ps) next;
+            standing = rw (← next) (standing-next t ps Here (X .standing) closed c d After done);
             long = omega (arith, T .reads .long);
             holds = T .holds;
           }

@@ -18,10 +18,14 @@ use Rattle.lgg.specs.Refusals.{start-only}
 use Rattle.lgg.specs.BestMembers.{IsPair}
 use Rattle.lgg.specs.PoolIntern.{Extends}
 use Rattle.lgg.specs.TurnsFrom.{StartingAt, starting-begin, starting-cut, starting-turn, starting-refused, starting-end}
-use Rattle.lgg.specs.Standing.{Midway, midway-begin, starting-midway, Standing, standing-started, startState}
+use Rattle.lgg.specs.Standing.{Midway, midway-begin, starting-midway, starting-grows, Standing, standing-started, startState}
 use Rattle.terms.specs.Buffers.{poolOf, nodesIn, part}
 use Rattle.terms.specs.Chains.{Holds}
 use Rattle.terms.specs.Bests.{Kept}
+use Rattle.terms.specs.PoolLaws.{pool-length}
+use Rattle.terms.specs.Building.{full-told, term-told}
+use Rattle.terms.specs.Starting.{Starts}
+use Rattle.terms.specs.declared.Entered.the-variants as E
 use Rattle.exact_fixed.specs.Arrays.{twos, qualitiesIn, termsIn, given}
 use Rattle.exact_fixed.specs.ArrayLaws.{qualities-more, terms-more}
 use Rattle.exact_fixed.specs.Graphs.{InRange}
@@ -105,3 +109,26 @@ kept-none t p n c h k = absurd (omega (arith, zeros n c))
     zeros zero i = refl
     zeros (suc n) zero = refl
     zeros (suc n) (suc i) = zeros n i
+
+-- ---- one pair, from what `evaluate_generalize_action` says
+pub one-refused : (t : Tables) (c : Two) (terms runs best terms′ runs′ best′ : List ℕ) → Starts t c terms runs best terms′ runs′ best′ E.Full → (n : ℕ) × (startingTerm t (poolOf terms runs) c ≡ refused n)
+one-refused t c terms runs best terms′ runs′ best′ X = full-told (startingTerm t (poolOf terms runs) c) (X .answer)
+
+module _ (t : Tables) (v : Valid t) (c : Two) (ranged : IsPair t c) (terms runs best terms′ runs′ best′ : List ℕ) (h : Holds terms runs) (a : ℕ) (X : Starts t c terms runs best terms′ runs′ best′ (E.Term a)) where
+  made : (x : Interned) × (startingTerm t (poolOf terms runs) c ≡ ok x) × (x .term ≡ a)
+  made = term-told (startingTerm t (poolOf terms runs) c) a (X .answer)
+
+  -- a term's number is small
+  pub one-small : a < 4294967296
+  one-small =
+      let (x, e, f) = made in
+      let g = X .grows x e in
+      let w = starting-grows t v (poolOf terms runs) c x ranged (h .valid) e .within in
+      omega (arith, f, ap length (g .pool), pool-length terms′ runs′, g .holds .few)
+
+  pub one-has : (k size mass term : ℕ) (pairs pairs′ : List ℕ) → size ≡ startingQuality t c .0 → mass ≡ startingQuality t c .1 → term ≡ a → pairs′ ≡ given pairs k size mass term → HasStarted t c k (poolOf terms runs) pairs pairs′ terms′ runs′ best′
+  one-has k size mass term pairs pairs′ es em et ep =
+      let (x, e, f) = made in
+      let g = X .grows x e in
+      let n : given pairs k size mass term ≡ given pairs k (startingQuality t c .0) (startingQuality t c .1) (x .term) = rw (es, em, et, f) refl in
+      record { made = x; is = e; numbers = ep ∙ n; pool = g .pool; holds = g .holds; kept = rw (g .pool) (X .kept x e) }

@@ -1,0 +1,85 @@
+-- `finish`, by what `begin` answered.
+use mathlib.Core.Path.{_≡_, refl, sym, ap, ap₂, _∙_}
+use mathlib.Core.List.{List, [], _∷_, _++_, map}
+use Prim.Native.Nat.{ℕ, _+_, _≤_, _<_}
+use native.Mathlib.Omega.{arith}
+use lib.ListN.{length, replicate, length-replicate}
+use Rattle.spec.specs.Bytes.{Two, Res, ok, refused, _>>=_, Checked, passed, cutShort}
+use Rattle.spec.specs.Image.{Tables}
+use Rattle.spec.specs.Graph.{build, buildFrom}
+use Rattle.spec.specs.Pool.{Pool, Interned, interned, startingTerm}
+use Rattle.spec.specs.Run.{runOf, started, afterBuilding}
+use Rattle.laws.specs.Valid.{Valid}
+use Rattle.lgg.specs.BestMembers.{IsPair}
+use Rattle.lgg.specs.Pool.{PoolValid, empty-valid}
+use Rattle.lgg.specs.PoolIntern.{extends-refl}
+use Rattle.lgg.specs.Standing.{starting-grows}
+use Rattle.lgg.specs.RunFrom.{run-no-root, run-no-graph, run-cut-building}
+use Rattle.budget.specs.Budget.{budgetOf}
+use Rattle.budget.specs.declared.Budget.{Budget}
+use Rattle.terms.specs.Buffers.{poolOf, nodesIn, countIn}
+use Rattle.terms.specs.PoolLaws.{pool-length}
+use Rattle.terms.specs.Chains.{Holds}
+use Rattle.exact_fixed.specs.RunLaws.{startedIn, ran-started}
+use Rattle.exact_fixed.specs.Answers.{RanTo}
+use Rattle.exact_fixed.specs.Beginning.{begunOf, Ready}
+use Rattle.exact_fixed.specs.declared.Ran.{Ran}
+use Rattle.exact_fixed.specs.declared.Ran.the-variants as R
+use Rattle.exact_fixed.specs.declared.Begun.{Begun}
+use Rattle.exact_fixed.specs.declared.Begun.the-variants as B
+
+-- ---- what an answer of `begin` says
+
+cut-says : (x : Res Interned) (g : Res (Checked (List Two))) (root : ℕ) → B.Cut root ≡ begunOf x g → (a : Interned) × (x ≡ ok a) × (a .term ≡ root) × (g ≡ ok cutShort)
+cut-says (refused n) g root e = absurd (let z : _≡_ {A = ℕ} 0 1 = cc in omega arith)
+cut-says (ok a) (refused n) root e = absurd (let z : _≡_ {A = ℕ} 0 1 = cc in omega arith)
+cut-says (ok a) (ok cutShort) root e = (a, refl, cc, refl)
+cut-says (ok a) (ok (passed ps c)) root e = absurd (let z : _≡_ {A = ℕ} 0 1 = cc in omega arith)
+
+all-says : (x : Res Interned) (g : Res (Checked (List Two))) (root n : ℕ) (b : Budget) → B.All root n b ≡ begunOf x g → (a : Interned) × (ps : List Two) × (c : ℕ) × (x ≡ ok a) × (a .term ≡ root) × (g ≡ ok (passed ps c)) × (length ps ≡ n) × (b .left ≡ c)
+all-says (refused k) g root n b e = absurd (let z : _≡_ {A = ℕ} 0 1 = cc in omega arith)
+all-says (ok a) (refused k) root n b e = absurd (let z : _≡_ {A = ℕ} 0 1 = cc in omega arith)
+all-says (ok a) (ok cutShort) root n b e = absurd (let z : _≡_ {A = ℕ} 0 1 = cc in omega arith)
+all-says (ok a) (ok (passed ps c)) root n b e =
+    let y : b ≡ budgetOf c = cc in
+    (a, ps, c, refl, cc, refl, cc, ap (λ (z : Budget). z .left) y)
+
+module _ (t : Tables) (p : Two) (budget : ℕ) (ls rs ix ts us : List ℕ) where
+  pub finish-stopped : (k : ℕ) → Ready t p budget (B.Stopped k) ls rs ix ts us → RanTo (runOf t p budget) ts us (R.Stopped k)
+  finish-stopped k X = go (startingTerm t [] p) refl (build t p budget) refl (X .answer)
+    where
+      go : (x : Res Interned) → startingTerm t [] p ≡ x → (g : Res (Checked (List Two))) → build t p budget ≡ g → B.Stopped k ≡ begunOf x g → runOf t p budget ≡ refused k
+      go (refused n) e g f q = let z : n ≡ k = cc in run-no-root t p budget n e ∙ ap (λ (i : ℕ). refused i) z
+      go (ok a) e (refused n) f q = let z : n ≡ k = cc in run-no-graph t p budget a e n f ∙ ap (λ (i : ℕ). refused i) z
+      go (ok a) e (ok cutShort) f q = absurd (let z : _≡_ {A = ℕ} 0 1 = cc in omega arith)
+      go (ok a) e (ok (passed ps c)) f q = absurd (let z : _≡_ {A = ℕ} 0 1 = cc in omega arith)
+
+  module _ (v : Valid t) (i : IsPair t p) where
+    pub finish-cut : (root : ℕ) → Ready t p budget (B.Cut root) ls rs ix ts us → RanTo (runOf t p budget) ts us (R.Done (startedIn t p 1 root))
+    finish-cut root X =
+        let (a, e, f, g) = cut-says (startingTerm t [] p) (build t p budget) root (X .answer) in
+        let W = starting-grows t v [] p a i empty-valid e in
+        let z = ran-started t p (runOf t p budget) a 1 ts us (run-cut-building t p budget a e g) (W .valid) (W .within) (X .holds a e) (rw (X .pool a e) (extends-refl (a .pool))) in
+        rw f at z
+
+    module _ (root n : ℕ) (b : Budget) (X : Ready t p budget (B.All root n b) ls rs ix ts us) where
+      pub all-root : root < countIn ts
+      all-root =
+          let (a, ps, c, e, f, g, h, k) = all-says (startingTerm t [] p) (build t p budget) root n b (X .answer) in
+          let W = starting-grows t v [] p a i empty-valid e in
+          omega (arith, f, W .within, ap length (X .pool a e), pool-length ts us)
+
+      pub all-holds : Holds ts us
+      all-holds = let (a, ps, c, e, f, g, h, k) = all-says (startingTerm t [] p) (build t p budget) root n b (X .answer) in X .holds a e
+
+      -- the run is what follows building
+      run-after : (a : Interned) (g : Checked (List Two)) → startingTerm t [] p ≡ ok a → build t p budget ≡ ok g → runOf t p budget ≡ afterBuilding t p a g
+      unfolding runOf
+      run-after a g e f = rw (e, f) refl
+
+      pub all-runs : (ps : List Two) → ((c : ℕ) (qs : List Two) → build t p budget ≡ ok (passed qs c) → qs ≡ ps) → runOf t p budget ≡ afterBuilding t p (interned (poolOf ts us) root) (passed ps (b .left))
+      all-runs ps same =
+          let (a, qs, c, e, f, g, h, k) = all-says (startingTerm t [] p) (build t p budget) root n b (X .answer) in
+          let r : a ≡ interned (poolOf ts us) root = λ j. record { pool = sym (X .pool a e) j; term = f j } in
+          let s = same c qs g in
+          run-after a (passed qs c) e g ∙ ap₂ (λ (y : Interned) (z : Checked (List Two)). afterBuilding t p y z) r (ap₂ (λ (y : List Two) (z : ℕ). passed y z) s (sym k))
