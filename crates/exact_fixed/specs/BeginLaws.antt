@@ -19,12 +19,12 @@ use Rattle.terms.specs.Growing.{Grows}
 use Rattle.terms.specs.Building.{full-told, term-told}
 use Rattle.terms.specs.Starting.{Starts}
 use Rattle.terms.specs.declared.Entered.the-variants as E
-use Rattle.exact_fixed.specs.Building.{builtOf, Builds}
+use Rattle.graph.specs.Building.{builtOf, Builds}
 use Rattle.exact_fixed.specs.Beginning.{begunOf, ifRooted, Begins}
 use Rattle.exact_fixed.specs.declared.Begun.{Begun}
 use Rattle.exact_fixed.specs.declared.Begun.the-variants as B
-use Rattle.exact_fixed.specs.declared.Built.{Built}
-use Rattle.exact_fixed.specs.declared.Built.the-variants as G
+use Rattle.graph.specs.declared.Built.{Built}
+use Rattle.graph.specs.declared.Built.the-variants as G
 
 -- ---- building's answer
 built-full : (g : Res (Checked (List Two))) → G.Full ≡ builtOf g → (n : ℕ) × (g ≡ refused n)

@@ -14,7 +14,7 @@ use Rattle.terms.specs.Buffers.{poolOf, nodesIn}
 use Rattle.terms.specs.Chains.{Holds}
 use Rattle.terms.specs.Emptying.{emptied}
 use Rattle.terms.specs.Growing.{Grows}
-use Rattle.exact_fixed.specs.Building.{leftsAfter, rightsAfter, indexAfter, numbered}
+use Rattle.graph.specs.Building.{leftsAfter, rightsAfter, indexAfter, numbered}
 use Rattle.exact_fixed.specs.Answers.{listedOf, answerOf}
 use Rattle.exact_fixed.specs.declared.Begun.{Begun}
 use Rattle.exact_fixed.specs.declared.Begun.the-variants as B

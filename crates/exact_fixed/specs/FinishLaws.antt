@@ -20,6 +20,10 @@ use Rattle.budget.specs.declared.Budget.{Budget}
 use Rattle.terms.specs.Buffers.{poolOf, nodesIn, countIn}
 use Rattle.terms.specs.PoolLaws.{pool-length}
 use Rattle.terms.specs.Chains.{Holds}
+use Rattle.graph.specs.Building.{leftsAfter, rightsAfter, indexAfter, numbered, over}
+use Rattle.exact_fixed.specs.Arrays.{twos, pairsIn}
+use Rattle.exact_fixed.specs.Graphs.{Graphs}
+use Rattle.exact_fixed.specs.GraphLaws.{pairs-laid, graphs-built}
 use Rattle.exact_fixed.specs.RunLaws.{startedIn, ran-started}
 use Rattle.exact_fixed.specs.Answers.{RanTo}
 use Rattle.exact_fixed.specs.Beginning.{begunOf, Ready}
@@ -77,9 +81,25 @@ module _ (t : Tables) (p : Two) (budget : ℕ) (ls rs ix ts us : List ℕ) where
       unfolding runOf
       run-after a g e f = rw (e, f) refl
 
-      pub all-runs : (ps : List Two) → ((c : ℕ) (qs : List Two) → build t p budget ≡ ok (passed qs c) → qs ≡ ps) → runOf t p budget ≡ afterBuilding t p (interned (poolOf ts us) root) (passed ps (b .left))
-      all-runs ps same =
-          let (a, qs, c, e, f, g, h, k) = all-says (startingTerm t [] p) (build t p budget) root n b (X .answer) in
+      -- the arrays hold the graph
+      arrays : (a : Interned) (ps : List Two) (c : ℕ) → startingTerm t [] p ≡ ok a → build t p budget ≡ ok (passed ps c) → (pairsIn ls rs (length ps) ≡ ps) × (ix ≡ numbered 0 ps (replicate (length ix) 0))
+      arrays a ps c e g =
+          let l : ls ≡ over (map (λ p. p .0) ps) ls = X .lefts a e ∙ ap (λ (z : Res (Checked (List Two))). leftsAfter z ls) g in
+          let r : rs ≡ over (map (λ p. p .1) ps) rs = X .rights a e ∙ ap (λ (z : Res (Checked (List Two))). rightsAfter z rs) g in
+          (ap₂ (λ (x y : List ℕ). pairsIn x y (length ps)) l r ∙ pairs-laid ps ls rs, X .index a e ∙ ap (λ (z : Res (Checked (List Two))). indexAfter z ix) g)
+
+      pub all-graphs : 65536 ≤ length ix → Graphs t (pairsIn ls rs n) n ix
+      all-graphs wide =
+          let (a, ps, c, e, f, g, h, k) = all-says (startingTerm t [] p) (build t p budget) root n b (X .answer) in
+          let (x, y) = arrays a ps c e g in
+          let q : pairsIn ls rs n ≡ ps = ap (λ (z : ℕ). pairsIn ls rs z) (sym h) ∙ x in
+          let G : Graphs t ps (length ps) ix = rw (sym y) at (graphs-built t v p i budget c ps g (length ix) wide) in
+          rw (q, ← h) G
+
+      pub all-runs : runOf t p budget ≡ afterBuilding t p (interned (poolOf ts us) root) (passed (pairsIn ls rs n) (b .left))
+      all-runs =
+          let (a, ps, c, e, f, g, h, k) = all-says (startingTerm t [] p) (build t p budget) root n b (X .answer) in
+          let (x, y) = arrays a ps c e g in
+          let q : ps ≡ pairsIn ls rs n = sym x ∙ ap (λ (z : ℕ). pairsIn ls rs z) h in
           let r : a ≡ interned (poolOf ts us) root = λ j. record { pool = sym (X .pool a e) j; term = f j } in
-          let s = same c qs g in
-          run-after a (passed qs c) e g ∙ ap₂ (λ (y : Interned) (z : Checked (List Two)). afterBuilding t p y z) r (ap₂ (λ (y : List Two) (z : ℕ). passed y z) s (sym k))
+          run-after a (passed ps c) e g ∙ ap₂ (λ (y : Interned) (z : Checked (List Two)). afterBuilding t p y z) r (ap₂ (λ (y : List Two) (z : ℕ). passed y z) q (sym k))

@@ -3,33 +3,45 @@ use mathlib.Core.Path.{_≡_, refl, sym, ap, ap₂, _∙_}
 use mathlib.Core.List.{List, [], _∷_, _++_, map}
 use Prim.Native.Nat.{ℕ, zero, suc, _+_, _≤_, _<_}
 use native.Mathlib.Omega.{arith}
-use lib.ListN.{length, getD, drop, replicate, List·getD-append}
+use lib.ListN.{length, getD, set, replicate, length-set, length-replicate}
 use lib.Seq.{ext-getD}
 use Rattle.spec.specs.Bytes.{place, Two, sameTwo, Res, ok, refused, Checked, passed, cutShort}
 use Rattle.spec.specs.Image.{Tables}
 use Rattle.spec.specs.Graph.{build, buildFrom}
 use Rattle.laws.specs.Valid.{Valid}
-use Rattle.lgg.specs.Lists.{length-map}
 use Rattle.lgg.specs.BestMembers.{IsPair}
-use Rattle.lgg.specs.Graph.{build-closed, build-first}
-use Rattle.lgg.specs.Enter.{starts-length}
-use Rattle.lgg.specs.TurnsFrom.{get-map}
-use Rattle.lgg.specs.Standing.{build-pairs}
-use Rattle.exact_fixed.specs.Building.{numbered, over}
+use Rattle.lgg.specs.Graph.{build-closed}
+use Rattle.graph.specs.Built.{left-at, right-at, built-some, built-few, built-below, built-within, built-number}
+use Rattle.graph.specs.Building.{numbered, over, code}
 use Rattle.exact_fixed.specs.Arrays.{twos, pairsIn}
 use Rattle.exact_fixed.specs.ArrayLaws.{twos-length, twos-at}
 use Rattle.exact_fixed.specs.Graphs.{Graphs}
 
 -- the arrays of classes hold the pairs
-module _ (ps : List Two) (ls rs : List ℕ) where
-  side : (f : Two → ℕ) (l : List ℕ) (k : ℕ) → k < length ps → getD (over (map f ps) l) (0 + k) 0 ≡ f (getD ps k (0, 0))
-  side f l k h =
+pub pairs-laid : (ps : List Two) (ls rs : List ℕ) → pairsIn (over (map (λ p. p .0) ps) ls) (over (map (λ p. p .1) ps) rs) (length ps) ≡ ps
+pairs-laid ps ls rs =
+    let a = over (map (λ p. p .0) ps) ls in
+    let b = over (map (λ p. p .1) ps) rs in
+    ext-getD (0, 0) (pairsIn a b (length ps)) ps (twos-length a b 0 0 (length ps))
+    (λ k h.
+      let i : k < length ps = omega (arith, twos-length a b 0 0 (length ps)) in
       let e : 0 + k ≡ k = omega arith in
-      rw e (List·getD-append (map f ps) (drop (length (map f ps)) l) 0 k (omega (arith, length-map f ps)) ∙ get-map f ps k (0, 0) 0 h)
+      twos-at a b 0 0 (length ps) k i ∙ ap (λ (j : ℕ). (getD a j 0, getD b j 0)) e ∙ ap₂ (λ (x y : ℕ). (x, y)) (left-at ps ls k i) (right-at ps rs k i))
 
-  pub pairs-laid : pairsIn (over (map (λ p. p .0) ps) ls) (over (map (λ p. p .1) ps) rs) (length ps) ≡ ps
-  pairs-laid =
-      let a = over (map (λ p. p .0) ps) ls in
-      let b = over (map (λ p. p .1) ps) rs in
-      ext-getD (0, 0) (pairsIn a b (length ps)) ps (twos-length a b 0 0 (length ps))
-      (λ k h. let i : k < length ps = omega (arith, twos-length a b 0 0 (length ps)) in twos-at a b 0 0 (length ps) k i ∙ ap₂ (λ (x y : ℕ). (x, y)) (side (λ p. p .0) ls k i) (side (λ p. p .1) rs k i))
+pub numbered-length : (k : ℕ) (ps : List Two) (index : List ℕ) → length (numbered k ps index) ≡ length index
+unfolding numbered
+numbered-length k [] index = refl
+numbered-length k (p ∷ ps) index = numbered-length (suc k) ps (set index (code p) k) ∙ length-set index (code p) k
+
+-- the index that building leaves
+pub graphs-built : (t : Tables) → Valid t → (p : Two) → IsPair t p → (b c : ℕ) (ps : List Two) → build t p b ≡ ok (passed ps c) → (m : ℕ) → 65536 ≤ m → Graphs t ps (length ps) (numbered 0 ps (replicate m 0))
+graphs-built t v p i b c ps e m wide = record {
+  many = refl;
+  some = built-some t p b c ps e;
+  few = built-few t p b c ps e;
+  wide = omega (arith, numbered-length 0 ps (replicate m 0), length-replicate {A = ℕ} m 0);
+  below = built-below t p b c ps e m;
+  numbers = built-number t p b c ps e v i (replicate m 0) (omega (arith, length-replicate {A = ℕ} m 0));
+  closed = build-closed t p b c ps e;
+  pairs = built-within t p b c ps e v i;
+}

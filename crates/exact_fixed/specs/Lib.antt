@@ -12,7 +12,6 @@ pub mod Answers
 pub mod AnswerLaws
 pub mod Running
 pub mod RunLaws
-pub mod Building
 pub mod Beginning
 pub mod GraphLaws
 pub mod BeginLaws

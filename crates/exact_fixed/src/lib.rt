@@ -1,5 +1,6 @@
 // A run: the root's starting term, building, starting terms, rounds, with one budget of checks through all of it; and its listing (`run`, `run_in` of exact_fixed.rs).
 use budget::Budget;
+use graph::Built;
 use image::Image;
 use listing::Report;
 use listing::Written;
@@ -15,7 +16,6 @@ ghost use Rattle.spec.specs.Bytes.{ok, passed};
 ghost use Rattle.spec.specs.Bytes as bytes;
 ghost use Rattle.spec.specs.Pool.{interned};
 ghost use Rattle.spec.specs.Run.{startingTerms, afterBuilding, runOf};
-ghost use Rattle.spec.specs.Graph as graph;
 ghost use Rattle.lgg.specs.RoundsFrom.{roundAt, roundsOf};
 ghost use Rattle.lgg.specs.Standing.{Standing};
 ghost use Rattle.quality.specs.Known.{Known, qualityIn, termIn};
@@ -31,7 +31,6 @@ ghost use Rattle.exact_fixed.specs.Turning.{turnIn, termMade, Steps, Rel
 ghost use Rattle.exact_fixed.specs.RunLaws.{startedIn};
 ghost use Rattle.exact_fixed.specs.Running.{reportedIn};
 ghost use Rattle.exact_fixed.specs.Answers.{outcomeIn, ranOf, Listable, RanTo, Answers};
-ghost use Rattle.exact_fixed.specs.Building.{Builds};
 ghost use Rattle.exact_fixed.specs.Beginning.{Begins, Ready, Finishes};
 
 // what a run reports; root is its term's number
@@ -644,31 +643,6 @@ fn clear_all(
 }
 
 // ---- the run in two parts, with the table of pairs between them
-// STUB
-pub enum Built {
-    All(usize, Budget),
-    Cut,
-    Full,
-}
-
-// STUB
-fn build(
-    s: &[u8],
-    im: Image,
-    l: usize,
-    r: usize,
-    budget: Budget,
-    lefts: &mut [u16],
-    rights: &mut [u16],
-    index: &mut [u16],
-) -> Built
-    requires { ⌜ Loaded (now s) im × Valid (tablesOf (now s)) × (l < im .classes) × (r < im .classes) × (4096 ≤ length (now lefts)) × (4096 ≤ length (now rights)) × (65536 ≤ length (now index)) ⌝ }
-    ensures { λ res. ⌜ Builds (graph.build (tablesOf (now (s .entry))) (l, r) (budget .left)) (now (lefts .entry)) (now (rights .entry)) (now (index .entry)) (now (lefts .exit)) (now (rights .exit)) (now (index .exit)) res ⌝ }
-{
-    Built::Cut
-}
-// END STUB
-
 // An empty pool, the root's starting term and the graph.
 pub fn begin(
     s: &[u8],
@@ -696,7 +670,7 @@ pub fn begin(
             let b = Budget {
                 left: budget,
             };
-            let g = build(s, im, l, r, b, lefts, rights, index);
+            let g = graph::build(s, im, l, r, b, lefts, rights, index);
             match g {
                 Built::Full => {
                     return Begun::Stopped(12);
