@@ -59,7 +59,7 @@ module _ (t : Tables) (p : Two) (budget : ℕ) (ls rs ix ts us best ts′ us′ 
         rights = rw f refl;
         index = rw f refl;
         grows = λ a z. absurd (refused-ok (sym f ∙ z));
-        cleared = λ m z. (c .0 ∙ ap (λ (i : ℕ). replicate i 0) (emptied-length ts), c .1);
+        cleared = λ m z. (c .0 ∙ ap {B = List ℕ} (λ (i : ℕ). replicate i 0) (emptied-length ts us), c .1);
       }
 
   module _ (x : ℕ) (X : Starts t p (emptied ts) us best ts′ us′ best′ (E.Term x)) (ls′ rs′ ix′ : List ℕ) where

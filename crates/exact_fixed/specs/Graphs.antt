@@ -39,6 +39,9 @@ pub record Graphs (t : Tables) (ps : List Two) (n : ℕ) (index : List ℕ) : Ty
   pub closed : Closed t ps
   pub pairs : InRange t ps
 
+pub graphs-length : (t : Tables) (ps : List Two) (n : ℕ) (index : List ℕ) → Graphs t ps n index → Graphs t ps (length ps) index
+graphs-length t ps n index G = rw (G .many) G
+
 -- the fields of the previous round are those of the state s
 pub record Reads (s : State) (pairs : List ℕ) (n : ℕ) : Type 0 where
   pub long : 24576 ≤ length pairs

@@ -16,3 +16,4 @@ pub mod Beginning
 pub mod GraphLaws
 pub mod BeginLaws
 pub mod FinishLaws
+pub mod ReadyLaws

@@ -22,7 +22,10 @@ use Rattle.terms.specs.PoolLaws.{pool-length}
 use Rattle.terms.specs.Chains.{Holds}
 use Rattle.exact_fixed.specs.Arrays.{twos, qualitiesIn, termsIn, stateIn}
 use Rattle.exact_fixed.specs.Graphs.{InRange}
-use Rattle.exact_fixed.specs.Starting.{Starting, start-done, start-qualities}
+use Rattle.exact_fixed.specs.Starting.{Starting, StartsAll, start-done, start-qualities}
+use Rattle.budget.specs.declared.Budget.{Budget}
+use Rattle.exact_fixed.specs.declared.Started.{Started}
+use Rattle.exact_fixed.specs.declared.Started.the-variants as S
 use Rattle.exact_fixed.specs.Answers.{outcomeIn, RanTo}
 use Rattle.exact_fixed.specs.declared.Outcome.{Outcome}
 use Rattle.exact_fixed.specs.declared.Ran.{Ran}
@@ -71,3 +74,27 @@ module _ (t : Tables) (p : Two) (ps : List Two) (n : ℕ) (many : length ps ≡ 
     pub built-rounds : built ≡ roundsOf t ps (stateIn pairs terms runs n 0 c)
     unfolding afterStarting
     built-rounds = by-starting (ok (passed (record { pool = poolOf terms runs; terms = termsIn pairs 0 (length ps) }) c)) (start-done t ps whole from pairs terms runs c X) ∙ ap (roundsOf t ps) same
+
+  -- ---- by what the code answers: the starting terms x, the outcome o
+  module _ (pairs terms runs : List ℕ) (x : Started) (Y : StartsAll t ps whole from pairs terms runs x) where
+    pub starts-full : x ≡ S.Full → RanTo built terms runs (R.Stopped 13)
+    starts-full e = built-refused terms runs (rw e at Y)
+
+    pub starts-cut : PoolValid from → root < length from → x ≡ S.Cut → (o : Outcome) → o ≡ startedIn t p n root → RanTo built terms runs (R.Done o)
+    starts-cut v w e o q = let (y, h, g) = cut e in rw q (built-cut terms runs v w y h g)
+      where
+        cut : x ≡ S.Cut → (whole ≡ ok cutShort) × Holds terms runs × Extends from (poolOf terms runs)
+        cut e = rw e at Y
+
+    module _ (c : Budget) (e : x ≡ S.All c) where
+      begun : Starting t ps whole from pairs terms runs (length ps) (c .left)
+      begun = rw e at Y
+
+      pub starts-holds : Holds terms runs
+      starts-holds = begun .holds
+
+      pub starts-stands : Valid t → InRange t ps → Standing t ps (stateIn pairs terms runs n 0 (c .left))
+      starts-stands = built-stands pairs terms runs (c .left) begun
+
+      pub starts-rounds : (terms′ runs′ : List ℕ) (z : Ran) → RanTo (roundsOf t ps (stateIn pairs terms runs n 0 (c .left))) terms′ runs′ z → RanTo built terms′ runs′ z
+      starts-rounds terms′ runs′ z Z = rw (built-rounds pairs terms runs (c .left) begun) Z

@@ -15,7 +15,7 @@ use Rattle.spec.specs.Run.{State, outcome}
 use Rattle.spec.specs.Listing.{listingOf}
 use Rattle.lgg.specs.PoolIntern.{Extends, extends-refl, extends-within}
 use Rattle.lgg.specs.Rounds.{Closed}
-use Rattle.lgg.specs.RoundsFrom.{turnsAt, roundAt, stateAfter, roundsOf, rounds-expired, rounds-refused, rounds-cut, rounds-quiet, rounds-next, round-left}
+use Rattle.lgg.specs.RoundsFrom.{turnsAt, roundAt, stateAfter, roundsOf, rounds-expired, rounds-refused, rounds-cut, rounds-quiet, rounds-next, round-left as rounds-left}
 use Rattle.lgg.specs.Standing.{Standing, standing-next, listing-cut}
 use Rattle.terms.specs.Buffers.{poolOf, nodesIn, part, countIn}
 use Rattle.terms.specs.PoolLaws.{pool-length}
@@ -24,10 +24,13 @@ use Rattle.exact_fixed.specs.Arrays.{twos, NEW, qualitiesIn, termsIn, st
 use Rattle.exact_fixed.specs.ArrayLaws.{twos-at}
 use Rattle.terms.specs.PartLaws.{part-at}
 use Rattle.exact_fixed.specs.Graphs.{Graphs, Reads}
-use Rattle.exact_fixed.specs.Turning.{Turning, turns-done, turns-changed, turns-qualities}
+use Rattle.budget.specs.declared.Budget.{Budget}
+use Rattle.exact_fixed.specs.Turning.{Turning, Relaxes, relaxes-full, relaxes-cut, relaxes-finished, turns-done, turns-changed, turns-qualities}
 use Rattle.exact_fixed.specs.Answers.{outcomeIn, RanTo}
 use Rattle.exact_fixed.specs.declared.Outcome.{Outcome}
 use Rattle.exact_fixed.specs.declared.Ran.the-variants as R
+use Rattle.exact_fixed.specs.declared.Round.{Round}
+use Rattle.exact_fixed.specs.declared.Round.the-variants as U
 
 -- the outcome that the arrays report
 abbrev pub reportedIn : List ℕ → Bool → ℕ → ℕ → Outcome
@@ -78,14 +81,14 @@ module _ (t : Tables) (ps : List Two) (n : ℕ) (many : length ps ≡ n) (some :
         omega (arith, root, extends-within g (getD (Here .terms) 0 0) (X .standing .within 0 has-some), pool-length terms′ runs′)
       )
 
-  pub run-expired : b ≡ 0 → RanTo m terms runs (R.Done (reportedIn pairs false n rounds))
-  run-expired e = ends false pairs terms runs (X .rest ∙ rounds-expired t ps Here e) (rw many (record { long = X .long; qualities = refl; terms = refl })) (X .holds) (extends-refl (poolOf terms runs))
+  expires : b ≡ 0 → RanTo m terms runs (R.Done (reportedIn pairs false n rounds))
+  expires e = ends false pairs terms runs (X .rest ∙ rounds-expired t ps Here e) (rw many (record { long = X .long; qualities = refl; terms = refl })) (X .holds) (extends-refl (poolOf terms runs))
 
   module _ (c : ℕ) (left : b ≡ c + 1) where
-    pub run-refused : (terms′ runs′ : List ℕ) → roundAt t ps Read c ≡ refused 13 → RanTo m terms′ runs′ (R.Stopped 13)
+    run-refused : (terms′ runs′ : List ℕ) → roundAt t ps Read c ≡ refused 13 → RanTo m terms′ runs′ (R.Stopped 13)
     run-refused terms′ runs′ e = X .rest ∙ rounds-refused t ps Here c left 13 e
 
-    pub run-cut : (pairs′ terms′ runs′ : List ℕ) → (roundAt t ps Read c ≡ ok cutShort) × Reads Read pairs′ (length ps) × Holds terms′ runs′ × Extends (poolOf terms runs) (poolOf terms′ runs′)
+    run-cut : (pairs′ terms′ runs′ : List ℕ) → (roundAt t ps Read c ≡ ok cutShort) × Reads Read pairs′ (length ps) × Holds terms′ runs′ × Extends (poolOf terms runs) (poolOf terms′ runs′)
         → RanTo m terms′ runs′ (R.Done (reportedIn pairs′ false n rounds))
     run-cut pairs′ terms′ runs′ (e, R, H, g) = ends false pairs′ terms′ runs′ (X .rest ∙ rounds-cut t ps Here c left e) R H g
 
@@ -99,14 +102,14 @@ module _ (t : Tables) (ps : List Two) (n : ℕ) (many : length ps ≡ n) (some :
       told : changed ≡ any changes (turnsAt t ps Read)
       told = turns-changed t ps Read (roundAt t ps Read c) pairs′ terms′ runs′ d changed T
 
-      pub run-quiet : changed ≡ false → RanTo m terms′ runs′ (R.Done (reportedIn pairs′ true n rounds))
+      run-quiet : changed ≡ false → RanTo m terms′ runs′ (R.Done (reportedIn pairs′ true n rounds))
       run-quiet q = ends true pairs′ terms′ runs′ (X .rest ∙ rounds-quiet t ps Here c left After d done (sym told ∙ q)) (T .reads) (T .holds) (T .midway .grown)
 
       -- the checks of the round
-      pub run-left : c ≡ length ps + d
-      run-left = round-left t ps c d Here After done
+      run-left : c ≡ length ps + d
+      run-left = rounds-left t ps c d Here After done
 
-      pub run-next : Closed t ps → changed ≡ true → (pairs″ : List ℕ) → length pairs″ ≡ length pairs′ → qualitiesIn pairs″ 0 n ≡ qualitiesIn pairs′ NEW n → termsIn pairs″ 0 n ≡ termsIn pairs′ NEW n → Running t ps n m pairs″ terms′ runs′ (rounds + 1) d
+      run-next : Closed t ps → changed ≡ true → (pairs″ : List ℕ) → length pairs″ ≡ length pairs′ → qualitiesIn pairs″ 0 n ≡ qualitiesIn pairs′ NEW n → termsIn pairs″ 0 n ≡ termsIn pairs′ NEW n → Running t ps n m pairs″ terms′ runs′ (rounds + 1) d
       run-next closed q pairs″ l eq et =
           let qs : qualitiesIn pairs″ 0 n ≡ map (λ w. w .quality) (turnsAt t ps Here) = eq ∙ ap (λ (i : ℕ). qualitiesIn pairs′ NEW i) (sym many) ∙ turns-qualities t ps Read (roundAt t ps Read c) pairs′ terms′ runs′ d changed T in
           let ts : termsIn pairs″ 0 n ≡ termsIn pairs′ NEW (length ps) = et ∙ ap (λ (i : ℕ). termsIn pairs′ NEW i) (sym many) in
@@ -119,3 +122,27 @@ module _ (t : Tables) (ps : List Two) (n : ℕ) (many : length ps ≡ n) (some :
             long = omega (arith, T .reads .long);
             holds = T .holds;
           }
+
+  -- ---- by what the code answers: the round x, the outcome o
+  pub run-expired : (o : Outcome) → o ≡ reportedIn pairs false n rounds → b ≡ 0 → RanTo m terms runs (R.Done o)
+  run-expired o q e = rw q (expires e)
+
+  module _ (c : ℕ) (left : b ≡ c + 1) (pairs′ terms′ runs′ : List ℕ) (x : Round) (Y : Relaxes t ps Read (roundAt t ps Read c) pairs′ terms′ runs′ x) where
+    pub round-full : x ≡ U.Full → RanTo m terms′ runs′ (R.Stopped 13)
+    round-full e = run-refused c left terms′ runs′ (relaxes-full t ps Read (roundAt t ps Read c) pairs′ terms′ runs′ x Y e)
+
+    pub round-cut : x ≡ U.Cut → (o : Outcome) → o ≡ reportedIn pairs′ false n rounds → RanTo m terms′ runs′ (R.Done o)
+    round-cut e o q = rw q (run-cut c left pairs′ terms′ runs′ (relaxes-cut t ps Read (roundAt t ps Read c) pairs′ terms′ runs′ x Y e))
+
+    module _ (changed : Bool) (d : Budget) (e : x ≡ U.Finished changed d) where
+      turned : Turning t ps Read (roundAt t ps Read c) pairs′ terms′ runs′ (length ps) (d .left) changed
+      turned = relaxes-finished t ps Read (roundAt t ps Read c) pairs′ terms′ runs′ x Y changed d e
+
+      pub round-quiet : changed ≡ false → (o : Outcome) → o ≡ reportedIn pairs′ true n rounds → RanTo m terms′ runs′ (R.Done o)
+      round-quiet z o q = rw q (run-quiet c left pairs′ terms′ runs′ (d .left) changed turned z)
+
+      pub round-left : c ≡ n + d .left
+      round-left = omega (arith, run-left c left pairs′ terms′ runs′ (d .left) changed turned)
+
+      pub round-next : Closed t ps → changed ≡ true → (pairs″ : List ℕ) → length pairs″ ≡ length pairs′ → qualitiesIn pairs″ 0 n ≡ qualitiesIn pairs′ NEW n → termsIn pairs″ 0 n ≡ termsIn pairs′ NEW n → Running t ps n m pairs″ terms′ runs′ (rounds + 1) (d .left)
+      round-next = run-next c left pairs′ terms′ runs′ (d .left) changed turned

@@ -24,6 +24,7 @@ use Rattle.terms.specs.Chains.{Holds}
 use Rattle.exact_fixed.specs.Arrays.{twos, NEW, qualitiesIn, termsIn, given}
 use Rattle.exact_fixed.specs.ArrayLaws.{given-length, qualities-more, terms-more, old-kept}
 use Rattle.exact_fixed.specs.Graphs.{Graphs, Reads, turn-here, choice-here}
+use Rattle.budget.specs.declared.Budget.{Budget}
 use Rattle.exact_fixed.specs.declared.Step.{Step}
 use Rattle.exact_fixed.specs.declared.Step.the-variants as P
 use Rattle.exact_fixed.specs.declared.Round.{Round}
@@ -42,6 +43,14 @@ pub record Moved (w : Turn) (m : Res Interned) (k : ℕ) (pairs pairs′ terms�
 abbrev pub Steps : Turn → Res Interned → ℕ → List ℕ → List ℕ → List ℕ → List ℕ → Step → Type 0
 Steps w m k pairs pairs′ terms′ runs′ (P.To c) = Moved w m k pairs pairs′ terms′ runs′ c
 Steps w m k pairs pairs′ terms′ runs′ P.Full = (n : ℕ) × (m ≡ refused n)
+
+-- by what the turn answered
+module _ (w : Turn) (m : Res Interned) (k : ℕ) (pairs pairs′ terms′ runs′ : List ℕ) (r : Step) (X : Steps w m k pairs pairs′ terms′ runs′ r) where
+  pub steps-full : r ≡ P.Full → (n : ℕ) × (m ≡ refused n)
+  steps-full e = rw e at X
+
+  pub steps-to : (c : Bool) → r ≡ P.To c → Moved w m k pairs pairs′ terms′ runs′ c
+  steps-to c e = rw e at X
 
 -- what the code reads for pair p's turn, and the term that it gives
 abbrev pub turnIn : Tables → List ℕ → List ℕ → Two → Turn
@@ -64,6 +73,17 @@ abbrev pub Relaxes : Tables → List Two → State → Res (Checked Terms) → L
 Relaxes t ps s whole pairs terms runs (R.Finished c b) = Turning t ps s whole pairs terms runs (length ps) (b .left) c
 Relaxes t ps s whole pairs terms runs R.Cut = (whole ≡ ok cutShort) × Reads s pairs (length ps) × Holds terms runs × Extends (s .pool) (poolOf terms runs)
 Relaxes t ps s whole pairs terms runs R.Full = whole ≡ refused 13
+
+-- by what the round answered
+module _ (t : Tables) (ps : List Two) (s : State) (whole : Res (Checked Terms)) (pairs terms runs : List ℕ) (r : Round) (X : Relaxes t ps s whole pairs terms runs r) where
+  pub relaxes-full : r ≡ R.Full → whole ≡ refused 13
+  relaxes-full e = rw e at X
+
+  pub relaxes-cut : r ≡ R.Cut → (whole ≡ ok cutShort) × Reads s pairs (length ps) × Holds terms runs × Extends (s .pool) (poolOf terms runs)
+  relaxes-cut e = rw e at X
+
+  pub relaxes-finished : (c : Bool) (b : Budget) → r ≡ R.Finished c b → Turning t ps s whole pairs terms runs (length ps) (b .left) c
+  relaxes-finished c b e = rw e at X
 
 pub turning-none : (t : Tables) (ps : List Two) (s : State) (b : ℕ) (pairs terms runs : List ℕ) → Reads s pairs (length ps) → s .pool ≡ poolOf terms runs → Holds terms runs → Turning t ps s (roundAt t ps s b) pairs terms runs 0 b false
 unfolding twos part
@@ -119,6 +139,15 @@ module _ (t : Tables) (ps : List Two) (s : State) (whole : Res (Checked Terms)) 
           };
           holds = M .holds;
         }
+
+    -- the same for a pair p that is pair k
+    pub turn-refused : (p : Two) → p ≡ getD ps k (0, 0) → (c n : ℕ) → b ≡ c + 1 → termMade t index pairs (poolOf terms runs) p ≡ refused n → whole ≡ refused 13
+    turn-refused p q c n e z = turn-full c n e (ap (λ (x : Two). termMade t index pairs (poolOf terms runs) x) (sym q) ∙ z)
+
+    pub turn-moved : (p : Two) → p ≡ getD ps k (0, 0) → Standing t ps s → (c : ℕ) (pairs′ terms′ runs′ : List ℕ) (d changed′ : Bool) → b ≡ c + 1
+        → Moved (turnIn t index pairs p) (termMade t index pairs (poolOf terms runs) p) k pairs pairs′ terms′ runs′ d → changed′ ≡ either changed d
+        → Turning t ps s whole pairs′ terms′ runs′ (k + 1) c changed′
+    turn-moved p q S c pairs′ terms′ runs′ d changed′ e M f = turn-more S c pairs′ terms′ runs′ d changed′ e (rw q at M) f
 
 -- every pair has had its turn
 module _ (t : Tables) (ps : List Two) (s : State) (whole : Res (Checked Terms)) (pairs terms runs : List ℕ) (b : ℕ) (changed : Bool) (X : Turning t ps s whole pairs terms runs (length ps) b changed) where
