@@ -5,7 +5,7 @@ use mathlib.Core.List.{List, _++_}
 use Prim.Native.Nat.{ℕ}
 use native.Mathlib.Omega.{arith}
 use lib.Dec.{leb}
-use lib.ListN.{length, take, drop, replicate}
+use lib.ListN.{length, take, drop}
 use lib.Seq.{take-append-seam}
 use Rattle.spec.specs.Bytes.{pick, Res, ok, refused, _>>=_, rule}
 use Rattle.spec.specs.Run as run
@@ -74,7 +74,3 @@ ran-listable m terms runs (R.Done o) X = (X .3, X .4)
 pub ran-answers : (m : Res run.Outcome) (terms runs : List ℕ) (x : Ran) (out out′ : List ℕ) (r : Answer) → RanTo m terms runs x → Answers (ranOf x terms runs) out out′ r → Answers m out out′ r
 ran-answers m terms runs (R.Stopped k) out out′ r X Y = rw X Y
 ran-answers m terms runs (R.Done o) out out′ r X Y = answer-same m (X .0) (outcomeIn o terms runs) out out′ r (X .1) (X .2) Y
-
--- zeros of equal lengths
-pub as-long : (m n : ℕ) → m ≡ n → _≡_ {A = List ℕ} (replicate m 0) (replicate n 0)
-as-long m n e = ap {B = List ℕ} (λ (i : ℕ). replicate i 0) e

@@ -25,8 +25,9 @@ use Rattle.exact_fixed.specs.Arrays.{twos, pairsIn}
 use Rattle.exact_fixed.specs.Graphs.{Graphs}
 use Rattle.exact_fixed.specs.GraphLaws.{pairs-laid, graphs-built}
 use Rattle.exact_fixed.specs.RunLaws.{startedIn, ran-started}
-use Rattle.exact_fixed.specs.Answers.{RanTo}
-use Rattle.exact_fixed.specs.Beginning.{begunOf, Ready}
+use Rattle.exact_fixed.specs.Answers.{RanTo, Answers}
+use Rattle.exact_fixed.specs.Beginning.{begunOf, Ready, Finishes}
+use Rattle.exact_fixed.specs.declared.Answer.{Answer}
 use Rattle.exact_fixed.specs.declared.Ran.{Ran}
 use Rattle.exact_fixed.specs.declared.Ran.the-variants as R
 use Rattle.exact_fixed.specs.declared.Begun.{Begun}
@@ -110,3 +111,22 @@ module _ (t : Tables) (p : Two) (budget : ℕ) (ls rs ix ts us : List ℕ) where
 
       pub all-ran : (ts′ us′ : List ℕ) (x : Ran) → RanTo (afterBuilding t p (interned (poolOf ts us) root) (passed (pairsIn ls rs n) (b .left))) ts′ us′ x → RanTo (runOf t p budget) ts′ us′ x
       all-ran ts′ us′ x Y = rw all-runs Y
+
+-- a buffer that was cleared after a call that kept its length
+zeros-as : (now was : List ℕ) → length now ≡ length was → _≡_ {A = List ℕ} (replicate (length now) 0) (replicate (length was) 0)
+zeros-as now was e = ap {B = List ℕ} (λ (i : ℕ). replicate i 0) e
+
+pub finishes : (t : Tables) (p : Two) (budget : ℕ) (ls rs ix ps ts us out ls′ rs′ ix′ ps′ ts′ us′ out′ ix₁ ps₁ ts₁ us₁ : List ℕ) (r : Answer) → Answers (runOf t p budget) out out′ r
+    → length ix₁ ≡ length ix → length ps₁ ≡ length ps → length ts₁ ≡ length ts → length us₁ ≡ length us
+    → (ls′ ≡ replicate (length ls) 0) × (rs′ ≡ replicate (length rs) 0) × (ix′ ≡ replicate (length ix₁) 0) × (ps′ ≡ replicate (length ps₁) 0) × (ts′ ≡ replicate (length ts₁) 0) × (us′ ≡ replicate (length us₁) 0)
+    → Finishes t p budget ls rs ix ps ts us out ls′ rs′ ix′ ps′ ts′ us′ out′ r
+finishes t p budget ls rs ix ps ts us out ls′ rs′ ix′ ps′ ts′ us′ out′ ix₁ ps₁ ts₁ us₁ r X a b c d (z0, z1, z2, z3, z4, z5) = record {
+  answer = X .answer;
+  output = X .output;
+  lefts = z0;
+  rights = z1;
+  index = z2 ∙ zeros-as ix₁ ix a;
+  pairs = z3 ∙ zeros-as ps₁ ps b;
+  terms = z4 ∙ zeros-as ts₁ ts c;
+  runs = z5 ∙ zeros-as us₁ us d;
+}

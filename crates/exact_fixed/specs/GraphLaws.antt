@@ -24,9 +24,9 @@ pairs-laid ps ls rs =
     let b = over (map (λ p. p .1) ps) rs in
     ext-getD (0, 0) (pairsIn a b (length ps)) ps (twos-length a b 0 0 (length ps))
     (λ k h.
-      let i : k < length ps = omega (arith, twos-length a b 0 0 (length ps)) in
-      let e : 0 + k ≡ k = omega arith in
-      twos-at a b 0 0 (length ps) k i ∙ ap (λ (j : ℕ). (getD a j 0, getD b j 0)) e ∙ ap₂ (λ (x y : ℕ). (x, y)) (left-at ps ls k i) (right-at ps rs k i))
+    let i : k < length ps = omega (arith, twos-length a b 0 0 (length ps)) in
+    let e : 0 + k ≡ k = omega arith in
+    twos-at a b 0 0 (length ps) k i ∙ ap (λ (j : ℕ). (getD a j 0, getD b j 0)) e ∙ ap₂ (λ (x y : ℕ). (x, y)) (left-at ps ls k i) (right-at ps rs k i))
 
 pub numbered-length : (k : ℕ) (ps : List Two) (index : List ℕ) → length (numbered k ps index) ≡ length index
 unfolding numbered

@@ -43,7 +43,8 @@ ran-started t p m root n terms runs e v w h g = (
   e,
   listing-started t p root n (poolOf terms runs) v w (h .valid) g,
   h,
-  omega (arith, extends-within g (root .term) w, pool-length terms runs))
+  omega (arith, extends-within g (root .term) w, pool-length terms runs),
+)
 
 -- over the pairs ps, with b checks; root is the root's starting term, in the pool `from`
 module _ (t : Tables) (p : Two) (ps : List Two) (n : ℕ) (many : length ps ≡ n) (b : ℕ) (from : Pool) (root : ℕ) where

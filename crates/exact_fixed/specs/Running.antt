@@ -61,7 +61,7 @@ module _ (t : Tables) (ps : List Two) (n : ℕ) (many : length ps ≡ n) (some :
   -- the first pair's numbers, where the arrays still read the state
   report : (pairs′ : List ℕ) → Reads Read pairs′ (length ps) → (complete : Bool) (pool : Pool)
       → _≡_ {A = run.Outcome} (record { complete = complete; pairs = length ps; rounds = rounds; quality = getD (Here .qualities) 0 (0, 0); pool = pool; root = getD (Here .terms) 0 0 })
-        (record { complete = complete; pairs = n; rounds = rounds; quality = (getD pairs′ 0 0, getD pairs′ 4096 0); pool = pool; root = getD pairs′ 8192 0 })
+      (record { complete = complete; pairs = n; rounds = rounds; quality = (getD pairs′ 0 0, getD pairs′ 4096 0); pool = pool; root = getD pairs′ 8192 0 })
   report pairs′ R complete pool =
       let q : getD (Here .qualities) 0 (0, 0) ≡ (getD pairs′ 0 0, getD pairs′ 4096 0) = ap (λ (l : List Two). getD l 0 (0, 0)) (sym (R .qualities)) ∙ twos-at pairs′ pairs′ 0 4096 (length ps) 0 has-some in
       let r : getD (Here .terms) 0 0 ≡ getD pairs′ 8192 0 = ap (λ (l : List ℕ). getD l 0 0) (sym (R .terms)) ∙ part-at pairs′ 8192 (length ps) 0 has-some in
@@ -72,13 +72,12 @@ module _ (t : Tables) (ps : List Two) (n : ℕ) (many : length ps ≡ n) (some :
       → RanTo m terms′ runs′ (R.Done (reportedIn pairs′ complete n rounds))
   ends complete pairs′ terms′ runs′ e R H g =
       let same = report pairs′ R complete (poolOf terms′ runs′) in
-      let root : getD (Here .terms) 0 0 ≡ getD pairs′ 8192 0 = ap (λ (o : run.Outcome). o .root) same in
-      (
+      let root : getD (Here .terms) 0 0 ≡ getD pairs′ 8192 0 = ap (λ (o : run.Outcome). o .root) same in (
         outcome complete ps Here,
         e,
         listing-cut t ps Here complete (poolOf terms′ runs′) (X .standing) has-some (H .valid) g ∙ ap listingOf same,
         H,
-        omega (arith, root, extends-within g (getD (Here .terms) 0 0) (X .standing .within 0 has-some), pool-length terms′ runs′)
+        omega (arith, root, extends-within g (getD (Here .terms) 0 0) (X .standing .within 0 has-some), pool-length terms′ runs′),
       )
 
   expires : b ≡ 0 → RanTo m terms runs (R.Done (reportedIn pairs false n rounds))
@@ -115,7 +114,7 @@ module _ (t : Tables) (ps : List Two) (n : ℕ) (many : length ps ≡ n) (some :
           let ts : termsIn pairs″ 0 n ≡ termsIn pairs′ NEW (length ps) = et ∙ ap (λ (i : ℕ). termsIn pairs′ NEW i) (sym many) in
           let one = add-one rounds in
           let next : stateAfter Here (turnsAt t ps Here) After d ≡ stateIn pairs″ terms′ runs′ n (rounds + 1) d =
-              λ i. record { pool = poolOf terms′ runs′; qualities = sym qs i; terms = sym ts i; rounds = sym one i; budget = d } in
+          λ i. record { pool = poolOf terms′ runs′; qualities = sym qs i; terms = sym ts i; rounds = sym one i; budget = d } in
           record {
             rest = X .rest ∙ rounds-next t ps Here c left After d done (sym told ∙ q) ∙ ap (roundsOf t ps) next;
             standing = rw (← next) (standing-next t ps Here (X .standing) closed c d After done);

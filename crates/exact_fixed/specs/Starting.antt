@@ -87,9 +87,9 @@ module _ (t : Tables) (ps : List Two) (whole : Res (Checked Terms)) (from : Pool
         sofar = rw (named, B .pool) (starting-turn t ps whole k (termsIn pairs 0 k) b c (poolOf terms runs) a h e (X .sofar) (B .is));
         midway = rw (named, B .pool) (starting-midway t v ps ranged from k (termsIn pairs 0 k) (poolOf terms runs) a h (X .midway) (B .is));
         qualities = rw (add-one k, B .numbers) (qualities-more pairs 0 k k (q .0) (q .1) (a .term) (omega arith) (omega arith) (omega arith)
-          ∙ ap (λ (l : List Two). l ++ (q ∷ [])) (X .qualities)
-          ∙ sym (map-snoc (startingQuality t) (take k ps) p)
-          ∙ ap (map (startingQuality t)) (sym (take-suc ps k (0, 0) h)));
+            ∙ ap (λ (l : List Two). l ++ (q ∷ [])) (X .qualities)
+            ∙ sym (map-snoc (startingQuality t) (take k ps) p)
+            ∙ ap (map (startingQuality t)) (sym (take-suc ps k (0, 0) h)));
         holds = B .holds;
       }
 

@@ -56,5 +56,5 @@ module _ (t : Tables) (index pairs : List ℕ) (p : Two) (terms runs terms′ ru
     take-moves k term pairs′ et ep =
         let (a, e, f) = made in
         let n : given pairs (NEW + k) (x .size) (x .mass) term ≡ given pairs (NEW + k) (turnIn t index pairs p .quality .0) (turnIn t index pairs p .quality .1) (a .term) =
-            ap (λ (y : ℕ). given pairs (NEW + k) (x .size) (x .mass) y) et ∙ ap (λ (z : Turned). given pairs (NEW + k) (z .size) (z .mass) (z .term)) f in
+        ap (λ (y : ℕ). given pairs (NEW + k) (x .size) (x .mass) y) et ∙ ap (λ (z : Turned). given pairs (NEW + k) (z .size) (z .mass) (z .term)) f in
         record { made = a; is = e; numbers = ep ∙ n; pool = X .pool ∙ ap (poolAfter (poolOf terms runs)) e; holds = X .holds; changed = ap (λ (z : Turned). z .changed) f }

@@ -128,9 +128,9 @@ module _ (t : Tables) (ps : List Two) (s : State) (whole : Res (Checked Terms)) 
           sofar = rw (named, M .pool) (round-turn t (lookUp 0 ps (s .terms)) ps (s .qualities) whole k (termsIn pairs NEW k) b c (poolOf terms runs) a h e (X .sofar) made);
           midway = rw (named, M .pool) (turn-midway t ps s S (G .closed) k (termsIn pairs NEW k) (poolOf terms runs) a h (X .midway) made);
           qualities = rw (add-one k, M .numbers) (qualities-more pairs NEW k (NEW + k) (w .quality .0) (w .quality .1) (a .term) refl (omega arith) (omega arith)
-            ∙ ap₂ (λ (l : List Two) (q : Two). l ++ (q ∷ [])) (X .qualities) (ap (λ (z : Turn). z .quality) (here ∙ sym (turn-at t ps (s .qualities) k w h)))
-            ∙ sym (map-snoc (λ w. w .quality) (take k (turnsAt t ps s)) (getD (turnsAt t ps s) k w))
-            ∙ ap (map (λ w. w .quality)) (sym (take-suc (turnsAt t ps s) k w (omega (arith, turns-length t ps (s .qualities))))));
+              ∙ ap₂ (λ (l : List Two) (q : Two). l ++ (q ∷ [])) (X .qualities) (ap (λ (z : Turn). z .quality) (here ∙ sym (turn-at t ps (s .qualities) k w h)))
+              ∙ sym (map-snoc (λ w. w .quality) (take k (turnsAt t ps s)) (getD (turnsAt t ps s) k w))
+              ∙ ap (map (λ w. w .quality)) (sym (take-suc (turnsAt t ps s) k w (omega (arith, turns-length t ps (s .qualities))))));
           changes = f ∙ ap₂ (λ (x y : Bool). either x y) (X .changes) (M .changed ∙ ap changes here) ∙ sym (changed-turn t ps (s .qualities) k h);
           reads = record {
             long = rw (M .numbers, given-length pairs (NEW + k) (w .quality .0) (w .quality .1) (a .term)) room;

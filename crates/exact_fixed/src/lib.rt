@@ -667,9 +667,7 @@ pub fn begin(
             return Begun::Stopped(13);
         }
         Entered::Term(root) => {
-            let b = Budget {
-                left: budget,
-            };
+            let b = Budget { left: budget };
             let g = graph::build(s, im, l, r, b, lefts, rights, index);
             match g {
                 Built::Full => {
