@@ -386,6 +386,11 @@ fn relax_all(
     rights: &[u16],
     index: &[u16],
     n: usize,
+    sizes: &mut [u32; 4225],
+    masses: &mut [u32; 4225],
+    costs: &mut [u64; 12675],
+    flow: &mut [u64; 4225],
+    list: &mut [u64; 4225],
     pairs: &mut [u32],
     terms: &mut [u32],
     runs: &mut [u64],
@@ -394,11 +399,6 @@ fn relax_all(
     requires { ⌜ Loaded (now s) im × Valid (tablesOf (now s)) × (n ≤ length (now lefts)) × (n ≤ length (now rights)) × Graphs (tablesOf (now s)) (pairsIn (now lefts) (now rights) n) n (now index) × (24576 ≤ length (now pairs)) × Holds (now terms) (now runs) × Standing (tablesOf (now s)) (pairsIn (now lefts) (now rights) n) (stateIn (now pairs) (now terms) (now runs) n 0 0) ⌝ }
     ensures { λ x. ⌜ Relaxes (tablesOf (now (s .entry))) (pairsIn (now (lefts .entry)) (now (rights .entry)) n) (stateIn (now (pairs .entry)) (now (terms .entry)) (now (runs .entry)) n 0 0) (roundAt (tablesOf (now (s .entry))) (pairsIn (now (lefts .entry)) (now (rights .entry)) n) (stateIn (now (pairs .entry)) (now (terms .entry)) (now (runs .entry)) n 0 0) (b .left)) (now (pairs .exit)) (now (terms .exit)) (now (runs .exit)) x ⌝ }
 {
-    let mut sizes = [0u32; 4225];
-    let mut masses = [0u32; 4225];
-    let mut costs = [0u64; 12675];
-    let mut flow = [0u64; 4225];
-    let mut list = [0u64; 4225];
     let mut changed = false;
     let mut bud = b;
     let mut k = 0;
@@ -418,11 +418,11 @@ fn relax_all(
             l,
             r,
             k,
-            &mut sizes,
-            &mut masses,
-            &mut costs,
-            &mut flow,
-            &mut list,
+            sizes,
+            masses,
+            costs,
+            flow,
+            list,
             pairs,
             terms,
             runs,
@@ -456,6 +456,11 @@ fn run_rounds(
     requires { ⌜ Loaded (now s) im × Valid (tablesOf (now s)) × (n ≤ length (now lefts)) × (n ≤ length (now rights)) × Graphs (tablesOf (now s)) (pairsIn (now lefts) (now rights) n) n (now index) × (24576 ≤ length (now pairs)) × Holds (now terms) (now runs) × Standing (tablesOf (now s)) (pairsIn (now lefts) (now rights) n) (stateIn (now pairs) (now terms) (now runs) n 0 (b .left)) ⌝ }
     ensures { λ x. ⌜ RanTo (roundsOf (tablesOf (now (s .entry))) (pairsIn (now (lefts .entry)) (now (rights .entry)) n) (stateIn (now (pairs .entry)) (now (terms .entry)) (now (runs .entry)) n 0 (b .left))) (now (terms .exit)) (now (runs .exit)) x ⌝ }
 {
+    let mut sizes = [0u32; 4225];
+    let mut masses = [0u32; 4225];
+    let mut costs = [0u64; 12675];
+    let mut flow = [0u64; 4225];
+    let mut list = [0u64; 4225];
     let mut rounds = 0u32;
     let mut bud = b;
     loop {
@@ -464,7 +469,23 @@ fn run_rounds(
         if !sp.passed {
             return Ran::Done(reported(pairs, false, n, rounds));
         }
-        let x = relax_all(s, im, lefts, rights, index, n, pairs, terms, runs, rest);
+        let x = relax_all(
+            s,
+            im,
+            lefts,
+            rights,
+            index,
+            n,
+            &mut sizes,
+            &mut masses,
+            &mut costs,
+            &mut flow,
+            &mut list,
+            pairs,
+            terms,
+            runs,
+            rest,
+        );
         match x {
             Round::Full => {
                 return Ran::Stopped(13);
