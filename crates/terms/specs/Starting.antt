@@ -194,3 +194,16 @@ kept-none t p n c h z = absurd (go n c z)
     go zero c z = not-suc-le-zero z
     go (suc n) zero z = not-suc-le-zero z
     go (suc n) (suc c) z = go n c z
+
+-- what is kept stays so while the pool grows
+pub kept-later : (t : Tables) → Valid t → (best : List ℕ) {terms runs terms′ runs′ : List ℕ} {p : Pool} → Holds terms runs → Grows terms runs terms′ runs′ p → Kept t (poolOf terms runs) best → Kept t (poolOf terms′ runs′) best
+kept-later t v best {terms} {runs} {terms′} {runs′} H G K = kept-grows t v (poolOf terms runs) (poolOf terms′ runs′) best (H .valid) (G .holds .valid) (grown-to (G .pool) (G .grown)) K
+
+bests-length : (t : Tables) (p : Pool) (best : List ℕ) (c : Two) → length (bestsAfter t p best c) ≡ length best
+unfolding bestsAfter
+bests-length t p best c = length-map (upFrom 0 (length best)) (bestAfter t p best c) ∙ up-length 0 (length best)
+
+-- what the next starting term asks
+pub starts-next : {t : Tables} {c : Two} {terms runs best terms′ runs′ best′ : List ℕ} {r : Entered} → Starts t c terms runs best terms′ runs′ best′ r → (a : Interned) → startingTerm t (poolOf terms runs) c ≡ ok a
+    → Holds terms′ runs′ × (length best′ ≡ length best) × Kept t (poolOf terms′ runs′) best′
+starts-next {t} {c} {terms} {runs} {best} S a e = (S .grows a e .holds, ap length (S .bestIs a e) ∙ bests-length t (a .pool) best c, rw (S .grows a e .pool) (S .kept a e))
