@@ -12,7 +12,6 @@ use Rattle.spec.specs.Run as run
 use Rattle.spec.specs.Listing.{listingOf}
 use Rattle.spec.specs.Merge.{outputAfter}
 use Rattle.listing.specs.Lists as L
-use Rattle.listing.specs.declared.Written.{Written}
 use Rattle.listing.specs.declared.Written.the-variants as W
 use Rattle.exact_fixed.specs.Answers.{outcomeIn, ranOf, Listable, RanTo, listedOf, answerOf, Answers}
 use Rattle.exact_fixed.specs.declared.Outcome.{Outcome}

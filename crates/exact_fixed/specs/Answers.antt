@@ -1,15 +1,14 @@
 -- What a run leaves and what is answered: a listing at the output's front, or a refusal.
 use mathlib.Core.Path.{_≡_}
-use mathlib.Core.Bool.{Bool, true, false}
 use mathlib.Core.List.{List}
-use Prim.Native.Nat.{ℕ, _≤_, _<_}
+use Prim.Native.Nat.{ℕ, _<_}
 use lib.Dec.{leb}
-use lib.ListN.{length, take, replicate}
+use lib.ListN.{length, take}
 use Rattle.spec.specs.Bytes.{Res, ok, refused, _>>=_, rule}
 use Rattle.spec.specs.Run as run
 use Rattle.spec.specs.Listing.{listingOf}
 use Rattle.spec.specs.Merge.{outputAfter}
-use Rattle.terms.specs.Buffers.{poolOf, nodesIn, countIn}
+use Rattle.terms.specs.Buffers.{poolOf, countIn}
 use Rattle.terms.specs.Chains.{Holds}
 use Rattle.exact_fixed.specs.declared.Outcome.{Outcome}
 use Rattle.exact_fixed.specs.declared.Ran.{Ran}

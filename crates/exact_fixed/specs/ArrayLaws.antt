@@ -1,16 +1,15 @@
 -- Laws of the arrays: entries of the lists that they stand for, and what one more entry does.
-use mathlib.Core.Path.{_≡_, refl, sym, ap, ap₂, _∙_}
+use mathlib.Core.Path.{_≡_, refl, ap, ap₂, _∙_}
 use mathlib.Core.Logic.{_≢_}
-use mathlib.Core.List.{List, [], _∷_, _++_, map}
+use mathlib.Core.List.{List, [], _∷_, _++_}
 use Prim.Native.Nat.{ℕ, zero, suc, _+_, _≤_, _<_}
 use native.Mathlib.Nat.{not-suc-le-zero}
 use native.Mathlib.Omega.{arith}
-use lib.ListN.{length, getD, set, length-set, length-append, List·getD-map}
+use lib.ListN.{length, getD, set, length-set}
 use lib.Seq.{getD-set-same, getD-set-other}
 use Rattle.spec.specs.Bytes.{Two}
-use Rattle.terms.specs.Buffers.{part}
 use Rattle.terms.specs.PartLaws.{part-cong, part-snoc}
-use Rattle.exact_fixed.specs.Arrays.{twos, NEW, qualitiesIn, termsIn, given}
+use Rattle.exact_fixed.specs.Arrays.{twos, qualitiesIn, termsIn, given}
 
 -- ---- pairs of numbers
 pub twos-length : (a b : List ℕ) (i j n : ℕ) → length (twos a b i j n) ≡ n
@@ -117,18 +116,11 @@ module _ (pairs : List ℕ) (at k i size mass term : ℕ) (is : i ≡ at + k) (f
       (part-cong After pairs (8192 + at) (8192 + at) k (λ j l. given-other pairs i size mass term (8192 + at + j) (omega arith) (omega arith) (omega arith)))
       (ap (λ (z : ℕ). getD After z 0) e ∙ given-term pairs i size mass term (omega arith))
 
--- giving the new fields leaves the old ones, and the other way round
-module _ (pairs : List ℕ) (at k size mass term : ℕ) (n : ℕ) (few : n ≤ 4096) where
+-- giving the new fields leaves the old ones
+module _ (pairs : List ℕ) (at size mass term n : ℕ) (few : n ≤ 4096) where
   pub old-kept : 12288 ≤ at → (qualitiesIn (given pairs at size mass term) 0 n ≡ qualitiesIn pairs 0 n) × (termsIn (given pairs at size mass term) 0 n ≡ termsIn pairs 0 n)
   old-kept h = (
     twos-cong (given pairs at size mass term) (given pairs at size mass term) pairs pairs 0 4096 0 4096 n
         (λ j l. (given-other pairs at size mass term (0 + j) (omega arith) (omega arith) (omega arith), given-other pairs at size mass term (4096 + j) (omega arith) (omega arith) (omega arith))),
     part-cong (given pairs at size mass term) pairs 8192 8192 n (λ j l. given-other pairs at size mass term (8192 + j) (omega arith) (omega arith) (omega arith)),
-  )
-
-  pub new-kept : at < 4096 → (qualitiesIn (given pairs at size mass term) NEW n ≡ qualitiesIn pairs NEW n) × (termsIn (given pairs at size mass term) NEW n ≡ termsIn pairs NEW n)
-  new-kept h = (
-    twos-cong (given pairs at size mass term) (given pairs at size mass term) pairs pairs 12288 16384 12288 16384 n
-        (λ j l. (given-other pairs at size mass term (12288 + j) (omega arith) (omega arith) (omega arith), given-other pairs at size mass term (16384 + j) (omega arith) (omega arith) (omega arith))),
-    part-cong (given pairs at size mass term) pairs 20480 20480 n (λ j l. given-other pairs at size mass term (20480 + j) (omega arith) (omega arith) (omega arith)),
   )

@@ -5,7 +5,7 @@ use Prim.Native.Nat.{ℕ, zero, suc, _+_}
 use lib.ListN.{getD, set}
 use Rattle.spec.specs.Bytes.{Two}
 use Rattle.spec.specs.Run.{State}
-use Rattle.terms.specs.Buffers.{part, poolOf, nodesIn}
+use Rattle.terms.specs.Buffers.{part, poolOf}
 
 -- n pairs of numbers, from place i of one list and place j of the other on
 unfoldable pub twos : List ℕ → List ℕ → ℕ → ℕ → ℕ → List Two

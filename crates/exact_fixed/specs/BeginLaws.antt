@@ -1,26 +1,25 @@
 -- `begin`, from what emptying the pool, the root's starting term and building say.
 use mathlib.Core.Path.{_≡_, refl, sym, ap, ap₂, _∙_}
 use mathlib.Core.List.{List, []}
-use Prim.Native.Nat.{ℕ, _≤_, _<_}
+use Prim.Native.Nat.{ℕ}
 use native.Mathlib.Omega.{arith}
 use lib.ListN.{length, replicate}
 use Rattle.spec.specs.Bytes.{Two, Res, ok, refused, Checked, passed, cutShort}
 use Rattle.spec.specs.Image.{Tables}
-use Rattle.spec.specs.Graph.{build, buildFrom}
+use Rattle.spec.specs.Graph.{build}
 use Rattle.spec.specs.Pool.{Pool, Interned, startingTerm}
-use Rattle.lgg.specs.Results.{ok-inj, refused-ok}
+use Rattle.lgg.specs.Results.{refused-ok}
 use Rattle.lgg.specs.Refusals.{start-only}
 use Rattle.lgg.specs.Graph.{build-refused}
 use Rattle.budget.specs.Budget.{budgetOf}
 use Rattle.budget.specs.declared.Budget.{Budget}
-use Rattle.terms.specs.Buffers.{poolOf, nodesIn}
+use Rattle.terms.specs.Buffers.{poolOf}
 use Rattle.terms.specs.Emptying.{emptied, emptied-pool, emptied-length}
-use Rattle.terms.specs.Growing.{Grows}
 use Rattle.terms.specs.Building.{full-told, term-told}
 use Rattle.terms.specs.Starting.{Starts}
 use Rattle.terms.specs.declared.Entered.the-variants as E
 use Rattle.graph.specs.Building.{builtOf, Builds}
-use Rattle.exact_fixed.specs.Beginning.{begunOf, ifRooted, Begins}
+use Rattle.exact_fixed.specs.Beginning.{begunOf, Begins}
 use Rattle.exact_fixed.specs.declared.Begun.{Begun}
 use Rattle.exact_fixed.specs.declared.Begun.the-variants as B
 use Rattle.graph.specs.declared.Built.{Built}

@@ -5,16 +5,16 @@ use Prim.Native.Nat.{ℕ}
 use lib.ListN.{length, replicate}
 use Rattle.spec.specs.Bytes.{Two, Res, ok, refused, Checked, passed, cutShort}
 use Rattle.spec.specs.Image.{Tables}
-use Rattle.spec.specs.Graph.{build, buildFrom}
+use Rattle.spec.specs.Graph.{build}
 use Rattle.spec.specs.Pool.{Interned, startingTerm}
 use Rattle.spec.specs.Run.{runOf}
 use Rattle.spec.specs.Merge.{outputAfter}
 use Rattle.budget.specs.Budget.{budgetOf}
-use Rattle.terms.specs.Buffers.{poolOf, nodesIn}
+use Rattle.terms.specs.Buffers.{poolOf}
 use Rattle.terms.specs.Chains.{Holds}
 use Rattle.terms.specs.Emptying.{emptied}
 use Rattle.terms.specs.Growing.{Grows}
-use Rattle.graph.specs.Building.{leftsAfter, rightsAfter, indexAfter, numbered}
+use Rattle.graph.specs.Building.{leftsAfter, rightsAfter, indexAfter}
 use Rattle.exact_fixed.specs.Answers.{listedOf, answerOf}
 use Rattle.exact_fixed.specs.declared.Begun.{Begun}
 use Rattle.exact_fixed.specs.declared.Begun.the-variants as B

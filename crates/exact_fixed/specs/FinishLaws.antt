@@ -1,27 +1,27 @@
 -- `finish`, by what `begin` answered.
 use mathlib.Core.Path.{_≡_, refl, sym, ap, ap₂, _∙_}
-use mathlib.Core.List.{List, [], _∷_, _++_, map}
-use Prim.Native.Nat.{ℕ, _+_, _≤_, _<_}
+use mathlib.Core.List.{List, [], map}
+use Prim.Native.Nat.{ℕ, _≤_, _<_}
 use native.Mathlib.Omega.{arith}
-use lib.ListN.{length, replicate, length-replicate}
-use Rattle.spec.specs.Bytes.{Two, Res, ok, refused, _>>=_, Checked, passed, cutShort}
+use lib.ListN.{length, replicate}
+use Rattle.spec.specs.Bytes.{Two, Res, ok, refused, Checked, passed, cutShort}
 use Rattle.spec.specs.Image.{Tables}
-use Rattle.spec.specs.Graph.{build, buildFrom}
-use Rattle.spec.specs.Pool.{Pool, Interned, interned, startingTerm}
-use Rattle.spec.specs.Run.{runOf, started, afterBuilding}
+use Rattle.spec.specs.Graph.{build}
+use Rattle.spec.specs.Pool.{Interned, interned, startingTerm}
+use Rattle.spec.specs.Run.{runOf, afterBuilding}
 use Rattle.laws.specs.Valid.{Valid}
 use Rattle.lgg.specs.BestMembers.{IsPair}
-use Rattle.lgg.specs.Pool.{PoolValid, empty-valid}
+use Rattle.lgg.specs.Pool.{empty-valid}
 use Rattle.lgg.specs.PoolIntern.{extends-refl}
 use Rattle.lgg.specs.Standing.{starting-grows}
 use Rattle.lgg.specs.RunFrom.{run-no-root, run-no-graph, run-cut-building}
 use Rattle.budget.specs.Budget.{budgetOf}
 use Rattle.budget.specs.declared.Budget.{Budget}
-use Rattle.terms.specs.Buffers.{poolOf, nodesIn, countIn}
+use Rattle.terms.specs.Buffers.{poolOf, countIn}
 use Rattle.terms.specs.PoolLaws.{pool-length}
 use Rattle.terms.specs.Chains.{Holds}
 use Rattle.graph.specs.Building.{leftsAfter, rightsAfter, indexAfter, numbered, over}
-use Rattle.exact_fixed.specs.Arrays.{twos, pairsIn}
+use Rattle.exact_fixed.specs.Arrays.{pairsIn}
 use Rattle.exact_fixed.specs.Graphs.{Graphs}
 use Rattle.exact_fixed.specs.GraphLaws.{pairs-laid, graphs-built}
 use Rattle.exact_fixed.specs.RunLaws.{startedIn, ran-started}

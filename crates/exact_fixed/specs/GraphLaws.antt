@@ -1,19 +1,19 @@
 -- A graph that is built in full, in the arrays that building leaves.
-use mathlib.Core.Path.{_≡_, refl, sym, ap, ap₂, _∙_}
-use mathlib.Core.List.{List, [], _∷_, _++_, map}
-use Prim.Native.Nat.{ℕ, zero, suc, _+_, _≤_, _<_}
+use mathlib.Core.Path.{_≡_, refl, ap, ap₂, _∙_}
+use mathlib.Core.List.{List, [], _∷_, map}
+use Prim.Native.Nat.{ℕ, suc, _+_, _≤_, _<_}
 use native.Mathlib.Omega.{arith}
 use lib.ListN.{length, getD, set, replicate, length-set, length-replicate}
 use lib.Seq.{ext-getD}
-use Rattle.spec.specs.Bytes.{place, Two, sameTwo, Res, ok, refused, Checked, passed, cutShort}
+use Rattle.spec.specs.Bytes.{Two, ok, passed}
 use Rattle.spec.specs.Image.{Tables}
-use Rattle.spec.specs.Graph.{build, buildFrom}
+use Rattle.spec.specs.Graph.{build}
 use Rattle.laws.specs.Valid.{Valid}
 use Rattle.lgg.specs.BestMembers.{IsPair}
 use Rattle.lgg.specs.Graph.{build-closed}
 use Rattle.graph.specs.Built.{left-at, right-at, built-some, built-few, built-below, built-within, built-number}
 use Rattle.graph.specs.Building.{numbered, over, code}
-use Rattle.exact_fixed.specs.Arrays.{twos, pairsIn}
+use Rattle.exact_fixed.specs.Arrays.{pairsIn}
 use Rattle.exact_fixed.specs.ArrayLaws.{twos-length, twos-at}
 use Rattle.exact_fixed.specs.Graphs.{Graphs}
 

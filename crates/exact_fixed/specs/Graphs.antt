@@ -1,5 +1,5 @@
 -- What the arrays of a built graph hold.
-use mathlib.Core.Path.{_≡_, refl, sym, ap, ap₂, _∙_}
+use mathlib.Core.Path.{_≡_, sym, ap, ap₂, _∙_}
 use mathlib.Core.List.{List}
 use Prim.Native.Nat.{ℕ, _+_, _≤_, _<_}
 use native.Mathlib.Omega.{arith}
@@ -14,14 +14,14 @@ use Rattle.lgg.specs.BestMembers.{IsPair}
 use Rattle.lgg.specs.Rounds.{Closed}
 use Rattle.lgg.specs.Lists.{get-in}
 use Rattle.lgg.specs.Standing.{Standing, place-in, Midway}
-use Rattle.lgg.specs.PoolIntern.{Extends, extends-within}
+use Rattle.lgg.specs.PoolIntern.{extends-within}
 use Rattle.lgg.specs.TurnsFrom.{turnTerm}
 use Rattle.lgg.specs.TurnRead.{turn-read, term-read}
 use Rattle.quality.specs.Known.{numberIn, qualityIn, termIn, Known}
-use Rattle.terms.specs.Buffers.{countIn, poolOf, nodesIn, part}
+use Rattle.terms.specs.Buffers.{countIn, poolOf}
 use Rattle.terms.specs.PoolLaws.{pool-length}
 use Rattle.terms.specs.PartLaws.{part-at}
-use Rattle.exact_fixed.specs.Arrays.{twos, pairsIn, qualitiesIn, termsIn}
+use Rattle.exact_fixed.specs.Arrays.{pairsIn, qualitiesIn, termsIn}
 use Rattle.exact_fixed.specs.ArrayLaws.{twos-length, twos-at}
 
 -- every pair is one of classes of the image

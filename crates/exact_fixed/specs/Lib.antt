@@ -6,7 +6,6 @@ pub mod Spending
 pub mod Graphs
 pub mod Starting
 pub mod Turning
-pub mod Taking
 pub mod TakeLaws
 pub mod Answers
 pub mod AnswerLaws

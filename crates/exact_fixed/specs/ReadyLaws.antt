@@ -1,12 +1,12 @@
 -- What `begin` leaves is what `finish` asks.
-use mathlib.Core.Path.{_≡_, refl, sym, ap, _∙_}
-use mathlib.Core.List.{List, [], _∷_, _++_, map}
+use mathlib.Core.Path.{_≡_, sym, ap, _∙_}
+use mathlib.Core.List.{List, [], _++_, map}
 use Prim.Native.Nat.{ℕ}
 use lib.ListN.{length, drop, replicate, length-replicate}
 use lib.Seq.{drop-append-seam}
 use Rattle.spec.specs.Bytes.{Two, Res, ok, refused, Checked, passed, cutShort}
 use Rattle.spec.specs.Image.{Tables}
-use Rattle.spec.specs.Graph.{build, buildFrom}
+use Rattle.spec.specs.Graph.{build}
 use Rattle.spec.specs.Pool.{Interned, startingTerm}
 use Rattle.graph.specs.Building.{over, numbered, leftsAfter, rightsAfter, indexAfter}
 use Rattle.exact_fixed.specs.GraphLaws.{numbered-length}

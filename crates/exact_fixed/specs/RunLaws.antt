@@ -1,8 +1,8 @@
 -- The run before its rounds: cut short in building or in starting terms, or over a graph that is built in full.
-use mathlib.Core.Path.{_≡_, refl, sym, ap, _∙_}
-use mathlib.Core.Bool.{Bool, true, false}
-use mathlib.Core.List.{List, map}
-use Prim.Native.Nat.{ℕ, _≤_, _<_}
+use mathlib.Core.Path.{_≡_, sym, ap, _∙_}
+use mathlib.Core.Bool.{false}
+use mathlib.Core.List.{List}
+use Prim.Native.Nat.{ℕ, _<_}
 use native.Mathlib.Omega.{arith}
 use lib.ListN.{length}
 use Rattle.spec.specs.Bytes.{Two, Res, ok, refused, _>>=_, Checked, passed, cutShort}
@@ -11,22 +11,21 @@ use Rattle.spec.specs.Pool.{Pool, Interned, interned}
 use Rattle.spec.specs.Round.{startingQuality, Terms}
 use Rattle.spec.specs.Run as run
 use Rattle.spec.specs.Run.{startingTerms, afterStarting, afterBuilding}
-use Rattle.spec.specs.Listing.{listingOf}
 use Rattle.laws.specs.Valid.{Valid}
 use Rattle.lgg.specs.PoolIntern.{Extends, extends-within}
 use Rattle.lgg.specs.Pool.{PoolValid}
 use Rattle.lgg.specs.RoundsFrom.{roundsOf}
 use Rattle.lgg.specs.Standing.{Standing, startState, standing-started, listing-started}
-use Rattle.terms.specs.Buffers.{poolOf, nodesIn, countIn}
+use Rattle.terms.specs.Buffers.{poolOf}
 use Rattle.terms.specs.PoolLaws.{pool-length}
 use Rattle.terms.specs.Chains.{Holds}
-use Rattle.exact_fixed.specs.Arrays.{twos, qualitiesIn, termsIn, stateIn}
+use Rattle.exact_fixed.specs.Arrays.{termsIn, stateIn}
 use Rattle.exact_fixed.specs.Graphs.{InRange}
 use Rattle.exact_fixed.specs.Starting.{Starting, StartsAll, start-done, start-qualities}
 use Rattle.budget.specs.declared.Budget.{Budget}
 use Rattle.exact_fixed.specs.declared.Started.{Started}
 use Rattle.exact_fixed.specs.declared.Started.the-variants as S
-use Rattle.exact_fixed.specs.Answers.{outcomeIn, RanTo}
+use Rattle.exact_fixed.specs.Answers.{RanTo}
 use Rattle.exact_fixed.specs.declared.Outcome.{Outcome}
 use Rattle.exact_fixed.specs.declared.Ran.{Ran}
 use Rattle.exact_fixed.specs.declared.Ran.the-variants as R

@@ -1,15 +1,15 @@
 -- The rounds: "The run is complete at the first finished round without change." "one cut short leaves every quality as it was"
-use mathlib.Core.Path.{_≡_, refl, sym, ap, ap₂, _∙_}
+use mathlib.Core.Path.{_≡_, refl, sym, ap, _∙_}
 use mathlib.Core.Bool.{Bool, true, false}
-use mathlib.Core.List.{List, [], _∷_, _++_, map}
-use Prim.Native.Nat.{ℕ, zero, suc, _+_, _≤_, _<_}
+use mathlib.Core.List.{List, map}
+use Prim.Native.Nat.{ℕ, _+_, _≤_, _<_}
 use native.Mathlib.Omega.{arith}
 use native.Mathlib.Numerals.{add-one}
 use lib.ListN.{length, getD}
-use Rattle.spec.specs.Bytes.{any, Two, Res, ok, refused, Checked, passed, cutShort}
+use Rattle.spec.specs.Bytes.{any, Two, Res, ok, refused, passed, cutShort}
 use Rattle.spec.specs.Image.{Tables}
 use Rattle.spec.specs.Pool.{Pool}
-use Rattle.spec.specs.Round.{Turn, changes, Terms}
+use Rattle.spec.specs.Round.{changes, Terms}
 use Rattle.spec.specs.Run as run
 use Rattle.spec.specs.Run.{State, outcome}
 use Rattle.spec.specs.Listing.{listingOf}
@@ -17,16 +17,16 @@ use Rattle.lgg.specs.PoolIntern.{Extends, extends-refl, extends-within}
 use Rattle.lgg.specs.Rounds.{Closed}
 use Rattle.lgg.specs.RoundsFrom.{turnsAt, roundAt, stateAfter, roundsOf, rounds-expired, rounds-refused, rounds-cut, rounds-quiet, rounds-next, round-left as rounds-left}
 use Rattle.lgg.specs.Standing.{Standing, standing-next, listing-cut}
-use Rattle.terms.specs.Buffers.{poolOf, nodesIn, part, countIn}
+use Rattle.terms.specs.Buffers.{poolOf}
 use Rattle.terms.specs.PoolLaws.{pool-length}
 use Rattle.terms.specs.Chains.{Holds}
-use Rattle.exact_fixed.specs.Arrays.{twos, NEW, qualitiesIn, termsIn, stateIn}
+use Rattle.exact_fixed.specs.Arrays.{NEW, qualitiesIn, termsIn, stateIn}
 use Rattle.exact_fixed.specs.ArrayLaws.{twos-at}
 use Rattle.terms.specs.PartLaws.{part-at}
-use Rattle.exact_fixed.specs.Graphs.{Graphs, Reads}
+use Rattle.exact_fixed.specs.Graphs.{Reads}
 use Rattle.budget.specs.declared.Budget.{Budget}
 use Rattle.exact_fixed.specs.Turning.{Turning, Relaxes, relaxes-full, relaxes-cut, relaxes-finished, turns-done, turns-changed, turns-qualities}
-use Rattle.exact_fixed.specs.Answers.{outcomeIn, RanTo}
+use Rattle.exact_fixed.specs.Answers.{RanTo}
 use Rattle.exact_fixed.specs.declared.Outcome.{Outcome}
 use Rattle.exact_fixed.specs.declared.Ran.the-variants as R
 use Rattle.exact_fixed.specs.declared.Round.{Round}

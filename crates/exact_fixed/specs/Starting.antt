@@ -1,5 +1,5 @@
 -- Starting terms, pair by pair: "one [check] a pair in starting terms".
-use mathlib.Core.Path.{_≡_, refl, sym, ap, ap₂, _∙_}
+use mathlib.Core.Path.{_≡_, refl, sym, ap, _∙_}
 use mathlib.Core.Bool.{Bool, true, false}
 use mathlib.Core.List.{List, [], _∷_, _++_, map}
 use Prim.Native.Nat.{ℕ, zero, suc, _+_, _≤_, _<_}
@@ -12,14 +12,13 @@ use Rattle.spec.specs.Image.{Tables}
 use Rattle.spec.specs.Pool.{Pool, Interned, startingTerm}
 use Rattle.spec.specs.Round.{startingQuality, Terms}
 use Rattle.spec.specs.Run.{startingTerms}
-use Rattle.spec.specs.Meaning.{In}
 use Rattle.laws.specs.Valid.{Valid}
 use Rattle.lgg.specs.Refusals.{start-only}
 use Rattle.lgg.specs.BestMembers.{IsPair}
 use Rattle.lgg.specs.PoolIntern.{Extends}
 use Rattle.lgg.specs.TurnsFrom.{StartingAt, starting-begin, starting-cut, starting-turn, starting-refused, starting-end}
-use Rattle.lgg.specs.Standing.{Midway, midway-begin, starting-midway, starting-grows, Standing, standing-started, startState}
-use Rattle.terms.specs.Buffers.{poolOf, nodesIn, part}
+use Rattle.lgg.specs.Standing.{Midway, midway-begin, starting-midway, starting-grows}
+use Rattle.terms.specs.Buffers.{poolOf, part}
 use Rattle.terms.specs.Chains.{Holds}
 use Rattle.terms.specs.Bests.{Kept}
 use Rattle.terms.specs.PoolLaws.{pool-length}

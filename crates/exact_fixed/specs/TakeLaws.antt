@@ -1,25 +1,22 @@
 -- A turn of the loop, from what `take_turn` says.
-use mathlib.Core.Path.{_≡_, refl, sym, ap, _∙_}
-use mathlib.Core.Bool.{Bool, true, false}
+use mathlib.Core.Path.{_≡_, refl, ap, _∙_}
 use mathlib.Core.List.{List}
 use Prim.Native.Nat.{ℕ, _+_, _*_, _<_}
 use native.Mathlib.Omega.{arith}
 use lib.ListN.{length, getD}
 use Rattle.spec.specs.Bytes.{Two, Res, ok, refused}
 use Rattle.spec.specs.Image.{Tables}
-use Rattle.spec.specs.Pool.{Pool, Interned}
-use Rattle.spec.specs.Round.{Choice, act, Turn, turnOf, changes, choiceTerm}
-use Rattle.spec.specs.Meaning.{In}
-use Rattle.lgg.specs.Standing.{Grew, choice-grows}
+use Rattle.spec.specs.Pool.{Interned}
+use Rattle.spec.specs.Round.{Turn, changes}
+use Rattle.lgg.specs.Standing.{choice-grows}
 use Rattle.quality.specs.Known.{numberIn, qualityIn, termIn, Known}
-use Rattle.terms.specs.Buffers.{poolOf, nodesIn, countIn}
+use Rattle.terms.specs.Buffers.{poolOf, countIn}
 use Rattle.terms.specs.PoolLaws.{pool-length}
 use Rattle.terms.specs.Chains.{Holds}
 use Rattle.terms.specs.Interning.{poolAfter}
-use Rattle.exact_fixed.specs.Taking.{takenOf, Takes}
-use Rattle.exact_fixed.specs.declared.Turned.{Turned}
-use Rattle.exact_fixed.specs.declared.Taken.{Taken}
-use Rattle.exact_fixed.specs.declared.Taken.the-variants as K
+use Rattle.turns.specs.Taking.{takenOf, Takes}
+use Rattle.turns.specs.declared.Turned.{Turned}
+use Rattle.turns.specs.declared.Taken.the-variants as K
 use Rattle.exact_fixed.specs.Arrays.{NEW, given}
 use Rattle.exact_fixed.specs.Turning.{Moved, turnIn, termMade}
 

@@ -1,8 +1,8 @@
 -- A round, turn by turn: "All pairs read the previous round", "one [check] a pair in it".
 use mathlib.Core.Path.{_≡_, refl, sym, ap, ap₂, _∙_}
-use mathlib.Core.Bool.{Bool, true, false}
+use mathlib.Core.Bool.{Bool, false}
 use mathlib.Core.List.{List, [], _∷_, _++_, map}
-use Prim.Native.Nat.{ℕ, zero, suc, _+_, _≤_, _<_}
+use Prim.Native.Nat.{ℕ, _+_, _<_}
 use native.Mathlib.Omega.{arith}
 use native.Mathlib.Numerals.{add-one}
 use lib.ListN.{length, getD, take}
@@ -10,16 +10,15 @@ use lib.Seq.{take-suc, take-all}
 use Rattle.spec.specs.Bytes.{any, either, Two, Res, ok, refused, Checked, passed, cutShort}
 use Rattle.spec.specs.Image.{Tables}
 use Rattle.spec.specs.Pool.{Pool, Interned}
-use Rattle.spec.specs.Round.{lookUp, Turn, changes, turnOf, turnsOf, choiceTerm, Terms}
+use Rattle.spec.specs.Round.{lookUp, Turn, changes, turnOf, choiceTerm, Terms}
 use Rattle.spec.specs.Run.{State}
 use Rattle.lgg.specs.Refusals.{choice-only}
 use Rattle.lgg.specs.PoolIntern.{Extends}
-use Rattle.lgg.specs.Rounds.{Closed}
 use Rattle.lgg.specs.TurnsFrom.{turns-length, turn-at, changedBy, changed-begin, changed-turn, changed-end, turnTerm, RoundAt, round-begin, round-cut, round-turn, round-refused, round-end}
-use Rattle.lgg.specs.RoundsFrom.{turnsAt, roundAt, stateAfter}
+use Rattle.lgg.specs.RoundsFrom.{turnsAt, roundAt}
 use Rattle.lgg.specs.Standing.{Midway, midway-begin, turn-midway, Standing}
 use Rattle.quality.specs.Known.{qualityIn, termIn}
-use Rattle.terms.specs.Buffers.{poolOf, nodesIn, part}
+use Rattle.terms.specs.Buffers.{poolOf, part}
 use Rattle.terms.specs.Chains.{Holds}
 use Rattle.exact_fixed.specs.Arrays.{twos, NEW, qualitiesIn, termsIn, given}
 use Rattle.exact_fixed.specs.ArrayLaws.{given-length, qualities-more, terms-more, old-kept}
@@ -123,7 +122,7 @@ module _ (t : Tables) (ps : List Two) (s : State) (whole : Res (Checked Terms)) 
         let few = G .few in
         let room = X .reads .long in
         let named : termsIn pairs′ NEW (k + 1) ≡ termsIn pairs NEW k ++ (a .term ∷ []) = rw (add-one k, M .numbers) (terms-more pairs NEW k (NEW + k) (w .quality .0) (w .quality .1) (a .term) refl (omega arith) (omega arith)) in
-        let kept = old-kept pairs (NEW + k) k (w .quality .0) (w .quality .1) (a .term) (length ps) few (omega arith) in
+        let kept = old-kept pairs (NEW + k) (w .quality .0) (w .quality .1) (a .term) (length ps) few (omega arith) in
         record {
           sofar = rw (named, M .pool) (round-turn t (lookUp 0 ps (s .terms)) ps (s .qualities) whole k (termsIn pairs NEW k) b c (poolOf terms runs) a h e (X .sofar) made);
           midway = rw (named, M .pool) (turn-midway t ps s S (G .closed) k (termsIn pairs NEW k) (poolOf terms runs) a h (X .midway) made);

@@ -5,6 +5,7 @@ use image::Image;
 use listing::Report;
 use listing::Written;
 use terms::Entered;
+use turns::Taken;
 ghost use mathlib.Core.Path.{_≡_};
 ghost use Prim.Native.Nat.{_+_, _≤_, _<_};
 ghost use lib.ListN.{length, getD, set, replicate};
@@ -18,14 +19,13 @@ ghost use Rattle.spec.specs.Pool.{interned};
 ghost use Rattle.spec.specs.Run.{startingTerms, afterBuilding, runOf};
 ghost use Rattle.lgg.specs.RoundsFrom.{roundAt, roundsOf};
 ghost use Rattle.lgg.specs.Standing.{Standing};
-ghost use Rattle.quality.specs.Known.{Known, qualityIn, termIn};
+ghost use Rattle.quality.specs.Known.{Known};
 ghost use Rattle.terms.specs.Buffers.{countIn, poolOf};
 ghost use Rattle.terms.specs.Chains.{Holds};
 ghost use Rattle.terms.specs.Bests.{Kept};
 ghost use Rattle.exact_fixed.specs.Arrays.{NEW, pairsIn, qualitiesIn, termsIn, given, stateIn};
 ghost use Rattle.exact_fixed.specs.Graphs.{InRange, Graphs};
 ghost use Rattle.exact_fixed.specs.Starting.{BeginsOne, StartsAll};
-ghost use Rattle.exact_fixed.specs.Taking.{Takes};
 ghost use Rattle.exact_fixed.specs.TakeLaws.{TermsHeld};
 ghost use Rattle.exact_fixed.specs.Turning.{turnIn, termMade, Steps, Relaxes};
 ghost use Rattle.exact_fixed.specs.RunLaws.{startedIn};
@@ -34,36 +34,36 @@ ghost use Rattle.exact_fixed.specs.Answers.{outcomeIn, ranOf, Listable, 
 ghost use Rattle.exact_fixed.specs.Beginning.{Begins, Ready, Finishes};
 
 // what a run reports; root is its term's number
-pub struct Outcome {
-    pub complete: bool,
-    pub pairs: usize,
-    pub rounds: u32,
-    pub size: u32,
-    pub mass: u32,
-    pub root: usize,
+struct Outcome {
+    complete: bool,
+    pairs: usize,
+    rounds: u32,
+    size: u32,
+    mass: u32,
+    root: usize,
 }
 
 // an outcome, or a refusal
-pub enum Ran {
+enum Ran {
     Done(Outcome),
     Stopped(u8),
 }
 
 // starting terms of all pairs, with the budget left; cut short; refusal 13
-pub enum Started {
+enum Started {
     All(Budget),
     Cut,
     Full,
 }
 
 // a pair's turn: whether it changed; or refusal 13
-pub enum Step {
+enum Step {
     To(bool),
     Full,
 }
 
 // a round: whether a pair changed, with the budget left; cut short; refusal 13
-pub enum Round {
+enum Round {
     Finished(bool, Budget),
     Cut,
     Full,
@@ -281,44 +281,6 @@ fn list_outcome(
     }
 }
 
-// STUB
-pub struct Turned {
-    pub size: u32,
-    pub mass: u32,
-    pub term: usize,
-    pub changed: bool,
-}
-
-// STUB
-pub enum Taken {
-    To(Turned),
-    Full,
-}
-
-// STUB
-fn take_turn(
-    s: &[u8],
-    im: Image,
-    index: &[u16],
-    pairs: &[u32],
-    n: usize,
-    l: usize,
-    r: usize,
-    sizes: &mut [u32; 4225],
-    masses: &mut [u32; 4225],
-    costs: &mut [u64; 12675],
-    flow: &mut [u64; 4225],
-    list: &mut [u64; 4225],
-    terms: &mut [u32],
-    runs: &mut [u64],
-) -> Taken
-    requires { ⌜ Loaded (now s) im × Valid (tablesOf (now s)) × (l < im .classes) × (r < im .classes) × Known n (now index) (now pairs) × Holds (now terms) (now runs) × TermsHeld n (now pairs) (now terms) ⌝ }
-    ensures { λ x. ⌜ Takes (tablesOf (now (s .entry))) (qualityIn (now (index .entry)) (now (pairs .entry))) (termIn (now (index .entry)) (now (pairs .entry))) (l, r) (now (terms .entry)) (now (runs .entry)) (now (terms .exit)) (now (runs .exit)) x ⌝ }
-{
-    Taken::Full
-}
-// END STUB
-
 // ---- rounds
 fn either(a: bool, b: bool) -> bool
     ensures { λ r. ⌜ r ≡ bytes.either a b ⌝ }
@@ -350,7 +312,7 @@ fn take_one(
     requires { ⌜ Loaded (now s) im × Valid (tablesOf (now s)) × (l < im .classes) × (r < im .classes) × (k < 4096) × Known n (now index) (now pairs) × Holds (now terms) (now runs) × TermsHeld n (now pairs) (now terms) ⌝ }
     ensures { λ x. ⌜ Steps (turnIn (tablesOf (now (s .entry))) (now (index .entry)) (now (pairs .entry)) (l, r)) (termMade (tablesOf (now (s .entry))) (now (index .entry)) (now (pairs .entry)) (poolOf (now (terms .entry)) (now (runs .entry))) (l, r)) k (now (pairs .entry)) (now (pairs .exit)) (now (terms .exit)) (now (runs .exit)) x ⌝ }
 {
-    let w = take_turn(
+    let w = turns::take_turn(
         s,
         im,
         index,

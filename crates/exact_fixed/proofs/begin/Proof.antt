@@ -1,15 +1,10 @@
 use Rattle.spec.specs.Image.{tablesOf}
 use Rattle.terms.specs.Chains.{Holds}
-use Rattle.terms.specs.Emptying.{emptied, emptied-holds}
+use Rattle.terms.specs.Emptying.{emptied-holds}
 use Rattle.exact_fixed.specs.Starting.{kept-none}
 use Rattle.exact_fixed.specs.BeginLaws.{begin-refused, begin-full, begin-cut, begin-all}
-use borrow.Author.Tests.{lt-ltb, le-ltb, le-leb, lt-leb, eq-eqb, ne-eqb}
-use Prim.Native.Nat.{ℕ, zero, suc, _≤_, _<_, _-_, _+_, _*_, _^_}
 use native.Mathlib.Omega.{arith}
-use native.Mathlib.Numerals.{add-one}
-use mathlib.Core.Path.{_≡_, refl, ap, ap₂, sym, _∙_}
-use mathlib.Core.List.{List, [], _∷_, _++_}
-use lib.ListN.{length, take, drop, getD, set, length-set}
+use mathlib.Core.Path.{refl}
 use borrow.Author.Needs.{needs}
 use Rattle.exact_fixed.proofs.begin.Statement.{statement}
 use Rattle.exact_fixed.proofs.begin.Tie as tie

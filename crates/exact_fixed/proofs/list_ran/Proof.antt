@@ -1,12 +1,6 @@
 use Rattle.spec.specs.Bytes.{refused}
 use Rattle.exact_fixed.specs.AnswerLaws.{answer-refused}
-use borrow.Author.Tests.{lt-ltb, le-ltb, le-leb, lt-leb, eq-eqb, ne-eqb}
-use Prim.Native.Nat.{ℕ, zero, suc, _≤_, _<_, _-_, _+_, _*_, _^_}
-use native.Mathlib.Omega.{arith}
-use native.Mathlib.Numerals.{add-one}
-use mathlib.Core.Path.{_≡_, refl, ap, ap₂, sym, _∙_}
-use mathlib.Core.List.{List, [], _∷_, _++_}
-use lib.ListN.{length, take, drop, getD, set, length-set}
+use mathlib.Core.Path.{refl}
 use borrow.Author.Needs.{needs}
 use Rattle.exact_fixed.proofs.list_ran.Statement.{statement}
 use Rattle.exact_fixed.proofs.list_ran.Tie as tie

@@ -7,13 +7,10 @@ use Rattle.exact_fixed.specs.ArrayLaws.{twos-length}
 use Rattle.exact_fixed.specs.Graphs.{Reads, graphs-length, pair-at, pair-ranged, known-here, terms-here}
 use Rattle.exact_fixed.specs.Turning.{Turning, turning-none, steps-full, steps-to, turn-cut, turn-refused, turn-moved}
 use Rattle.exact_fixed.specs.Spending.{expired, spent}
-use borrow.Author.Tests.{lt-ltb, le-ltb, le-leb, lt-leb, eq-eqb, ne-eqb}
-use Prim.Native.Nat.{ℕ, zero, suc, _≤_, _<_, _-_, _+_, _*_, _^_}
+use Prim.Native.Nat.{_≤_, _-_}
 use native.Mathlib.Omega.{arith}
-use native.Mathlib.Numerals.{add-one}
-use mathlib.Core.Path.{_≡_, refl, ap, ap₂, sym, _∙_}
-use mathlib.Core.List.{List, [], _∷_, _++_}
-use lib.ListN.{length, take, drop, getD, set, length-set}
+use mathlib.Core.Path.{_≡_, refl}
+use lib.ListN.{length}
 use borrow.Author.Needs.{needs}
 use Rattle.exact_fixed.proofs.relax_all.Statement.{statement}
 use Rattle.exact_fixed.proofs.relax_all.Tie as tie

@@ -1,13 +1,7 @@
 use Rattle.spec.specs.Image.{tablesOf}
 use Rattle.image.specs.Loaded.{classes-many}
 use Rattle.exact_fixed.specs.FinishLaws.{finish-stopped, finish-cut, all-graphs, all-root, all-holds, all-ran}
-use borrow.Author.Tests.{lt-ltb, le-ltb, le-leb, lt-leb, eq-eqb, ne-eqb}
-use Prim.Native.Nat.{ℕ, zero, suc, _≤_, _<_, _-_, _+_, _*_, _^_}
 use native.Mathlib.Omega.{arith}
-use native.Mathlib.Numerals.{add-one}
-use mathlib.Core.Path.{_≡_, refl, ap, ap₂, sym, _∙_}
-use mathlib.Core.List.{List, [], _∷_, _++_}
-use lib.ListN.{length, take, drop, getD, set, length-set}
 use borrow.Author.Needs.{needs}
 use Rattle.exact_fixed.proofs.run_begun.Statement.{statement}
 use Rattle.exact_fixed.proofs.run_begun.Tie as tie

@@ -3,13 +3,7 @@ use Rattle.terms.specs.Buffers.{poolOf}
 use Rattle.terms.specs.PoolLaws.{pool-length}
 use Rattle.exact_fixed.specs.Arrays.{pairsIn}
 use Rattle.exact_fixed.specs.RunLaws.{starts-full, starts-cut, starts-holds, starts-stands, starts-rounds}
-use borrow.Author.Tests.{lt-ltb, le-ltb, le-leb, lt-leb, eq-eqb, ne-eqb}
-use Prim.Native.Nat.{ℕ, zero, suc, _≤_, _<_, _-_, _+_, _*_, _^_}
 use native.Mathlib.Omega.{arith}
-use native.Mathlib.Numerals.{add-one}
-use mathlib.Core.Path.{_≡_, refl, ap, ap₂, sym, _∙_}
-use mathlib.Core.List.{List, [], _∷_, _++_}
-use lib.ListN.{length, take, drop, getD, set, length-set}
 use borrow.Author.Needs.{needs}
 use Rattle.exact_fixed.proofs.run_built.Statement.{statement}
 use Rattle.exact_fixed.proofs.run_built.Tie as tie

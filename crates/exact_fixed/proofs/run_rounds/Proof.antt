@@ -3,13 +3,10 @@ use Rattle.lgg.specs.RoundsFrom.{roundsOf}
 use Rattle.exact_fixed.specs.Arrays.{pairsIn, stateIn}
 use Rattle.exact_fixed.specs.Running.{Running, standing-any, run-expired, round-full, round-cut, round-quiet, round-left, round-next}
 use Rattle.exact_fixed.specs.Spending.{expired, spent, was-false, was-true}
-use borrow.Author.Tests.{lt-ltb, le-ltb, le-leb, lt-leb, eq-eqb, ne-eqb}
-use Prim.Native.Nat.{ℕ, zero, suc, _≤_, _<_, _-_, _+_, _*_, _^_}
+use Prim.Native.Nat.{_≤_, _+_}
 use native.Mathlib.Omega.{arith}
-use native.Mathlib.Numerals.{add-one}
-use mathlib.Core.Path.{_≡_, refl, ap, ap₂, sym, _∙_}
-use mathlib.Core.List.{List, [], _∷_, _++_}
-use lib.ListN.{length, take, drop, getD, set, length-set}
+use mathlib.Core.Path.{_≡_, refl}
+use lib.ListN.{length}
 use borrow.Author.Needs.{needs}
 use Rattle.exact_fixed.proofs.run_rounds.Statement.{statement}
 use Rattle.exact_fixed.proofs.run_rounds.Tie as tie

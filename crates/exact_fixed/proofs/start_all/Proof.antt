@@ -9,14 +9,10 @@ use Rattle.exact_fixed.specs.Graphs.{pair-at, pair-ranged}
 use Rattle.exact_fixed.specs.Starting.{Starting, starting-none, start-cut, start-full, start-more, kept-none}
 use Rattle.exact_fixed.specs.Spending.{expired, spent, was-false, was-true}
 use borrow.Author.Needs.{needs}
-use borrow.Author.Tests.{lt-ltb, le-ltb, le-leb, lt-leb, eq-eqb, ne-eqb}
-use Prim.Native.Nat.{ℕ, zero, suc, _≤_, _<_, _-_, _+_, _*_, _^_}
+use Prim.Native.Nat.{_≤_, _-_}
 use native.Mathlib.Omega.{arith}
-use native.Mathlib.Numerals.{add-one}
-use mathlib.Core.Path.{_≡_, refl, ap, sym, _∙_}
-use mathlib.Core.Logic.{⊎-elim}
-use mathlib.Core.List.{List, [], _∷_, _++_, append-nil}
-use lib.ListN.{length, take, drop, getD, set, length-set, length-take, length-drop, length-append, drop-of-length-le}
+use mathlib.Core.Path.{_≡_, refl}
+use lib.ListN.{length}
 use Rattle.exact_fixed.proofs.start_all.Statement.{statement}
 use Rattle.exact_fixed.proofs.start_all.Tie as tie
 use Rattle.exact_fixed.proofs.start_all.Reads as reads

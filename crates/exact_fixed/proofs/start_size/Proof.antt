@@ -1,14 +1,7 @@
-use borrow.Author.Tests.{lt-ltb, le-ltb, le-leb, lt-leb, eq-eqb, ne-eqb}
-use Prim.Native.Nat.{ℕ, zero, suc, _≤_, _<_, _-_, _+_, _*_, _^_}
 use native.Mathlib.Omega.{arith}
-use native.Mathlib.Numerals.{add-one}
-use mathlib.Core.Path.{_≡_, refl, ap, sym, _∙_}
-use mathlib.Core.Logic.{⊎-elim}
-use mathlib.Core.List.{List, [], _∷_, _++_, append-nil}
 use Rattle.spec.specs.Image.{tablesOf}
 use Rattle.image.specs.Loaded.{classes-many}
-use Rattle.exact_fixed.specs.StartSizes.{size-same, mass-same, size-two, mass-two, sizes-fit}
-use lib.ListN.{length, take, drop, getD, set, length-set, length-take, length-drop, length-append, drop-of-length-le}
+use Rattle.exact_fixed.specs.StartSizes.{size-same, size-two, sizes-fit}
 use borrow.Author.Needs.{needs}
 use Rattle.exact_fixed.proofs.start_size.Statement.{statement}
 use Rattle.exact_fixed.proofs.start_size.Tie as tie

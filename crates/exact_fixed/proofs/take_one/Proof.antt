@@ -1,12 +1,6 @@
 use Rattle.spec.specs.Image.{tablesOf}
 use Rattle.exact_fixed.specs.TakeLaws.{take-full, take-small, take-moves}
-use borrow.Author.Tests.{lt-ltb, le-ltb, le-leb, lt-leb, eq-eqb, ne-eqb}
-use Prim.Native.Nat.{ℕ, zero, suc, _≤_, _<_, _-_, _+_, _*_, _^_}
 use native.Mathlib.Omega.{arith}
-use native.Mathlib.Numerals.{add-one}
-use mathlib.Core.Path.{_≡_, refl, ap, ap₂, sym, _∙_}
-use mathlib.Core.List.{List, [], _∷_, _++_}
-use lib.ListN.{length, take, drop, getD, set, length-set}
 use borrow.Author.Needs.{needs}
 use Rattle.exact_fixed.proofs.take_one.Statement.{statement}
 use Rattle.exact_fixed.proofs.take_one.Tie as tie
@@ -14,7 +8,7 @@ use Rattle.exact_fixed.proofs.take_one.Reads as reads
 use Rattle.exact_fixed.proofs.take_one.Lts as lts
 use Rattle.exact_fixed.proofs.give.Reads as give-reads
 use Rattle.exact_fixed.proofs.short.Reads as short-reads
-use Rattle.exact_fixed.proofs.take_turn.Reads as take-turn-reads
+use Rattle.turns.proofs.take_turn.Reads as take-turn-reads
 
 -- src/lib.rt:354:9
 take-turn-requires : tie.Need-take-turn-requires
@@ -40,7 +34,7 @@ same-length-3 c = search needs
 returns : tie.Need-returns
 returns c =
     let a = c .before .before .before .before .before .before .before .before .before .before .before .before .before .before .before .before .before .before .before .before .args in
-    take-full (tablesOf (a .s .now)) (a .index .now) (a .pairs .now) (a .l, a .r) (a .terms .now) (a .runs .now) _ _ (rw (c .enum-told .given .1) at (c .before .before .before .before .before .before .take-turn .ensures))
+    take-full (tablesOf (a .s .now)) (a .index .now) (a .pairs .now) (a .l, a .r) (a .terms .now) (a .runs .now) _ _ (rw (c .enum-told .given .1) at (c .before .before .before .before .before .before .take-turn .ensures .0))
 
 -- src/lib.rt:374:19
 enum-known-w : tie.Need-enum-known-w
@@ -55,7 +49,7 @@ short-requires : tie.Need-short-requires
 short-requires c κs =
     let b = c .before .before .before .before .before .before .before .before .before .before .before .before .before .before .before .before .before .before .before .before .before .before in
     let a = b .args in
-    take-small (tablesOf (a .s .now)) (a .index .now) (a .pairs .now) (a .l, a .r) (a .terms .now) (a .runs .now) _ _ _ (rw (c .before .before .w .given .1) at (c .before .before .before .before .before .before .before .before .take-turn .ensures)) (a .n) (b .pre .5) (b .pre .7) (b .pre .6)
+    take-small (tablesOf (a .s .now)) (a .index .now) (a .pairs .now) (a .l, a .r) (a .terms .now) (a .runs .now) _ _ _ (rw (c .before .before .w .given .1) at (c .before .before .before .before .before .before .before .before .take-turn .ensures .0)) (a .n) (b .pre .5) (b .pre .7) (b .pre .6)
 
 -- src/lib.rt:376:13
 give-requires : tie.Need-give-requires
@@ -80,7 +74,7 @@ returns-2 : tie.Need-returns-2
 returns-2 c =
     let b = c .before .before .before .before .before .before .before .before .before .before .before .before .before .before .before .before .before .before .before .before .before .before .before .before .before .before in
     let a = b .args in
-    take-moves (tablesOf (a .s .now)) (a .index .now) (a .pairs .now) (a .l, a .r) (a .terms .now) (a .runs .now) _ _ _ (rw (c .before .before .before .before .before .before .w .given .1) at (c .before .before .before .before .before .before .before .before .before .before .before .before .take-turn .ensures)) (a .k) (c .before .before .before .short .result) _ (c .before .before .before .short .ensures) (c .before .before .give .ensures)
+    take-moves (tablesOf (a .s .now)) (a .index .now) (a .pairs .now) (a .l, a .r) (a .terms .now) (a .runs .now) _ _ _ (rw (c .before .before .before .before .before .before .w .given .1) at (c .before .before .before .before .before .before .before .before .before .before .before .before .take-turn .ensures .0)) (a .k) (c .before .before .before .short .result) _ (c .before .before .before .short .ensures) (c .before .before .give .ensures)
 
 pub take-one-spec : {M : Type 1} → statement M
 take-one-spec =
