@@ -35,3 +35,11 @@ pub mod Order
 pub mod OrderSort
 pub mod OrderPools
 pub mod OrderListing
+pub mod TurnAgree
+pub mod TurnBounds
+pub mod TurnPlaces
+pub mod TurnsFrom
+pub mod RoundsFrom
+pub mod Standing
+pub mod TurnRead
+pub mod RunFrom

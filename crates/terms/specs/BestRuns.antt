@@ -25,6 +25,7 @@ use Rattle.terms.specs.Bests.{Gives, Built, keptRun, keptNumber, memberN
 use Rattle.terms.specs.PartLaws.{part-length}
 use Rattle.terms.specs.JoinLaws.{part-front, joined-runs, join-sum}
 use Rattle.terms.specs.ResultLaws.{op-node}
+use Rattle.terms.specs.GrowLaws.{grows-intern}
 use Rattle.terms.specs.declared.Entered.{Entered}
 
 pub fill-turn : (P : ℕ → ℕ → Type 0) (list : List ℕ) (i x : ℕ) → i < length list → ((j : ℕ) → j < i → P j (getD list j 0)) → P i x → (j : ℕ) → j < i + 1 → P j (getD (set list i x) j 0)
@@ -46,8 +47,8 @@ pub sum-none : (l : List ℕ) → sum (part l 0 0) < 2 ^ 64
 unfolding part sum
 sum-none l = omega arith
 
-pub gives-of : {terms runs list : List ℕ} {n h v : ℕ} {terms′ runs′ : List ℕ} {r : Entered} (x : Node) → nodeOf h v (part list 0 n) ≡ x → Interning terms runs list n h v terms′ runs′ r → Gives terms runs terms′ runs′ (intern (poolOf terms runs) x) r
-gives-of x e I = rw (← e) (record { answer = I .answer; pool = I .pool; holds = I .holds })
+pub gives-of : {terms runs list : List ℕ} {n h v : ℕ} {terms′ runs′ : List ℕ} {r : Entered} (x : Node) → nodeOf h v (part list 0 n) ≡ x → n ≤ length list → Interning terms runs list n h v terms′ runs′ r → Gives terms runs terms′ runs′ (intern (poolOf terms runs) x) r
+gives-of x e k I = rw (← e) (record { answer = I .answer; pool = I .pool; holds = I .holds; grows = grows-intern k I })
 
 -- ---- a member's children as runs over kept terms
 unpack-kept : (best : List ℕ) (e : Two) → getD best (e .0) 0 ≤ 16384 → 0 < getD best (e .0) 0 → unpack (keptNumber best e) ≡ keptRun best e

@@ -11,6 +11,7 @@ use Rattle.spec.specs.Meaning.{In}
 use Rattle.terms.specs.Buffers.{poolOf, countIn}
 use Rattle.terms.specs.Chains.{Holds}
 use Rattle.terms.specs.Interning.{enteredOf, poolAfter}
+use Rattle.terms.specs.Growing.{laidOver, Grows}
 use Rattle.terms.specs.declared.Entered.{Entered}
 
 -- the answer and the buffers where the definitions give m
@@ -18,6 +19,7 @@ pub record Gives (terms runs terms′ runs′ : List ℕ) (m : Res Interned) (r 
   pub answer : r ≡ enteredOf m
   pub pool : poolOf terms′ runs′ ≡ poolAfter (poolOf terms runs) m
   pub holds : Holds terms′ runs′
+  pub grows : Grows terms runs terms′ runs′ (poolAfter (poolOf terms runs) m)
 
 -- a kept term is the class's best term, in the pool as it is
 abbrev pub Kept : Tables → Pool → List ℕ → Type 0

@@ -6,8 +6,11 @@ pub mod PoolLaws
 pub mod ChainLaws
 pub mod EnterLaws
 pub mod InternLaws
+pub mod Emptying
+pub mod Growing
 pub mod Joining
 pub mod JoinLaws
+pub mod GrowLaws
 pub mod Comparing
 pub mod CompareLaws
 pub mod Steps
@@ -17,6 +20,8 @@ pub mod Results
 pub mod ResultLaws
 pub mod BestLaws
 pub mod Bests
+pub mod Reaching
+pub mod ReachLaws
 pub mod BestRuns
 pub mod Building
 pub mod Starting

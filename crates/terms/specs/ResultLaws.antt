@@ -14,6 +14,8 @@ use Rattle.terms.specs.Chains.{Holds}
 use Rattle.terms.specs.Interning.{enteredOf, poolAfter, Interning}
 use Rattle.terms.specs.Joining.{joinNumbers, over, Begins, joinedIn}
 use Rattle.terms.specs.Sorting.{sortNumbers, orderedIn}
+use Rattle.terms.specs.Growing.{Grows}
+use Rattle.terms.specs.GrowLaws.{grows-intern}
 use Rattle.terms.specs.Results.{actionList, ActionResult}
 use Rattle.terms.specs.PartLaws.{part-length}
 use Rattle.terms.specs.JoinLaws.{part-take, part-front, joined-runs, join-sum}
@@ -80,6 +82,7 @@ action-result terms runs list n o t list₁ E list₂ m J h terms′ runs′ r I
       answer = I .answer ∙ ap (λ (x : Node). enteredOf (intern (poolOf terms runs) x)) e;
       pool = I .pool ∙ ap (λ (x : Node). poolAfter (poolOf terms runs) (intern (poolOf terms runs) x)) e;
       holds = I .holds;
+      grows = rw (← e) (grows-intern (begins-fits J) I);
       listIs = list-is (poolOf terms runs) list n t list₁ E list₂ m J;
       buffers = rw (← many-is (poolOf terms runs) list n t list₁ E list₂ m J) I;
     }

@@ -8,6 +8,7 @@ use Rattle.spec.specs.Pool.{opNode, sortRuns, intern}
 use Rattle.terms.specs.Buffers.{part, unpack, poolOf}
 use Rattle.terms.specs.Chains.{Holds}
 use Rattle.terms.specs.Interning.{enteredOf, poolAfter, Interning}
+use Rattle.terms.specs.Growing.{laidOver, Grows}
 use Rattle.terms.specs.Joining.{over, joinedIn, joinNumbers}
 use Rattle.terms.specs.Sorting.{orderedIn}
 use Rattle.terms.specs.declared.Entered.{Entered}
@@ -22,5 +23,7 @@ pub record ActionResult (terms runs list : List ℕ) (n op : ℕ) (commutative :
   pub answer : r ≡ enteredOf (intern (poolOf terms runs) (opNode op (pick commutative (sortRuns (poolOf terms runs) (map unpack (part list 0 n))) (map unpack (part list 0 n)))))
   pub pool : poolOf terms′ runs′ ≡ poolAfter (poolOf terms runs) (intern (poolOf terms runs) (opNode op (pick commutative (sortRuns (poolOf terms runs) (map unpack (part list 0 n))) (map unpack (part list 0 n)))))
   pub holds : Holds terms′ runs′
+  -- where it is refused, the pool's buffers are as they were
+  pub grows : Grows terms runs terms′ runs′ (poolAfter (poolOf terms runs) (intern (poolOf terms runs) (opNode op (pick commutative (sortRuns (poolOf terms runs) (map unpack (part list 0 n))) (map unpack (part list 0 n))))))
   pub listIs : list′ ≡ actionList commutative terms runs list n
   pub buffers : Interning terms runs list′ (length (joinNumbers [] (orderedIn commutative (poolOf terms runs) list n))) op 0 terms′ runs′ r

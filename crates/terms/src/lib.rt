@@ -2,10 +2,10 @@
 use image::Image;
 ghost use mathlib.Core.Path.{_≡_};
 ghost use Prim.Native.Nat.{ℕ, suc, _+_, _*_, _-_, _^_, _/_, _%_, _≤_, _<_};
-ghost use lib.ListN.{length, getD, set};
+ghost use lib.ListN.{length, getD, set, replicate};
 ghost use lib.Seq.{paste};
 ghost use Rattle.lgg.specs.Pool.{NodeValid};
-ghost use Rattle.terms.specs.Buffers.{COUNT, NUMBERS, firstIn, headIn, valueIn, chainIn, bucketIn, countIn, part, unpack, poolOf, nodeOf, nodeIn};
+ghost use Rattle.terms.specs.Buffers.{BUCKETS, BUCKET, COUNT, NUMBERS, firstIn, headIn, valueIn, chainIn, bucketIn, countIn, part, unpack, poolOf, nodeOf, nodeIn};
 ghost use Rattle.terms.specs.Chains.{mixOf, fold, keyOf, keyIn, Holds};
 ghost use Rattle.terms.specs.Joining.{appendNumber, joinedIn, over, Begins};
 ghost use Rattle.spec.specs.Bytes.{sum};
@@ -17,10 +17,11 @@ ghost use Rattle.lgg.specs.Pool.{RunsBelow};
 ghost use Rattle.spec.specs.Pool.{structuralCmp, isGreater, intern, litNode, opNode, variantsNode};
 ghost use mathlib.Core.Logic.{_≢_};
 ghost use Rattle.terms.specs.Interning.{Tells, Sought, putTerm, putChain, enterTerm, enterRuns, Interning};
+ghost use Rattle.terms.specs.Emptying.{zeroed, emptied};
 ghost use Rattle.terms.specs.Results.{ActionResult};
 ghost use Rattle.terms.specs.Bests.{Gives, Kept, Built, keptRun, keptNumber, memberNode, MemberReady};
 ghost use Rattle.terms.specs.Building.{Builds};
-ghost use Rattle.terms.specs.Starting.{Starts};
+ghost use Rattle.terms.specs.Starting.{Makes, Starts};
 ghost use Rattle.image.specs.Loaded.{Loaded, theChild};
 ghost use Rattle.laws.specs.Valid.{Valid};
 ghost use Rattle.spec.specs.Image.{tablesOf, theMember, childrenOf, kindOf, Lit};
@@ -31,6 +32,8 @@ pub const RUNS: usize = 65536;
 
 // the numbers of `terms`: four a term, the end of the runs, the chains' last terms, the count
 pub const BUCKET: usize = 65537;
+
+const BUCKETS: usize = 4096;
 
 pub const COUNT: usize = 69633;
 
@@ -102,6 +105,28 @@ pub fn value(terms: &[u32], t: usize) -> u32
     ensures { λ r. ⌜ r ≡ valueIn (now (terms .entry)) t ⌝ }
 {
     terms[t * 4 + 2]
+}
+
+// ---- the empty pool
+fn clear_chains(terms: &mut [u32])
+    requires { ⌜ NUMBERS ≤ length (now terms) ⌝ }
+    ensures { λ _. ⌜ now (terms .exit) ≡ zeroed BUCKET BUCKETS (now (terms .entry)) ⌝ }
+{
+    let mut b = 0;
+    while b < BUCKETS {
+        put(terms, BUCKET + b, 0);
+        b += 1;
+    }
+}
+
+// No term, whatever the buffer held.
+pub fn empty(terms: &mut [u32])
+    requires { ⌜ NUMBERS ≤ length (now terms) ⌝ }
+    ensures { λ _. ⌜ now (terms .exit) ≡ emptied (now (terms .entry)) ⌝ }
+{
+    put(terms, 0, 0);
+    clear_chains(terms);
+    put(terms, COUNT, 0);
 }
 
 // ---- the key of a node
@@ -654,7 +679,7 @@ fn build_best_term(
     class: usize,
 ) -> Entered
     requires { ⌜ Holds (now terms) (now runs) × Loaded (now s) im × Valid (tablesOf (now s)) × (class < im .classes) × (length (now best) ≡ 256) × Kept (tablesOf (now s)) (poolOf (now terms) (now runs)) (now best) × (getD (now best) class 0 ≡ 0) ⌝ }
-    ensures { λ r. ⌜ Builds (tablesOf (now (s .entry))) (poolOf (now (terms .entry)) (now (runs .entry))) class (now (terms .exit)) (now (runs .exit)) (now (best .exit)) r ⌝ }
+    ensures { λ r. ⌜ Builds (tablesOf (now (s .entry))) (now (terms .entry)) (now (runs .entry)) (now (best .entry)) class (now (terms .exit)) (now (runs .exit)) (now (best .exit)) r ⌝ }
 {
     let mut waiting = [0u16; 256];
     let mut c = class;
@@ -702,7 +727,7 @@ fn best_term(
     class: usize,
 ) -> Entered
     requires { ⌜ Holds (now terms) (now runs) × Loaded (now s) im × Valid (tablesOf (now s)) × (class < im .classes) × (length (now best) ≡ 256) × Kept (tablesOf (now s)) (poolOf (now terms) (now runs)) (now best) ⌝ }
-    ensures { λ r. ⌜ Builds (tablesOf (now (s .entry))) (poolOf (now (terms .entry)) (now (runs .entry))) class (now (terms .exit)) (now (runs .exit)) (now (best .exit)) r ⌝ }
+    ensures { λ r. ⌜ Builds (tablesOf (now (s .entry))) (now (terms .entry)) (now (runs .entry)) (now (best .entry)) class (now (terms .exit)) (now (runs .exit)) (now (best .exit)) r ⌝ }
 {
     let b = kept(best, class);
     if b == 0 {
@@ -724,7 +749,7 @@ fn variants(terms: &mut [u32], runs: &mut [u64], a: usize, b: usize) -> Entered
 }
 
 // The starting term of a pair of classes: the best term of one class, or the marked place of two best terms.
-fn evaluate_generalize_action(
+fn starting_term(
     s: &[u8],
     im: Image,
     terms: &mut [u32],
@@ -734,7 +759,7 @@ fn evaluate_generalize_action(
     r: usize,
 ) -> Entered
     requires { ⌜ Holds (now terms) (now runs) × Loaded (now s) im × Valid (tablesOf (now s)) × (l < im .classes) × (r < im .classes) × (length (now best) ≡ 256) × Kept (tablesOf (now s)) (poolOf (now terms) (now runs)) (now best) ⌝ }
-    ensures { λ o. ⌜ Starts (tablesOf (now (s .entry))) (poolOf (now (terms .entry)) (now (runs .entry))) (l, r) (now (terms .exit)) (now (runs .exit)) (now (best .exit)) o ⌝ }
+    ensures { λ o. ⌜ Makes (tablesOf (now (s .entry))) (l, r) (now (terms .entry)) (now (runs .entry)) (now (best .entry)) (now (terms .exit)) (now (runs .exit)) (now (best .exit)) o ⌝ }
 {
     let x = best_term(s, im, terms, runs, best, l);
     match x {
@@ -754,6 +779,64 @@ fn evaluate_generalize_action(
                     return variants(terms, runs, a, b);
                 }
             }
+        }
+    }
+}
+
+// ---- clearing
+fn clear4(s: &mut [u32])
+    ensures { λ _. ⌜ now (s .exit) ≡ replicate (length (now (s .entry))) 0 ⌝ }
+{
+    let mut i = 0;
+    while i < s.len() {
+        put(s, i, 0);
+        i += 1;
+    }
+}
+
+fn clear8(s: &mut [u64])
+    ensures { λ _. ⌜ now (s .exit) ≡ replicate (length (now (s .entry))) 0 ⌝ }
+{
+    let mut i = 0;
+    while i < s.len() {
+        put8(s, i, 0);
+        i += 1;
+    }
+}
+
+fn clear2(s: &mut [u16])
+    ensures { λ _. ⌜ now (s .exit) ≡ replicate (length (now (s .entry))) 0 ⌝ }
+{
+    let mut i = 0;
+    while i < s.len() {
+        put2(s, i, 0);
+        i += 1;
+    }
+}
+
+// The starting term of a pair of classes; best keeps the best terms that it was made of. A refusal clears the buffers.
+pub fn evaluate_generalize_action(
+    s: &[u8],
+    im: Image,
+    terms: &mut [u32],
+    runs: &mut [u64],
+    best: &mut [u16],
+    l: usize,
+    r: usize,
+) -> Entered
+    requires { ⌜ Holds (now terms) (now runs) × Loaded (now s) im × Valid (tablesOf (now s)) × (l < im .classes) × (r < im .classes) × (length (now best) ≡ 256) × Kept (tablesOf (now s)) (poolOf (now terms) (now runs)) (now best) ⌝ }
+    ensures { λ o. ⌜ Starts (tablesOf (now (s .entry))) (l, r) (now (terms .entry)) (now (runs .entry)) (now (best .entry)) (now (terms .exit)) (now (runs .exit)) (now (best .exit)) o ⌝ }
+{
+    let e = starting_term(s, im, terms, runs, best, l, r);
+    match e {
+        Entered::Full => {
+            clear4(terms);
+            clear8(runs);
+            clear2(best);
+            return Entered::Full;
+        }
+        Entered::Term(a) => {
+            return Entered::Term(a);
         }
     }
 }

@@ -30,7 +30,7 @@ use Rattle.transport.specs.Cells.{cellsFrom, problemOf, totalFrom}
 use Rattle.transport.specs.Solved.{Shaped, PlanIn, isPlan, Emptied}
 use Rattle.transport.specs.Public.{told, totalsOf, shapeOf, shapedOf, transportOf, Told}
 use Rattle.transport.proofs.CellLaws.{size-total, mass-total}
-use Rattle.transport.proofs.Augments.{place-of}
+use Rattle.transport.specs.SolvedLaws.{place-of}
 
 module _ (supply demand sizes masses flags plan : List ℕ) where
   abbrev shape : Bool

@@ -26,6 +26,7 @@ use Rattle.flow.specs.Magnitude.{Small, total-lt}
 use Rattle.flow.specs.Solver.{pathOf, leastLeft, one-path}
 use Rattle.transport.specs.Net.{stateOf, predOf, capOf}
 use Rattle.transport.specs.Holds.{NetHolds, CostsHold, FlowHolds, MarginsHold, Ready, Found, Midway, Sent, stuck, along}
+use Rattle.transport.specs.SolvedLaws.{place-of}
 use Rattle.transport.specs.Path.{walkNet, Leads, arrived, onward, Step, Steps, noStep, andStep, leftOn, leastOn, sentOn, sent, Low, Balanced, rowSum, columnSum}
 use Rattle.transport.proofs.Laws.{cells-fit}
 use Rattle.transport.proofs.PathLaws.{left-source, left-row, left-sink, left-back, sent-source, sent-row, sent-sink, sent-back}
@@ -187,14 +188,6 @@ module _ (p : Problem) (few′ : nodeCount p ≤ 132) (x : List ℕ) (I : Partia
     tight = path p (weight p) x (I .π) (I .pot) (searched p (weight p) x) rest k L
 
 -- ---- a plan so far: its cells are 32-bit numbers, and what is left at its margins
-pub place-of : (r c k : ℕ) → k < r * c → (i : ℕ) × (j : ℕ) × (i < r) × (j < c) × (k ≡ i * c + j)
-place-of zero c k h = absurd (omega arith)
-place-of (suc r) c k h = go (decLt k (r * c)) (λ l. place-of r c k l)
-  where
-    go : Dec (k < r * c) → (k < r * c → (i : ℕ) × (j : ℕ) × (i < r) × (j < c) × (k ≡ i * c + j)) → (i : ℕ) × (j : ℕ) × (i < suc r) × (j < c) × (k ≡ i * c + j)
-    go (yes l) ih = let (i, j, hi, hj, e) = ih l in (i, j, omega arith, hj, e)
-    go (no l) ih = (r, k - r * c, omega arith, omega (arith, l), omega (arith, l))
-
 module _ (p : Problem) (S : Small p) (x f : List ℕ) (I : Partial p (weight p) x) (F : FlowHolds p x f) where
   cap-low : (i j : ℕ) → capacity p i j ≤ supplyAt p i
   cap-low i j = go (allowed (cellAt p i j))

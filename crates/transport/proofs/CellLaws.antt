@@ -19,12 +19,12 @@ use Rattle.wide.specs.declared.Wide.{Wide}
 use borrow.Author.Tests.{eq-eqb, ne-eqb}
 use Rattle.wide.specs.Value.{val, unsigned, weighOf}
 use Rattle.wide.specs.Bounds.{within-pos, weigh-pos, cost-lt}
-use Rattle.transport.proofs.Augments.{place-of}
+use Rattle.transport.specs.SolvedLaws.{place-of}
 use Rattle.wide.specs.Sign.{words-of, val-unsigned}
 use Rattle.wide.specs.Wrap.{Natural, addWords, add-natural}
 use Rattle.transport.specs.Net.{costOf, capOf}
 use Rattle.transport.specs.Holds.{CostsHold}
-use Rattle.transport.specs.Cells.{cellOf, cellsFrom, problemOf, ifAllowed, LaidTo, celled, totalFrom}
+use Rattle.transport.specs.Cells.{cellOf, cellsFrom, problemOf, ifAllowed, LaidTo, laidFrom, wordsOf, celled, totalFrom}
 
 -- ---- the sum of a list
 pub sum-start : (s : List ℕ) → 0 + sum (drop 0 s) ≡ sum s
@@ -170,6 +170,30 @@ laid-turn supply demand sizes masses flags c w g n d h L D = record {
     caps : (k : ℕ) → k < n + 1 → Dec (k ≡ n) → capOf (celled g n d (ifAllowed flags n (min (getD supply (n / c) 0) (getD demand (n % c) 0)))) k ≡ ifAllowed flags k (min (getD supply (k / c) 0) (getD demand (k % c) 0))
     caps k hk (yes e) = rw e (celled-cap g (L .size) n h d cap)
     caps k hk (no e) = celled-cap-off g (L .size) n h d cap k (omega arith) e ∙ L .caps k (omega arith)
+
+natural-words : (d : Wide) (x : ℕ) → Natural d x → d ≡ wordsOf x
+natural-words d x N = λ i. record { lo = low (d .lo) (d .hi) x (N .low) (N .is) i; hi = high (d .lo) (d .hi) x (N .low) (N .is) i }
+  where
+    low : (l h x : ℕ) → l < 2 ^ 64 → l + 2 ^ 64 * h ≡ x → l ≡ x % 2 ^ 64
+    low l h x a e = omega arith
+
+    high : (l h x : ℕ) → l < 2 ^ 64 → l + 2 ^ 64 * h ≡ x → h ≡ x / 2 ^ 64
+    high l h x a e = omega arith
+
+pub laid-first : (supply demand sizes masses flags : List ℕ) (c w n : ℕ) (g : List ℕ) → laidFrom supply demand sizes masses flags c w (n - 0) 0 g ≡ laidFrom supply demand sizes masses flags c w n 0 g
+laid-first supply demand sizes masses flags c w n g = ap (λ (m : ℕ). laidFrom supply demand sizes masses flags c w m 0 g) (sub-zero n)
+
+module _ (supply demand sizes masses flags : List ℕ) (c w n k : ℕ) (g : List ℕ) where
+  pub laid-go : k < n → (d : Wide) (cap : ℕ) → Natural d (ifAllowed flags k (getD sizes k 0 * w + getD masses k 0)) → cap ≡ ifAllowed flags k (min (getD supply (k / c) 0) (getD demand (k % c) 0))
+      → laidFrom supply demand sizes masses flags c w (n - k) k g ≡ laidFrom supply demand sizes masses flags c w (n - (k + 1)) (k + 1) (celled g k d cap)
+  unfolding laidFrom
+  laid-go h d cap N e =
+      let q : n - k ≡ suc (n - (k + 1)) = omega arith in
+      rw (q, e, natural-words d (ifAllowed flags k (getD sizes k 0 * w + getD masses k 0)) N) refl
+
+  pub laid-stop : n ≤ k → laidFrom supply demand sizes masses flags c w (n - k) k g ≡ g
+  unfolding laidFrom
+  laid-stop h = let q : n - k ≡ 0 = omega arith in rw q refl
 
 -- the costs of the slices' problem
 pub costs-hold : (supply demand sizes masses flags g : List ℕ) → length sizes ≡ length supply * length demand

@@ -4,14 +4,14 @@ use mathlib.Core.Logic.{_≢_, _⊎_, inl, inr}
 use mathlib.Core.List.{List, [], _∷_}
 use Prim.Native.Nat.{ℕ, zero, suc, _+_, _-_, _*_, _^_, _≤_, _<_, min}
 use native.Mathlib.Nat.{mul-le-mul}
-use native.Mathlib.Decide.{ℕ-discrete, decLt}
+use native.Mathlib.Decide.{ℕ-discrete, decLt, decLe}
 use mathlib.Core.Bool.{Bool, true, false}
 use lib.Dec.{eqb, leb}
 use native.Mathlib.Omega.{arith}
 use native.Mathlib.Numerals.{add-one}
 use borrow.Author.Tests.{le-leb, lt-leb, eq-eqb, ne-eqb}
-use lib.ListN.{length, getD, set, length-set}
-use lib.Seq.{getD-set-same, getD-set-other, set-out}
+use lib.ListN.{length, getD, set, drop, length-set}
+use lib.Seq.{getD-set-same, getD-set-other, set-out, drop-set-lt}
 use Rattle.spec.specs.Bytes.{pick, sumTo, Two}
 use lib.Arith.{digits-lt}
 use Rattle.transport.specs.Net.{predOf, capOf}
@@ -113,6 +113,26 @@ sent-more r c n u v f k = go (eqb u 0) (leb u r) (eqb v (1 + r + c))
     go false true e = set-more f ((u - 1) * c + (v - 1 - r)) (getD f ((u - 1) * c + (v - 1 - r)) 0 + n) n k (omega arith)
     go false false true = omega arith
     go false false false = set-more f ((v - 1) * c + (u - 1 - r)) (getD f ((v - 1) * c + (u - 1 - r)) 0 - n) n k (omega arith)
+
+-- sending leaves what stands behind the plan's cells
+kept-on : (r c n u v : ℕ) (f : List ℕ) → Step r c u v → drop (r * c) (sentOn r c n u v f) ≡ drop (r * c) f
+kept-on r c n u v f S = go (ℕ-discrete u 0) (decLe u r) (ℕ-discrete v (1 + r + c))
+  where
+    go : Dec (u ≡ 0) → Dec (u ≤ r) → Dec (v ≡ 1 + r + c) → drop (r * c) (sentOn r c n u v f) ≡ drop (r * c) f
+    go (yes e) b d = ap (λ (l : List ℕ). drop (r * c) l) (sym (sent-source r c n u v f e))
+    go (no a) (yes b) d =
+        let t = S .fromRow (omega arith) b in
+        ap (λ (l : List ℕ). drop (r * c) l) (sym (sent-row r c n u v f a b)) ∙ drop-set-lt (r * c) f ((u - 1) * c + (v - 1 - r)) (getD f ((u - 1) * c + (v - 1 - r)) 0 + n) (digits-lt {q = u - 1} (omega arith) (omega arith))
+    go (no a) (no b) (yes d) = ap (λ (l : List ℕ). drop (r * c) l) (sym (sent-sink r c n u v f a (omega arith) d))
+    go (no a) (no b) (no d) =
+        let t = S .toRow (omega arith) d in
+        let h = S .fromColumn (omega arith) in
+        ap (λ (l : List ℕ). drop (r * c) l) (sym (sent-back r c n u v f a (omega arith) d)) ∙ drop-set-lt (r * c) f ((v - 1) * c + (u - 1 - r)) (getD f ((v - 1) * c + (u - 1 - r)) 0 - n) (digits-lt {q = v - 1} (omega arith) (omega arith))
+
+pub sent-kept : (r c n : ℕ) (l : List Two) (f : List ℕ) → Steps r c l → drop (r * c) (sent r c n l f) ≡ drop (r * c) f
+unfolding sent
+sent-kept r c n [] f S = refl
+sent-kept r c n (s ∷ l) f (andStep a b) = sent-kept r c n l (sentOn r c n (s .0) (s .1) f) b ∙ kept-on r c n (s .0) (s .1) f a
 
 pub room-next : (x y a n : ℕ) → a < 131 → y ≤ x + n → x + (131 - a) * n < 2 ^ 64 → y + (131 - (a + 1)) * n < 2 ^ 64
 room-next x y a n h l b = let e : 131 - a ≡ suc (131 - (a + 1)) = omega arith in let q : (131 - a) * n ≡ n + (131 - (a + 1)) * n = ap (λ (z : ℕ). z * n) e ∙ suc-times (131 - (a + 1)) n in omega arith

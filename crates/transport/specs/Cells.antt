@@ -1,7 +1,7 @@
 -- The problem that the slices give, the costs laid out for the search, and a plan's total.
 use mathlib.Core.Path.{_≡_}
 use mathlib.Core.List.{List, [], _∷_}
-use Prim.Native.Nat.{ℕ, zero, suc, _+_, _*_, _/_, _%_, _≤_, _<_, min}
+use Prim.Native.Nat.{ℕ, zero, suc, _+_, _*_, _/_, _%_, _^_, _≤_, _<_, min}
 use lib.Dec.{eqb}
 use lib.ListN.{length, getD, set}
 use Rattle.spec.specs.Bytes.{pick}
@@ -37,6 +37,17 @@ pub record LaidTo (supply demand sizes masses allowed : List ℕ) (c w : ℕ) (g
 -- one cell's cost and capacity
 abbrev pub celled : List ℕ → ℕ → Wide → ℕ → List ℕ
 celled g k d cap = set (set (set g k (d .lo)) (4225 + k) (d .hi)) (8450 + k) cap
+
+-- the two words of a number
+abbrev pub wordsOf : ℕ → Wide
+wordsOf x = record { lo = x % 2 ^ 64; hi = x / 2 ^ 64 }
+
+-- n cells from cell k on laid out in the costs g: low word, high word and capacity
+unfoldable pub laidFrom : List ℕ → List ℕ → List ℕ → List ℕ → List ℕ → ℕ → ℕ → ℕ → ℕ → List ℕ → List ℕ
+laidFrom supply demand sizes masses allowed c w zero k g = g
+laidFrom supply demand sizes masses allowed c w (suc n) k g =
+    laidFrom supply demand sizes masses allowed c w n (k + 1)
+    (celled g k (wordsOf (ifAllowed allowed k (getD sizes k 0 * w + getD masses k 0))) (ifAllowed allowed k (min (getD supply (k / c) 0) (getD demand (k % c) 0))))
 
 -- the sum over n cells from cell k on: the units x times what each costs by `per`
 unfoldable pub totalFrom : List ℕ → List ℕ → List ℕ → ℕ → ℕ → ℕ

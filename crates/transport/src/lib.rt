@@ -1,7 +1,7 @@
 // Least-cost transport (transport.rs): successive shortest paths. No network is built: edges are read off the plan so far.
 ghost use mathlib.Core.Path.{_≡_};
 ghost use Prim.Native.Nat.{ℕ, _+_, _-_, _*_, _%_, _^_, _≤_, _<_};
-ghost use lib.ListN.{length, getD, set, take, replicate};
+ghost use lib.ListN.{length, getD, set, take, drop, replicate};
 ghost use Rattle.transport.specs.Net.{labelOf, costOf, joined, labelled, offered, improved, relaxed, alongMargin, alongCell, againstCell, spreadTo, alongRow, againstColumn, visited, left, firstOf, headOf, countOf, unseenTo, begun};
 ghost use Rattle.transport.specs.Holds.{Ready, Found, Midway, Sent, Start, Answered};
 ghost use Rattle.spec.specs.Bytes.{sumTo, sum, pick, both, workAfter};
@@ -12,8 +12,8 @@ ghost use Prim.Native.Nat.{min, max, _/_};
 ghost use Rattle.spec.specs.Transport.{largest, massOf};
 ghost use Rattle.wide.specs.Value.{unsigned};
 ghost use Rattle.wide.specs.Wrap.{Natural};
-ghost use Rattle.transport.specs.Solved.{Shaped, Emptied, PlanIn};
-ghost use Rattle.transport.specs.Cells.{problemOf, cellsFrom, ifAllowed, LaidTo, celled, totalFrom};
+ghost use Rattle.transport.specs.Solved.{Shaped, Solves, over};
+ghost use Rattle.transport.specs.Cells.{cellsFrom, ifAllowed, LaidTo, laidFrom, celled, totalFrom};
 ghost use Rattle.transport.specs.Public.{shapeOf, shapedOf, transportOf, Told};
 use wide::Wide;
 
@@ -523,7 +523,8 @@ fn augment(
     requires { ⌜ (length (now supply) ≤ 65) × (length (now demand) ≤ 65) × (12675 ≤ length (now costs)) × (4225 ≤ length (now flow)) × (length (now left) ≡ 195) × (length (now net) ≡ 662) × (length (now path) ≡ 132) × (rest < 2 ^ 39)
         × Midway (length (now supply)) (length (now demand)) (now supply) (now demand) (now costs) (now flow) ⌝ }
     ensures { λ n. ⌜ (length (now (left .exit)) ≡ 195) × (length (now (net .exit)) ≡ 662) × (length (now (path .exit)) ≡ 132)
-        × ((M : Midway (length (now (supply .entry))) (length (now (demand .entry))) (now (supply .entry)) (now (demand .entry)) (now (costs .entry)) (now (flow .entry))) → Sent M rest n (now (flow .exit))) ⌝ }
+        × ((M : Midway (length (now (supply .entry))) (length (now (demand .entry))) (now (supply .entry)) (now (demand .entry)) (now (costs .entry)) (now (flow .entry))) → Sent M rest n (now (flow .exit)))
+        × (drop (length (now (supply .entry)) * length (now (demand .entry))) (now (flow .exit)) ≡ drop (length (now (supply .entry)) * length (now (demand .entry))) (now (flow .entry))) ⌝ }
 {
     let r = supply.len();
     let c = demand.len();
@@ -541,7 +542,8 @@ fn augment(
 fn send_all(supply: &[u32], demand: &[u32], costs: &[u64], flow: &mut [u64], total: u64) -> bool
     requires { ⌜ (length (now supply) ≤ 65) × (length (now demand) ≤ 65) × (12675 ≤ length (now costs)) × (4225 ≤ length (now flow)) × (total ≡ sum (now supply))
         × Start (length (now supply)) (length (now demand)) (now supply) (now demand) (now costs) (now flow) ⌝ }
-    ensures { λ b. ⌜ ((S : Start (length (now (supply .entry))) (length (now (demand .entry))) (now (supply .entry)) (now (demand .entry)) (now (costs .entry)) (now (flow .entry))) → Answered S b (now (flow .exit))) ⌝ }
+    ensures { λ b. ⌜ ((S : Start (length (now (supply .entry))) (length (now (demand .entry))) (now (supply .entry)) (now (demand .entry)) (now (costs .entry)) (now (flow .entry))) → Answered S b (now (flow .exit)))
+        × (drop (length (now (supply .entry)) * length (now (demand .entry))) (now (flow .exit)) ≡ drop (length (now (supply .entry)) * length (now (demand .entry))) (now (flow .entry))) ⌝ }
 {
     let mut left = [0u64; 195];
     let mut net = [0u64; 662];
@@ -655,7 +657,8 @@ fn lay(
 )
     requires { ⌜ (length (now supply) ≤ 65) × (length (now demand) ≤ 65) × (length (now sizes) ≡ length (now supply) * length (now demand)) × (length (now masses) ≡ length (now supply) * length (now demand))
         × (length (now allowed) ≡ length (now supply) * length (now demand)) × (12675 ≤ length (now costs)) × (unsigned w < 2 ^ 71) × (0 < length (now demand)) ⌝ }
-    ensures { λ _. ⌜ LaidTo (now (supply .entry)) (now (demand .entry)) (now (sizes .entry)) (now (masses .entry)) (now (allowed .entry)) (length (now (demand .entry))) (unsigned w) (now (costs .exit)) (length (now (supply .entry)) * length (now (demand .entry))) ⌝ }
+    ensures { λ _. ⌜ LaidTo (now (supply .entry)) (now (demand .entry)) (now (sizes .entry)) (now (masses .entry)) (now (allowed .entry)) (length (now (demand .entry))) (unsigned w) (now (costs .exit)) (length (now (supply .entry)) * length (now (demand .entry)))
+        × (now (costs .exit) ≡ laidFrom (now (supply .entry)) (now (demand .entry)) (now (sizes .entry)) (now (masses .entry)) (now (allowed .entry)) (length (now (demand .entry))) (unsigned w) (length (now (sizes .entry))) 0 (now (costs .entry))) ⌝ }
 {
     let c = demand.len();
     let mut k = 0;
@@ -688,7 +691,7 @@ fn plan_total(plan: &[u32], per: &[u32], allowed: &[u8]) -> Wide
 // n cells of the plan are 0.
 fn empty_plan(flow: &mut [u64], n: usize)
     requires { ⌜ n ≤ length (now flow) ⌝ }
-    ensures { λ _. ⌜ Emptied (now (flow .exit)) n ⌝ }
+    ensures { λ _. ⌜ now (flow .exit) ≡ over (replicate n 0) (now (flow .entry)) ⌝ }
 {
     let mut k = 0;
     while k < n {
@@ -717,16 +720,20 @@ fn solve_even(
     f: u64,
 ) -> bool
     requires { ⌜ Shaped (now supply) (now demand) (now sizes) (now masses) (now allowed) (now costs) (now flow) × (f ≡ sum (now supply)) × (f < 2 ^ 39) × (f ≡ sum (now demand)) × (0 < length (now supply)) × (0 < length (now demand)) ⌝ }
-    ensures { λ b. ⌜ PlanIn (problemOf (now (supply .entry)) (now (demand .entry)) (now (sizes .entry)) (now (masses .entry)) (now (allowed .entry))) b (now (flow .exit)) ⌝ }
+    ensures { λ b. ⌜ Solves (now (supply .entry)) (now (demand .entry)) (now (sizes .entry)) (now (masses .entry)) (now (allowed .entry)) (now (costs .entry)) (now (flow .entry)) (now (costs .exit)) (now (flow .exit)) b ⌝ }
 {
     let w = weight(f, largest_mass(masses, allowed));
     lay(supply, demand, sizes, masses, allowed, w, costs);
     empty_plan(flow, sizes.len());
-    send_all(supply, demand, costs, flow, f)
+    if send_all(supply, demand, costs, flow, f) {
+        return true;
+    }
+    empty_plan(flow, sizes.len());
+    false
 }
 
-// The least plan, in the first rows * columns numbers of `flow`: whether there is one. Costs and flow are work buffers.
-fn solve_cells(
+// The least plan, in the first rows * columns numbers of `flow`: whether there is one; zeros where there is none. Costs and flow are work buffers.
+pub fn solve_cells(
     supply: &[u32],
     demand: &[u32],
     sizes: &[u32],
@@ -736,7 +743,7 @@ fn solve_cells(
     flow: &mut [u64],
 ) -> bool
     requires { ⌜ Shaped (now supply) (now demand) (now sizes) (now masses) (now allowed) (now costs) (now flow) ⌝ }
-    ensures { λ b. ⌜ PlanIn (problemOf (now (supply .entry)) (now (demand .entry)) (now (sizes .entry)) (now (masses .entry)) (now (allowed .entry))) b (now (flow .exit)) ⌝ }
+    ensures { λ b. ⌜ Solves (now (supply .entry)) (now (demand .entry)) (now (sizes .entry)) (now (masses .entry)) (now (allowed .entry)) (now (costs .entry)) (now (flow .entry)) (now (costs .exit)) (now (flow .exit)) b ⌝ }
 {
     let f = total(supply);
     let g = total(demand);
@@ -749,6 +756,7 @@ fn solve_cells(
     if f == g {
         return solve_even(supply, demand, sizes, masses, allowed, costs, flow, f);
     }
+    empty_plan(flow, sizes.len());
     false
 }
 

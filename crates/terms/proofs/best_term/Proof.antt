@@ -60,7 +60,7 @@ returns-2 : tie.Need-returns-2
 returns-2 c =
     let b = c .before .before .before .before .before .before .before in
     let a = b .args in
-    walk-kept (tablesOf (a .s .now)) (a .terms .now) (a .runs .now) (a .best .now) (a .class) (b .pre .0) (b .pre .5) (omega (arith, b .pre .3, classes-many (a .s .now) (a .im) (b .pre .1))) (omega (arith, c .before .kept .ensures .0, c .if1 .left)) (c .before .kept .result) (c .before .kept .ensures .0)
+    walk-kept (tablesOf (a .s .now)) (a .terms .now) (a .runs .now) (a .best .now) (a .class) (b .pre .0) (b .pre .5) (omega (arith, b .pre .3, classes-many (a .s .now) (a .im) (b .pre .1))) (omega (arith, c .before .kept .ensures .0, c .if1 .left)) (c .before .kept .result) (c .before .kept .ensures .0) (b .pre .2)
 
 pub best-term-spec : {M : Type 1} → statement M
 best-term-spec =

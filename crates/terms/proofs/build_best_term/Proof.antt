@@ -2,7 +2,6 @@ use native.Mathlib.Nat.{not-suc-le-zero}
 use lib.ListN.{replicate, getD-replicate, length-replicate}
 use Rattle.spec.specs.Image.{tablesOf, bestSize}
 use Rattle.image.specs.Loaded.{theChild, classes-many}
-use Rattle.terms.specs.Buffers.{poolOf}
 use Rattle.terms.specs.Building.{Walk, walk-start, zeros, more-built, turn-class, turn-fits, turn-member, turn-child, turn-inside, turn-ready, turn-falls, turn-down, turn-full, turn-small, turn-end, turn-up, turn-less}
 use borrow.Author.Needs.{needs}
 use borrow.Author.Tests.{lt-ltb, le-ltb, le-leb, lt-leb, eq-eqb, ne-eqb}
@@ -34,7 +33,7 @@ abbrev μ-inner : tie.MeasureT-inner
 
 abbrev Inv-outer : tie.InvT-outer
 Inv-outer s im terms₀ runs₀ best₀ class waiting₀ c₀ terms runs best waiting c =
-    Walk (tablesOf s) (poolOf terms₀ runs₀) class terms runs best waiting c × (length best ≡ 256) × (length waiting ≡ 256) × (length terms ≡ length terms₀) × (length runs ≡ length runs₀)
+    Walk (tablesOf s) terms₀ runs₀ best₀ class terms runs best waiting c × (length best ≡ 256) × (length waiting ≡ 256) × (length terms ≡ length terms₀) × (length runs ≡ length runs₀)
 
 abbrev μ-outer : tie.MeasureT-outer
 μ-outer s im terms₀ runs₀ best₀ class waiting₀ c₀ terms runs best waiting c = zeros best * 2147483647 + bestSize (tablesOf s) c
@@ -52,7 +51,7 @@ best-member-requires c κs =
     let b = c .before .before .before .before .before in
     let a = b .args in
     let o = c .outer in
-    (b .pre .1, turn-class (a .s .now) (a .im) (b .pre .1) (b .pre .2) (poolOf (a .terms .now) (a .runs .now)) (a .class) (o .terms) (o .runs) (o .best) (o .waiting) (o .c) (o .inv .0) (o .inv .1))
+    (b .pre .1, turn-class (a .s .now) (a .im) (b .pre .1) (b .pre .2) (a .terms .now) (a .runs .now) (a .best .now) (a .class) (o .terms) (o .runs) (o .best) (o .waiting) (o .c) (o .inv .0) (o .inv .1))
 
 -- src/lib.rt:655:13
 first-child-requires : tie.Need-first-child-requires Inv-inner μ-inner Inv-outer μ-outer
@@ -60,7 +59,7 @@ first-child-requires c κs =
     let b = c .before .before .before .before .before .before in
     let a = b .args in
     let o = c .before .outer in
-    (b .pre .1, turn-member (a .s .now) (a .im) (b .pre .1) (b .pre .2) (poolOf (a .terms .now) (a .runs .now)) (a .class) (o .terms) (o .runs) (o .best) (o .waiting) (o .c) (o .inv .0) (o .inv .1) (c .best-member .result) (c .best-member .ensures .0))
+    (b .pre .1, turn-member (a .s .now) (a .im) (b .pre .1) (b .pre .2) (a .terms .now) (a .runs .now) (a .best .now) (a .class) (o .terms) (o .runs) (o .best) (o .waiting) (o .c) (o .inv .0) (o .inv .1) (c .best-member .result) (c .best-member .ensures .0))
 
 -- src/lib.rt:656:13
 child-count-requires : tie.Need-child-count-requires Inv-inner μ-inner Inv-outer μ-outer
@@ -68,7 +67,7 @@ child-count-requires c κs =
     let b = c .before .before .before .before .before .before .before in
     let a = b .args in
     let o = c .before .before .outer in
-    (b .pre .1, turn-member (a .s .now) (a .im) (b .pre .1) (b .pre .2) (poolOf (a .terms .now) (a .runs .now)) (a .class) (o .terms) (o .runs) (o .best) (o .waiting) (o .c) (o .inv .0) (o .inv .1) (c .before .best-member .result) (c .before .best-member .ensures .0))
+    (b .pre .1, turn-member (a .s .now) (a .im) (b .pre .1) (b .pre .2) (a .terms .now) (a .runs .now) (a .best .now) (a .class) (o .terms) (o .runs) (o .best) (o .waiting) (o .c) (o .inv .0) (o .inv .1) (c .before .best-member .result) (c .before .best-member .ensures .0))
 
 -- src/lib.rt:658:13
 inner-holds : tie.Need-inner-holds Inv-inner μ-inner Inv-outer μ-outer
@@ -82,8 +81,8 @@ best-of-requires c κs =
     let a = b .args in
     let o = c .before .before .before .before .before .before .before .before .outer in
     let l = c .before .before .before .before .inner in
-    let r = turn-ready (a .s .now) (a .im) (b .pre .1) (b .pre .2) (poolOf (a .terms .now) (a .runs .now)) (a .class) (o .terms) (o .runs) (o .best) (o .waiting) (o .c) (o .inv .0) (o .inv .1) (c .before .before .before .before .before .before .before .best-member .result) (c .before .before .before .before .before .before .before .best-member .ensures .0) (c .before .before .before .before .before .before .first-child .result) (c .before .before .before .before .before .child-count .result) (c .before .before .before .before .before .before .first-child .ensures .0) (c .before .before .before .before .before .child-count .ensures .0) (λ j h. l .inv .5 j (omega (arith, c .before .before .before .if1 .taken))) in
-    rw (l .inv .1, l .inv .2) (o .inv .0 .holds, b .pre .1, turn-member (a .s .now) (a .im) (b .pre .1) (b .pre .2) (poolOf (a .terms .now) (a .runs .now)) (a .class) (o .terms) (o .runs) (o .best) (o .waiting) (o .c) (o .inv .0) (o .inv .1) (c .before .before .before .before .before .before .before .best-member .result) (c .before .before .before .before .before .before .before .best-member .ensures .0), r .0, r .1, r .2)
+    let r = turn-ready (a .s .now) (a .im) (b .pre .1) (b .pre .2) (a .terms .now) (a .runs .now) (a .best .now) (a .class) (o .terms) (o .runs) (o .best) (o .waiting) (o .c) (o .inv .0) (o .inv .1) (c .before .before .before .before .before .before .before .best-member .result) (c .before .before .before .before .before .before .before .best-member .ensures .0) (c .before .before .before .before .before .before .first-child .result) (c .before .before .before .before .before .child-count .result) (c .before .before .before .before .before .before .first-child .ensures .0) (c .before .before .before .before .before .child-count .ensures .0) (λ j h. l .inv .5 j (omega (arith, c .before .before .before .if1 .taken))) in
+    rw (l .inv .1, l .inv .2) (o .inv .0 .holds, b .pre .1, turn-member (a .s .now) (a .im) (b .pre .1) (b .pre .2) (a .terms .now) (a .runs .now) (a .best .now) (a .class) (o .terms) (o .runs) (o .best) (o .waiting) (o .c) (o .inv .0) (o .inv .1) (c .before .before .before .before .before .before .before .best-member .result) (c .before .before .before .before .before .before .before .best-member .ensures .0), r .0, r .1, r .2)
 
 -- src/lib.rt:663:25
 enum-told : tie.Need-enum-told Inv-inner μ-inner Inv-outer μ-outer
@@ -114,7 +113,7 @@ returns c =
     let a = b .args in
     let o = c .before .before .before .before .before .before .before .before .before .before .before .before .before .before .before .outer in
     let l = c .before .before .before .before .before .before .before .before .before .before .before .inner in
-    turn-full (a .s .now) (a .im) (b .pre .1) (b .pre .2) (poolOf (a .terms .now) (a .runs .now)) (a .class) (o .terms) (o .runs) (o .best) (o .waiting) (o .c) (o .inv .0) (o .inv .1) (c .before .before .before .before .before .before .before .before .before .before .before .before .before .before .best-member .result) (c .before .before .before .before .before .before .before .before .before .before .before .before .before .before .best-member .ensures .0) (c .before .before .before .before .before .before .before .before .before .before .before .before .before .first-child .result) (c .before .before .before .before .before .before .before .before .before .before .before .before .child-count .result) (c .before .before .before .before .before .before .before .before .before .before .before .before .before .first-child .ensures .0) (c .before .before .before .before .before .before .before .before .before .before .before .before .child-count .ensures .0) (λ j h. l .inv .5 j (omega (arith, c .before .before .before .before .before .before .before .before .before .before .if1 .taken))) _ _ (rw (l .inv .1, l .inv .2, c .enum-told .given .1) at (c .before .before .before .before .before .before .best-of .ensures))
+    turn-full (a .s .now) (a .im) (b .pre .1) (b .pre .2) (a .terms .now) (a .runs .now) (a .best .now) (a .class) (o .terms) (o .runs) (o .best) (o .waiting) (o .c) (o .inv .0) (o .inv .1) (c .before .before .before .before .before .before .before .before .before .before .before .before .before .before .best-member .result) (c .before .before .before .before .before .before .before .before .before .before .before .before .before .before .best-member .ensures .0) (c .before .before .before .before .before .before .before .before .before .before .before .before .before .first-child .result) (c .before .before .before .before .before .before .before .before .before .before .before .before .child-count .result) (c .before .before .before .before .before .before .before .before .before .before .before .before .before .first-child .ensures .0) (c .before .before .before .before .before .before .before .before .before .before .before .before .child-count .ensures .0) (λ j h. l .inv .5 j (omega (arith, c .before .before .before .before .before .before .before .before .before .before .if1 .taken))) _ _ (rw (l .inv .1, l .inv .2, c .enum-told .given .1) at (c .before .before .before .before .before .before .best-of .ensures))
 
 -- src/lib.rt:665:35
 enum-known-e : tie.Need-enum-known-e Inv-inner μ-inner Inv-outer μ-outer
@@ -127,7 +126,7 @@ add-child-class c =
     let a = b .args in
     let o = c .before .before .before .before .before .outer in
     let l = c .before .inner in
-    omega (arith, turn-child (a .s .now) (a .im) (b .pre .1) (b .pre .2) (poolOf (a .terms .now) (a .runs .now)) (a .class) (o .terms) (o .runs) (o .best) (o .waiting) (o .c) (o .inv .0) (o .inv .1) (c .before .before .before .before .best-member .result) (c .before .before .before .before .best-member .ensures .0) (c .before .before .before .first-child .result) (c .before .before .child-count .result) (c .before .before .before .first-child .ensures .0) (c .before .before .child-count .ensures .0) (l .i) (omega arith), c .before .before .before .first-child .ensures .1)
+    omega (arith, turn-child (a .s .now) (a .im) (b .pre .1) (b .pre .2) (a .terms .now) (a .runs .now) (a .best .now) (a .class) (o .terms) (o .runs) (o .best) (o .waiting) (o .c) (o .inv .0) (o .inv .1) (c .before .before .before .before .best-member .result) (c .before .before .before .before .best-member .ensures .0) (c .before .before .before .first-child .result) (c .before .before .child-count .result) (c .before .before .before .first-child .ensures .0) (c .before .before .child-count .ensures .0) (l .i) (omega arith), c .before .before .before .first-child .ensures .1)
 
 -- src/lib.rt:670:17
 child-class-requires : tie.Need-child-class-requires Inv-inner μ-inner Inv-outer μ-outer
@@ -136,7 +135,7 @@ child-class-requires c κs =
     let a = b .args in
     let o = c .before .before .before .before .before .outer in
     let l = c .before .inner in
-    (b .pre .1, turn-child (a .s .now) (a .im) (b .pre .1) (b .pre .2) (poolOf (a .terms .now) (a .runs .now)) (a .class) (o .terms) (o .runs) (o .best) (o .waiting) (o .c) (o .inv .0) (o .inv .1) (c .before .before .before .before .best-member .result) (c .before .before .before .before .best-member .ensures .0) (c .before .before .before .first-child .result) (c .before .before .child-count .result) (c .before .before .before .first-child .ensures .0) (c .before .before .child-count .ensures .0) (l .i) (omega arith))
+    (b .pre .1, turn-child (a .s .now) (a .im) (b .pre .1) (b .pre .2) (a .terms .now) (a .runs .now) (a .best .now) (a .class) (o .terms) (o .runs) (o .best) (o .waiting) (o .c) (o .inv .0) (o .inv .1) (c .before .before .before .before .best-member .result) (c .before .before .before .before .best-member .ensures .0) (c .before .before .before .first-child .result) (c .before .before .child-count .result) (c .before .before .before .first-child .ensures .0) (c .before .before .child-count .ensures .0) (l .i) (omega arith))
 
 -- src/lib.rt:671:16
 kept-requires : tie.Need-kept-requires Inv-inner μ-inner Inv-outer μ-outer
@@ -145,7 +144,7 @@ kept-requires c κs =
     let a = b .args in
     let o = c .before .before .before .before .before .before .before .outer in
     let l = c .before .before .before .inner in
-    omega (arith, turn-inside (a .s .now) (a .im) (b .pre .1) (b .pre .2) (poolOf (a .terms .now) (a .runs .now)) (a .class) (o .terms) (o .runs) (o .best) (o .waiting) (o .c) (o .inv .0) (o .inv .1) (c .before .before .before .before .before .before .best-member .result) (c .before .before .before .before .before .before .best-member .ensures .0) (c .before .before .before .before .before .first-child .result) (c .before .before .before .before .child-count .result) (c .before .before .before .before .before .first-child .ensures .0) (c .before .before .before .before .child-count .ensures .0) (l .i) (omega arith), c .before .child-class .ensures .0, o .inv .1)
+    omega (arith, turn-inside (a .s .now) (a .im) (b .pre .1) (b .pre .2) (a .terms .now) (a .runs .now) (a .best .now) (a .class) (o .terms) (o .runs) (o .best) (o .waiting) (o .c) (o .inv .0) (o .inv .1) (c .before .before .before .before .before .before .best-member .result) (c .before .before .before .before .before .before .best-member .ensures .0) (c .before .before .before .before .before .first-child .result) (c .before .before .before .before .child-count .result) (c .before .before .before .before .before .first-child .ensures .0) (c .before .before .before .before .child-count .ensures .0) (l .i) (omega arith), c .before .child-class .ensures .0, o .inv .1)
 
 -- src/lib.rt:672:22
 slice-aggregate-put2 : tie.Need-slice-aggregate-put2 Inv-inner μ-inner Inv-outer μ-outer
@@ -158,7 +157,7 @@ add-put2 c =
     let a = b .args in
     let o = c .before .before .before .before .before .before .before .before .before .before .outer in
     let l = c .before .before .before .before .before .before .inner in
-    omega (arith, turn-fits (a .s .now) (a .im) (b .pre .1) (b .pre .2) (poolOf (a .terms .now) (a .runs .now)) (a .class) (o .terms) (o .runs) (o .best) (o .waiting) (o .c) (o .inv .0) (o .inv .1), l .inv .4)
+    omega (arith, turn-fits (a .s .now) (a .im) (b .pre .1) (b .pre .2) (a .terms .now) (a .runs .now) (a .best .now) (a .class) (o .terms) (o .runs) (o .best) (o .waiting) (o .c) (o .inv .0) (o .inv .1), l .inv .4)
 
 -- src/lib.rt:672:17
 put2-requires : tie.Need-put2-requires Inv-inner μ-inner Inv-outer μ-outer
@@ -167,7 +166,7 @@ put2-requires c κs =
     let a = b .args in
     let o = c .before .before .before .before .before .before .before .before .before .before .outer in
     let l = c .before .before .before .before .before .before .inner in
-    (omega (arith, turn-inside (a .s .now) (a .im) (b .pre .1) (b .pre .2) (poolOf (a .terms .now) (a .runs .now)) (a .class) (o .terms) (o .runs) (o .best) (o .waiting) (o .c) (o .inv .0) (o .inv .1) (c .before .before .before .before .before .before .before .before .before .best-member .result) (c .before .before .before .before .before .before .before .before .before .best-member .ensures .0) (c .before .before .before .before .before .before .before .before .first-child .result) (c .before .before .before .before .before .before .before .child-count .result) (c .before .before .before .before .before .before .before .before .first-child .ensures .0) (c .before .before .before .before .before .before .before .child-count .ensures .0) (l .i) (omega arith), c .before .before .before .before .child-class .ensures .0, o .inv .2, ap length (l .inv .3)), omega (arith, turn-fits (a .s .now) (a .im) (b .pre .1) (b .pre .2) (poolOf (a .terms .now) (a .runs .now)) (a .class) (o .terms) (o .runs) (o .best) (o .waiting) (o .c) (o .inv .0) (o .inv .1), l .inv .4))
+    (omega (arith, turn-inside (a .s .now) (a .im) (b .pre .1) (b .pre .2) (a .terms .now) (a .runs .now) (a .best .now) (a .class) (o .terms) (o .runs) (o .best) (o .waiting) (o .c) (o .inv .0) (o .inv .1) (c .before .before .before .before .before .before .before .before .before .best-member .result) (c .before .before .before .before .before .before .before .before .before .best-member .ensures .0) (c .before .before .before .before .before .before .before .before .first-child .result) (c .before .before .before .before .before .before .before .child-count .result) (c .before .before .before .before .before .before .before .before .first-child .ensures .0) (c .before .before .before .before .before .before .before .child-count .ensures .0) (l .i) (omega arith), c .before .before .before .before .child-class .ensures .0, o .inv .2, ap length (l .inv .3)), omega (arith, turn-fits (a .s .now) (a .im) (b .pre .1) (b .pre .2) (a .terms .now) (a .runs .now) (a .best .now) (a .class) (o .terms) (o .runs) (o .best) (o .waiting) (o .c) (o .inv .0) (o .inv .1), l .inv .4))
 
 -- src/lib.rt:653:5
 outer-less : tie.Need-outer-less Inv-inner μ-inner Inv-outer μ-outer
@@ -176,7 +175,7 @@ outer-less c =
     let a = b .args in
     let o = c .before .before .before .before .before .before .before .before .before .before .before .before .outer in
     let l = c .before .before .before .before .before .before .before .before .inner in
-    omega (arith, turn-falls (a .s .now) (a .im) (b .pre .1) (b .pre .2) (poolOf (a .terms .now) (a .runs .now)) (a .class) (o .terms) (o .runs) (o .best) (o .waiting) (o .c) (o .inv .0) (o .inv .1) (c .before .before .before .before .before .before .before .before .before .before .before .best-member .result) (c .before .before .before .before .before .before .before .before .before .before .before .best-member .ensures .0) (c .before .before .before .before .before .before .before .before .before .before .first-child .result) (c .before .before .before .before .before .before .before .before .before .child-count .result) (c .before .before .before .before .before .before .before .before .before .before .first-child .ensures .0) (c .before .before .before .before .before .before .before .before .before .child-count .ensures .0) (l .i) (c .before .before .before .before .before .before .child-class .result) (omega arith) (c .before .before .before .before .before .before .child-class .ensures .0))
+    omega (arith, turn-falls (a .s .now) (a .im) (b .pre .1) (b .pre .2) (a .terms .now) (a .runs .now) (a .best .now) (a .class) (o .terms) (o .runs) (o .best) (o .waiting) (o .c) (o .inv .0) (o .inv .1) (c .before .before .before .before .before .before .before .before .before .before .before .best-member .result) (c .before .before .before .before .before .before .before .before .before .before .before .best-member .ensures .0) (c .before .before .before .before .before .before .before .before .before .before .first-child .result) (c .before .before .before .before .before .before .before .before .before .child-count .result) (c .before .before .before .before .before .before .before .before .before .before .first-child .ensures .0) (c .before .before .before .before .before .before .before .before .before .child-count .ensures .0) (l .i) (c .before .before .before .before .before .before .child-class .result) (omega arith) (c .before .before .before .before .before .before .child-class .ensures .0))
 
 -- src/lib.rt:653:5
 outer-again : tie.Need-outer-again Inv-inner μ-inner Inv-outer μ-outer
@@ -185,7 +184,7 @@ outer-again c =
     let a = b .args in
     let o = c .before .before .before .before .before .before .before .before .before .before .before .before .outer in
     let l = c .before .before .before .before .before .before .before .before .inner in
-    let w = turn-down (a .s .now) (a .im) (b .pre .1) (b .pre .2) (poolOf (a .terms .now) (a .runs .now)) (a .class) (o .terms) (o .runs) (o .best) (o .waiting) (o .c) (o .inv .0) (o .inv .1) (c .before .before .before .before .before .before .before .before .before .before .before .best-member .result) (c .before .before .before .before .before .before .before .before .before .before .before .best-member .ensures .0) (c .before .before .before .before .before .before .before .before .before .before .first-child .result) (c .before .before .before .before .before .before .before .before .before .child-count .result) (c .before .before .before .before .before .before .before .before .before .before .first-child .ensures .0) (c .before .before .before .before .before .before .before .before .before .child-count .ensures .0) (l .i) (c .before .before .before .before .before .before .child-class .result) (omega arith) (c .before .before .before .before .before .before .child-class .ensures .0) (l .inv .5) (sym (c .before .before .before .before .kept .ensures .0) ∙ c .before .before .before .if2 .taken) (omega (arith, turn-inside (a .s .now) (a .im) (b .pre .1) (b .pre .2) (poolOf (a .terms .now) (a .runs .now)) (a .class) (o .terms) (o .runs) (o .best) (o .waiting) (o .c) (o .inv .0) (o .inv .1) (c .before .before .before .before .before .before .before .before .before .before .before .best-member .result) (c .before .before .before .before .before .before .before .before .before .before .before .best-member .ensures .0) (c .before .before .before .before .before .before .before .before .before .before .first-child .result) (c .before .before .before .before .before .before .before .before .before .child-count .result) (c .before .before .before .before .before .before .before .before .before .before .first-child .ensures .0) (c .before .before .before .before .before .before .before .before .before .child-count .ensures .0) (l .i) (omega arith), c .before .before .before .before .before .before .child-class .ensures .0, o .inv .2)) in
+    let w = turn-down (a .s .now) (a .im) (b .pre .1) (b .pre .2) (a .terms .now) (a .runs .now) (a .best .now) (a .class) (o .terms) (o .runs) (o .best) (o .waiting) (o .c) (o .inv .0) (o .inv .1) (c .before .before .before .before .before .before .before .before .before .before .before .best-member .result) (c .before .before .before .before .before .before .before .before .before .before .before .best-member .ensures .0) (c .before .before .before .before .before .before .before .before .before .before .first-child .result) (c .before .before .before .before .before .before .before .before .before .child-count .result) (c .before .before .before .before .before .before .before .before .before .before .first-child .ensures .0) (c .before .before .before .before .before .before .before .before .before .child-count .ensures .0) (l .i) (c .before .before .before .before .before .before .child-class .result) (omega arith) (c .before .before .before .before .before .before .child-class .ensures .0) (l .inv .5) (sym (c .before .before .before .before .kept .ensures .0) ∙ c .before .before .before .if2 .taken) (omega (arith, turn-inside (a .s .now) (a .im) (b .pre .1) (b .pre .2) (a .terms .now) (a .runs .now) (a .best .now) (a .class) (o .terms) (o .runs) (o .best) (o .waiting) (o .c) (o .inv .0) (o .inv .1) (c .before .before .before .before .before .before .before .before .before .before .before .best-member .result) (c .before .before .before .before .before .before .before .before .before .before .before .best-member .ensures .0) (c .before .before .before .before .before .before .before .before .before .before .first-child .result) (c .before .before .before .before .before .before .before .before .before .child-count .result) (c .before .before .before .before .before .before .before .before .before .before .first-child .ensures .0) (c .before .before .before .before .before .before .before .before .before .child-count .ensures .0) (l .i) (omega arith), c .before .before .before .before .before .before .child-class .ensures .0, o .inv .2)) in
     (rw (c .before .put2 .ensures, l .inv .1, l .inv .2, l .inv .3, l .inv .4) w, o .inv .1, rw (c .before .put2 .ensures, l .inv .3) (length-set (o .waiting) _ _ ∙ o .inv .2), rw (l .inv .1) (o .inv .3), rw (l .inv .2) (o .inv .4))
 
 -- src/lib.rt:676:13
@@ -212,7 +211,7 @@ add-put2-2 c =
     let a = b .args in
     let o = c .before .before .before .before .before .before .before .before .before .before .before .before .before .before .before .before .before .outer in
     let l = c .before .before .before .before .before .before .before .before .before .before .before .before .before .inner in
-    omega (arith, turn-small (a .s .now) (a .im) (b .pre .1) (b .pre .2) (poolOf (a .terms .now) (a .runs .now)) (a .class) (o .terms) (o .runs) (o .best) (o .waiting) (o .c) (o .inv .0) (o .inv .1) (c .before .before .before .before .before .before .before .before .before .before .before .before .before .before .before .before .best-member .result) (c .before .before .before .before .before .before .before .before .before .before .before .before .before .before .before .before .best-member .ensures .0) (c .before .before .before .before .before .before .before .before .before .before .before .before .before .before .before .first-child .result) (c .before .before .before .before .before .before .before .before .before .before .before .before .before .before .child-count .result) (c .before .before .before .before .before .before .before .before .before .before .before .before .before .before .before .first-child .ensures .0) (c .before .before .before .before .before .before .before .before .before .before .before .before .before .before .child-count .ensures .0) (λ j h. l .inv .5 j (omega (arith, c .before .before .before .before .before .before .before .before .before .before .before .before .if1 .taken))) _ _ _ (rw (l .inv .1, l .inv .2, c .before .before .e .given .1) at (c .before .before .before .before .before .before .before .before .best-of .ensures)))
+    omega (arith, turn-small (a .s .now) (a .im) (b .pre .1) (b .pre .2) (a .terms .now) (a .runs .now) (a .best .now) (a .class) (o .terms) (o .runs) (o .best) (o .waiting) (o .c) (o .inv .0) (o .inv .1) (c .before .before .before .before .before .before .before .before .before .before .before .before .before .before .before .before .best-member .result) (c .before .before .before .before .before .before .before .before .before .before .before .before .before .before .before .before .best-member .ensures .0) (c .before .before .before .before .before .before .before .before .before .before .before .before .before .before .before .first-child .result) (c .before .before .before .before .before .before .before .before .before .before .before .before .before .before .child-count .result) (c .before .before .before .before .before .before .before .before .before .before .before .before .before .before .before .first-child .ensures .0) (c .before .before .before .before .before .before .before .before .before .before .before .before .before .before .child-count .ensures .0) (λ j h. l .inv .5 j (omega (arith, c .before .before .before .before .before .before .before .before .before .before .before .before .if1 .taken))) _ _ _ (rw (l .inv .1, l .inv .2, c .before .before .e .given .1) at (c .before .before .before .before .before .before .before .before .best-of .ensures)))
 
 -- src/lib.rt:678:9
 put2-requires-2 : tie.Need-put2-requires-2 Inv-inner μ-inner Inv-outer μ-outer
@@ -221,7 +220,7 @@ put2-requires-2 c κs =
     let a = b .args in
     let o = c .before .before .before .before .before .before .before .before .before .before .before .before .before .before .before .before .before .outer in
     let l = c .before .before .before .before .before .before .before .before .before .before .before .before .before .inner in
-    (omega (arith, turn-fits (a .s .now) (a .im) (b .pre .1) (b .pre .2) (poolOf (a .terms .now) (a .runs .now)) (a .class) (o .terms) (o .runs) (o .best) (o .waiting) (o .c) (o .inv .0) (o .inv .1), l .inv .4, o .inv .1), omega (arith, turn-small (a .s .now) (a .im) (b .pre .1) (b .pre .2) (poolOf (a .terms .now) (a .runs .now)) (a .class) (o .terms) (o .runs) (o .best) (o .waiting) (o .c) (o .inv .0) (o .inv .1) (c .before .before .before .before .before .before .before .before .before .before .before .before .before .before .before .before .best-member .result) (c .before .before .before .before .before .before .before .before .before .before .before .before .before .before .before .before .best-member .ensures .0) (c .before .before .before .before .before .before .before .before .before .before .before .before .before .before .before .first-child .result) (c .before .before .before .before .before .before .before .before .before .before .before .before .before .before .child-count .result) (c .before .before .before .before .before .before .before .before .before .before .before .before .before .before .before .first-child .ensures .0) (c .before .before .before .before .before .before .before .before .before .before .before .before .before .before .child-count .ensures .0) (λ j h. l .inv .5 j (omega (arith, c .before .before .before .before .before .before .before .before .before .before .before .before .if1 .taken))) _ _ _ (rw (l .inv .1, l .inv .2, c .before .before .e .given .1) at (c .before .before .before .before .before .before .before .before .best-of .ensures))))
+    (omega (arith, turn-fits (a .s .now) (a .im) (b .pre .1) (b .pre .2) (a .terms .now) (a .runs .now) (a .best .now) (a .class) (o .terms) (o .runs) (o .best) (o .waiting) (o .c) (o .inv .0) (o .inv .1), l .inv .4, o .inv .1), omega (arith, turn-small (a .s .now) (a .im) (b .pre .1) (b .pre .2) (a .terms .now) (a .runs .now) (a .best .now) (a .class) (o .terms) (o .runs) (o .best) (o .waiting) (o .c) (o .inv .0) (o .inv .1) (c .before .before .before .before .before .before .before .before .before .before .before .before .before .before .before .before .best-member .result) (c .before .before .before .before .before .before .before .before .before .before .before .before .before .before .before .before .best-member .ensures .0) (c .before .before .before .before .before .before .before .before .before .before .before .before .before .before .before .first-child .result) (c .before .before .before .before .before .before .before .before .before .before .before .before .before .before .child-count .result) (c .before .before .before .before .before .before .before .before .before .before .before .before .before .before .before .first-child .ensures .0) (c .before .before .before .before .before .before .before .before .before .before .before .before .before .before .child-count .ensures .0) (λ j h. l .inv .5 j (omega (arith, c .before .before .before .before .before .before .before .before .before .before .before .before .if1 .taken))) _ _ _ (rw (l .inv .1, l .inv .2, c .before .before .e .given .1) at (c .before .before .before .before .before .before .before .before .best-of .ensures))))
 
 -- src/lib.rt:679:22
 slice-aggregate-kept : tie.Need-slice-aggregate-kept Inv-inner μ-inner Inv-outer μ-outer
@@ -237,7 +236,7 @@ kept-requires-2 c κs =
     let a = b .args in
     let o = c .before .before .before .before .before .before .before .before .before .before .before .before .before .before .before .before .before .before .before .before .before .outer in
     let l = c .before .before .before .before .before .before .before .before .before .before .before .before .before .before .before .before .before .inner in
-    omega (arith, turn-fits (a .s .now) (a .im) (b .pre .1) (b .pre .2) (poolOf (a .terms .now) (a .runs .now)) (a .class) (o .terms) (o .runs) (o .best) (o .waiting) (o .c) (o .inv .0) (o .inv .1), l .inv .4, ap length (l .inv .3), o .inv .2)
+    omega (arith, turn-fits (a .s .now) (a .im) (b .pre .1) (b .pre .2) (a .terms .now) (a .runs .now) (a .best .now) (a .class) (o .terms) (o .runs) (o .best) (o .waiting) (o .c) (o .inv .0) (o .inv .1), l .inv .4, ap length (l .inv .3), o .inv .2)
 
 -- src/lib.rt:681:13
 same-length-4 : tie.Need-same-length-4 Inv-inner μ-inner Inv-outer μ-outer
@@ -269,7 +268,7 @@ returns-2 c =
     let o = c .before .before .before .before .before .before .before .before .before .before .before .before .before .before .before .before .before .before .before .before .before .before .before .outer in
     let l = c .before .before .before .before .before .before .before .before .before .before .before .before .before .before .before .before .before .before .before .inner in
     let z = rw (l .inv .3, l .inv .4) at (sym (c .before .kept2 .ensures .0) ∙ c .if3 .taken) in
-    rw (c .before .before .before .before .before .put22 .ensures, l .inv .4) (turn-end (a .s .now) (a .im) (b .pre .1) (b .pre .2) (poolOf (a .terms .now) (a .runs .now)) (a .class) (o .terms) (o .runs) (o .best) (o .waiting) (o .c) (o .inv .0) (o .inv .1) (c .before .before .before .before .before .before .before .before .before .before .before .before .before .before .before .before .before .before .before .before .before .before .best-member .result) (c .before .before .before .before .before .before .before .before .before .before .before .before .before .before .before .before .before .before .before .before .before .before .best-member .ensures .0) (c .before .before .before .before .before .before .before .before .before .before .before .before .before .before .before .before .before .before .before .before .before .first-child .result) (c .before .before .before .before .before .before .before .before .before .before .before .before .before .before .before .before .before .before .before .before .child-count .result) (c .before .before .before .before .before .before .before .before .before .before .before .before .before .before .before .before .before .before .before .before .before .first-child .ensures .0) (c .before .before .before .before .before .before .before .before .before .before .before .before .before .before .before .before .before .before .before .before .child-count .ensures .0) (λ j h. l .inv .5 j (omega (arith, c .before .before .before .before .before .before .before .before .before .before .before .before .before .before .before .before .before .before .if1 .taken))) _ _ _ (rw (l .inv .1, l .inv .2, c .before .before .before .before .before .before .before .before .e .given .1) at (c .before .before .before .before .before .before .before .before .before .before .before .before .before .before .best-of .ensures)) z)
+    rw (c .before .before .before .before .before .put22 .ensures, l .inv .4) (turn-end (a .s .now) (a .im) (b .pre .1) (b .pre .2) (a .terms .now) (a .runs .now) (a .best .now) (a .class) (o .terms) (o .runs) (o .best) (o .waiting) (o .c) (o .inv .0) (o .inv .1) (c .before .before .before .before .before .before .before .before .before .before .before .before .before .before .before .before .before .before .before .before .before .before .best-member .result) (c .before .before .before .before .before .before .before .before .before .before .before .before .before .before .before .before .before .before .before .before .before .before .best-member .ensures .0) (c .before .before .before .before .before .before .before .before .before .before .before .before .before .before .before .before .before .before .before .before .before .first-child .result) (c .before .before .before .before .before .before .before .before .before .before .before .before .before .before .before .before .before .before .before .before .child-count .result) (c .before .before .before .before .before .before .before .before .before .before .before .before .before .before .before .before .before .before .before .before .before .first-child .ensures .0) (c .before .before .before .before .before .before .before .before .before .before .before .before .before .before .before .before .before .before .before .before .child-count .ensures .0) (λ j h. l .inv .5 j (omega (arith, c .before .before .before .before .before .before .before .before .before .before .before .before .before .before .before .before .before .before .if1 .taken))) _ _ _ (rw (l .inv .1, l .inv .2, c .before .before .before .before .before .before .before .before .e .given .1) at (c .before .before .before .before .before .before .before .before .before .before .before .before .before .before .best-of .ensures)) z)
 
 -- src/lib.rt:683:13
 sub-c : tie.Need-sub-c Inv-inner μ-inner Inv-outer μ-outer
@@ -285,7 +284,7 @@ outer-less-2 c =
     let q = c .before .kept2 .result in
     let e : q ≡ q - 1 + 1 = omega (arith, c .if3 .left) in
     let z = rw (l .inv .3, l .inv .4) at (sym (c .before .kept2 .ensures .0)) ∙ e in
-    rw (c .before .before .before .before .before .put22 .ensures, l .inv .4) (turn-less (a .s .now) (a .im) (b .pre .1) (b .pre .2) (poolOf (a .terms .now) (a .runs .now)) (a .class) (o .terms) (o .runs) (o .best) (o .waiting) (o .c) (o .inv .0) (o .inv .1) (c .before .before .before .before .before .before .before .before .before .before .before .before .before .before .before .before .before .before .before .before .before .before .best-member .result) (c .before .before .before .before .before .before .before .before .before .before .before .before .before .before .before .before .before .before .before .before .before .before .best-member .ensures .0) (c .before .before .before .before .before .before .before .before .before .before .before .before .before .before .before .before .before .before .before .before .before .first-child .result) (c .before .before .before .before .before .before .before .before .before .before .before .before .before .before .before .before .before .before .before .before .child-count .result) (c .before .before .before .before .before .before .before .before .before .before .before .before .before .before .before .before .before .before .before .before .before .first-child .ensures .0) (c .before .before .before .before .before .before .before .before .before .before .before .before .before .before .before .before .before .before .before .before .child-count .ensures .0) (λ j h. l .inv .5 j (omega (arith, c .before .before .before .before .before .before .before .before .before .before .before .before .before .before .before .before .before .before .if1 .taken))) _ _ _ (rw (l .inv .1, l .inv .2, c .before .before .before .before .before .before .before .before .e .given .1) at (c .before .before .before .before .before .before .before .before .before .before .before .before .before .before .best-of .ensures)) (q - 1) (turn-up (a .s .now) (a .im) (b .pre .1) (b .pre .2) (poolOf (a .terms .now) (a .runs .now)) (a .class) (o .terms) (o .runs) (o .best) (o .waiting) (o .c) (o .inv .0) (o .inv .1) (c .before .before .before .before .before .before .before .before .before .before .before .before .before .before .before .before .before .before .before .before .before .before .best-member .result) (c .before .before .before .before .before .before .before .before .before .before .before .before .before .before .before .before .before .before .before .before .before .before .best-member .ensures .0) (c .before .before .before .before .before .before .before .before .before .before .before .before .before .before .before .before .before .before .before .before .before .first-child .result) (c .before .before .before .before .before .before .before .before .before .before .before .before .before .before .before .before .before .before .before .before .child-count .result) (c .before .before .before .before .before .before .before .before .before .before .before .before .before .before .before .before .before .before .before .before .before .first-child .ensures .0) (c .before .before .before .before .before .before .before .before .before .before .before .before .before .before .before .before .before .before .before .before .child-count .ensures .0) (λ j h. l .inv .5 j (omega (arith, c .before .before .before .before .before .before .before .before .before .before .before .before .before .before .before .before .before .before .if1 .taken))) _ _ _ (rw (l .inv .1, l .inv .2, c .before .before .before .before .before .before .before .before .e .given .1) at (c .before .before .before .before .before .before .before .before .before .before .before .before .before .before .best-of .ensures)) (q - 1) z .within))
+    rw (c .before .before .before .before .before .put22 .ensures, l .inv .4) (turn-less (a .s .now) (a .im) (b .pre .1) (b .pre .2) (a .terms .now) (a .runs .now) (a .best .now) (a .class) (o .terms) (o .runs) (o .best) (o .waiting) (o .c) (o .inv .0) (o .inv .1) (c .before .before .before .before .before .before .before .before .before .before .before .before .before .before .before .before .before .before .before .before .before .before .best-member .result) (c .before .before .before .before .before .before .before .before .before .before .before .before .before .before .before .before .before .before .before .before .before .before .best-member .ensures .0) (c .before .before .before .before .before .before .before .before .before .before .before .before .before .before .before .before .before .before .before .before .before .first-child .result) (c .before .before .before .before .before .before .before .before .before .before .before .before .before .before .before .before .before .before .before .before .child-count .result) (c .before .before .before .before .before .before .before .before .before .before .before .before .before .before .before .before .before .before .before .before .before .first-child .ensures .0) (c .before .before .before .before .before .before .before .before .before .before .before .before .before .before .before .before .before .before .before .before .child-count .ensures .0) (λ j h. l .inv .5 j (omega (arith, c .before .before .before .before .before .before .before .before .before .before .before .before .before .before .before .before .before .before .if1 .taken))) _ _ _ (rw (l .inv .1, l .inv .2, c .before .before .before .before .before .before .before .before .e .given .1) at (c .before .before .before .before .before .before .before .before .before .before .before .before .before .before .best-of .ensures)) (q - 1) (turn-up (a .s .now) (a .im) (b .pre .1) (b .pre .2) (a .terms .now) (a .runs .now) (a .best .now) (a .class) (o .terms) (o .runs) (o .best) (o .waiting) (o .c) (o .inv .0) (o .inv .1) (c .before .before .before .before .before .before .before .before .before .before .before .before .before .before .before .before .before .before .before .before .before .before .best-member .result) (c .before .before .before .before .before .before .before .before .before .before .before .before .before .before .before .before .before .before .before .before .before .before .best-member .ensures .0) (c .before .before .before .before .before .before .before .before .before .before .before .before .before .before .before .before .before .before .before .before .before .first-child .result) (c .before .before .before .before .before .before .before .before .before .before .before .before .before .before .before .before .before .before .before .before .child-count .result) (c .before .before .before .before .before .before .before .before .before .before .before .before .before .before .before .before .before .before .before .before .before .first-child .ensures .0) (c .before .before .before .before .before .before .before .before .before .before .before .before .before .before .before .before .before .before .before .before .child-count .ensures .0) (λ j h. l .inv .5 j (omega (arith, c .before .before .before .before .before .before .before .before .before .before .before .before .before .before .before .before .before .before .if1 .taken))) _ _ _ (rw (l .inv .1, l .inv .2, c .before .before .before .before .before .before .before .before .e .given .1) at (c .before .before .before .before .before .before .before .before .before .before .before .before .before .before .best-of .ensures)) (q - 1) z .within))
 
 -- src/lib.rt:653:5
 outer-again-2 : tie.Need-outer-again-2 Inv-inner μ-inner Inv-outer μ-outer
@@ -297,7 +296,7 @@ outer-again-2 c =
     let q = c .before .kept2 .result in
     let e : q ≡ q - 1 + 1 = omega (arith, c .if3 .left) in
     let z = rw (l .inv .3, l .inv .4) at (sym (c .before .kept2 .ensures .0)) ∙ e in
-    (rw (c .before .before .before .before .before .put22 .ensures, l .inv .3, l .inv .4) (turn-up (a .s .now) (a .im) (b .pre .1) (b .pre .2) (poolOf (a .terms .now) (a .runs .now)) (a .class) (o .terms) (o .runs) (o .best) (o .waiting) (o .c) (o .inv .0) (o .inv .1) (c .before .before .before .before .before .before .before .before .before .before .before .before .before .before .before .before .before .before .before .before .before .before .best-member .result) (c .before .before .before .before .before .before .before .before .before .before .before .before .before .before .before .before .before .before .before .before .before .before .best-member .ensures .0) (c .before .before .before .before .before .before .before .before .before .before .before .before .before .before .before .before .before .before .before .before .before .first-child .result) (c .before .before .before .before .before .before .before .before .before .before .before .before .before .before .before .before .before .before .before .before .child-count .result) (c .before .before .before .before .before .before .before .before .before .before .before .before .before .before .before .before .before .before .before .before .before .first-child .ensures .0) (c .before .before .before .before .before .before .before .before .before .before .before .before .before .before .before .before .before .before .before .before .child-count .ensures .0) (λ j h. l .inv .5 j (omega (arith, c .before .before .before .before .before .before .before .before .before .before .before .before .before .before .before .before .before .before .if1 .taken))) _ _ _ (rw (l .inv .1, l .inv .2, c .before .before .before .before .before .before .before .before .e .given .1) at (c .before .before .before .before .before .before .before .before .before .before .before .before .before .before .best-of .ensures)) (q - 1) z), rw (c .before .before .before .before .before .put22 .ensures) (length-set (o .best) _ _ ∙ o .inv .1), rw (l .inv .3) (o .inv .2), omega (arith, ap length (l .inv .1), o .inv .3, c .before .before .before .before .before .before .before .before .before .before .before .before .before .before .best-of .kept), omega (arith, ap length (l .inv .2), o .inv .4, c .before .before .before .before .before .before .before .before .before .before .before .before .before .before .best-of .kept))
+    (rw (c .before .before .before .before .before .put22 .ensures, l .inv .3, l .inv .4) (turn-up (a .s .now) (a .im) (b .pre .1) (b .pre .2) (a .terms .now) (a .runs .now) (a .best .now) (a .class) (o .terms) (o .runs) (o .best) (o .waiting) (o .c) (o .inv .0) (o .inv .1) (c .before .before .before .before .before .before .before .before .before .before .before .before .before .before .before .before .before .before .before .before .before .before .best-member .result) (c .before .before .before .before .before .before .before .before .before .before .before .before .before .before .before .before .before .before .before .before .before .before .best-member .ensures .0) (c .before .before .before .before .before .before .before .before .before .before .before .before .before .before .before .before .before .before .before .before .before .first-child .result) (c .before .before .before .before .before .before .before .before .before .before .before .before .before .before .before .before .before .before .before .before .child-count .result) (c .before .before .before .before .before .before .before .before .before .before .before .before .before .before .before .before .before .before .before .before .before .first-child .ensures .0) (c .before .before .before .before .before .before .before .before .before .before .before .before .before .before .before .before .before .before .before .before .child-count .ensures .0) (λ j h. l .inv .5 j (omega (arith, c .before .before .before .before .before .before .before .before .before .before .before .before .before .before .before .before .before .before .if1 .taken))) _ _ _ (rw (l .inv .1, l .inv .2, c .before .before .before .before .before .before .before .before .e .given .1) at (c .before .before .before .before .before .before .before .before .before .before .before .before .before .before .best-of .ensures)) (q - 1) z), rw (c .before .before .before .before .before .put22 .ensures) (length-set (o .best) _ _ ∙ o .inv .1), rw (l .inv .3) (o .inv .2), omega (arith, ap length (l .inv .1), o .inv .3, c .before .before .before .before .before .before .before .before .before .before .before .before .before .before .best-of .kept), omega (arith, ap length (l .inv .2), o .inv .4, c .before .before .before .before .before .before .before .before .before .before .before .before .before .before .best-of .kept))
 
 pub build-best-term-spec : {M : Type 1} → statement M
 build-best-term-spec =

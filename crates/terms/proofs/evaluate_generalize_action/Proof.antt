@@ -1,7 +1,5 @@
 use Rattle.spec.specs.Image.{tablesOf}
-use Rattle.image.specs.Loaded.{classes-many}
-use Rattle.terms.specs.Buffers.{poolOf}
-use Rattle.terms.specs.Starting.{start-full, start-same, start-full-second, start-within, start-marked}
+use Rattle.terms.specs.Starting.{starts-made, starts-full}
 use borrow.Author.Tests.{lt-ltb, le-ltb, le-leb, lt-leb, eq-eqb, ne-eqb}
 use Prim.Native.Nat.{ℕ, zero, suc, _≤_, _<_, _-_, _+_, _*_, _^_}
 use native.Mathlib.Omega.{arith}
@@ -15,145 +13,96 @@ use Rattle.terms.proofs.evaluate_generalize_action.Statement.{statement
 use Rattle.terms.proofs.evaluate_generalize_action.Tie as tie
 use Rattle.terms.proofs.evaluate_generalize_action.Reads as reads
 use Rattle.terms.proofs.evaluate_generalize_action.Lts as lts
-use Rattle.terms.proofs.best_term.Reads as best-term-reads
-use Rattle.terms.proofs.variants.Reads as variants-reads
+use Rattle.terms.proofs.clear2.Reads as clear2-reads
+use Rattle.terms.proofs.clear4.Reads as clear4-reads
+use Rattle.terms.proofs.clear8.Reads as clear8-reads
+use Rattle.terms.proofs.starting_term.Reads as starting-term-reads
 
--- src/lib.rt:731:9
-best-term-requires : tie.Need-best-term-requires
-best-term-requires c κs = search needs
+-- src/lib.rt:830:9
+starting-term-requires : tie.Need-starting-term-requires
+starting-term-requires c κs = search needs
 
--- src/lib.rt:734:13
+-- src/lib.rt:833:20
 enum-told : tie.Need-enum-told
 enum-told c = search needs
 
--- src/lib.rt:734:13
+-- src/lib.rt:833:13
+clear4-requires : tie.Need-clear4-requires
+clear4-requires c κs = search needs
+
+-- src/lib.rt:834:13
+clear8-requires : tie.Need-clear8-requires
+clear8-requires c κs = search needs
+
+-- src/lib.rt:835:13
+clear2-requires : tie.Need-clear2-requires
+clear2-requires c κs = search needs
+
+-- src/lib.rt:836:13
 same-length : tie.Need-same-length
 same-length c = search needs
 
--- src/lib.rt:734:13
+-- src/lib.rt:836:13
 same-length-2 : tie.Need-same-length-2
 same-length-2 c = search needs
 
--- src/lib.rt:734:13
+-- src/lib.rt:836:13
 same-length-3 : tie.Need-same-length-3
 same-length-3 c = search needs
 
--- src/lib.rt:734:13
+-- src/lib.rt:836:13
 returns : tie.Need-returns
 returns c =
-    let b = c .before .before .before .before .before .before .before .before .before .before .before .before .before .before .before .before in
+    let b = c .before .before .before .before .before .before .before .before .before .before .before .before .before .before .before .before .before .before .before .before .before .before .before .before .before .before .before .before in
     let a = b .args in
-    start-full (tablesOf (a .s .now)) (poolOf (a .terms .now) (a .runs .now)) (a .l) (a .r) _ _ _ (rw (c .enum-told .given .1) at (c .before .before .before .before .before .before .before .before .best-term .ensures))
+    let k = c .before .before .before .before .before .before .before .before .before .before .before .before .before .before .before .before .before .before .before .before .starting-term in
+    let x = k .last .1 .1 .0 in
+    let y = k .last .1 .1 .1 .0 in
+    let z = k .last .1 .1 .1 .1 .0 in
+    starts-full (tablesOf (a .s .now)) (a .l, a .r) (a .terms .now) (a .runs .now) (a .best .now) x y z (omega (arith, k .kept)) (omega (arith, k .kept)) (omega (arith, k .kept)) (rw (c .before .before .before .before .before .before .before .before .before .before .before .before .enum-told .given .1) at (k .ensures)) _ _ _ (c .before .before .before .before .before .before .before .before .before .before .clear4 .ensures) (c .before .before .before .before .before .before .clear8 .ensures) (c .before .before .clear2 .ensures)
 
--- src/lib.rt:736:23
-enum-known-x : tie.Need-enum-known-x
-enum-known-x c = search needs
+-- src/lib.rt:838:23
+enum-known-e : tie.Need-enum-known-e
+enum-known-e c = search needs
 
--- src/lib.rt:738:17
+-- src/lib.rt:839:13
 same-length-4 : tie.Need-same-length-4
 same-length-4 c = search needs
 
--- src/lib.rt:738:17
+-- src/lib.rt:839:13
 same-length-5 : tie.Need-same-length-5
 same-length-5 c = search needs
 
--- src/lib.rt:738:17
+-- src/lib.rt:839:13
 same-length-6 : tie.Need-same-length-6
 same-length-6 c = search needs
 
--- src/lib.rt:738:17
+-- src/lib.rt:839:13
 returns-2 : tie.Need-returns-2
 returns-2 c =
-    let b = c .before .before .before .before .before .before .before .before .before .before .before .before .before .before .before .before .before .before in
+    let b = c .before .before .before .before .before .before .before .before .before .before .before .before .before .before .before .before .before in
     let a = b .args in
-    start-same (tablesOf (a .s .now)) (poolOf (a .terms .now) (a .runs .now)) (a .l) (a .r) _ _ _ _ (rw (c .before .before .x .given .1) at (c .before .before .before .before .before .before .before .before .before .before .best-term .ensures)) (c .if1 .taken)
-
--- src/lib.rt:740:17
-best-term-requires-2 : tie.Need-best-term-requires-2
-best-term-requires-2 c κs =
-    let b = c .before .before .before .before .before .before .before .before .before .before .before .before .before .before .before .before .before .before .before .before .before in
-    let a = b .args in
-    let k = c .before .before .before .before .before .before .before .before .before .before .before .before .before .best-term in
-    (k .ensures .holds, b .pre .1, b .pre .2, b .pre .4, omega (arith, b .pre .5, k .kept), k .ensures .kept)
-
--- src/lib.rt:743:21
-enum-told-2 : tie.Need-enum-told-2
-enum-told-2 c = search needs
-
--- src/lib.rt:743:21
-same-length-7 : tie.Need-same-length-7
-same-length-7 c = search needs
-
--- src/lib.rt:743:21
-same-length-8 : tie.Need-same-length-8
-same-length-8 c = search needs
-
--- src/lib.rt:743:21
-same-length-9 : tie.Need-same-length-9
-same-length-9 c = search needs
-
--- src/lib.rt:743:21
-returns-3 : tie.Need-returns-3
-returns-3 c =
-    let b = c .before .before .before .before .before .before .before .before .before .before .before .before .before .before .before .before .before .before .before .before .before .before .before .before .before .before .before .before .before .before in
-    let a = b .args in
-    start-full-second (tablesOf (a .s .now)) (poolOf (a .terms .now) (a .runs .now)) (a .l) (a .r) _ _ _ _ (rw (c .before .before .before .before .before .before .before .before .before .before .before .before .before .before .x .given .1) at (c .before .before .before .before .before .before .before .before .before .before .before .before .before .before .before .before .before .before .before .before .before .before .best-term .ensures)) (c .before .before .before .before .before .before .before .before .before .before .before .before .if1 .left) _ _ _ (rw (c .enum-told2 .given .1) at (c .before .before .before .before .before .before .before .before .best-term2 .ensures))
-
--- src/lib.rt:745:31
-enum-known-y : tie.Need-enum-known-y
-enum-known-y c = search needs
-
--- src/lib.rt:746:21
-variants-requires : tie.Need-variants-requires
-variants-requires c κs =
-    let b = c .before .before .before .before .before .before .before .before .before .before .before .before .before .before .before .before .before .before .before .before .before .before .before .before .before .before .before .before .before .before .before .before .before in
-    let a = b .args in
-    let w = start-within (tablesOf (a .s .now)) (poolOf (a .terms .now) (a .runs .now)) (a .l) (a .r) _ _ _ _ (rw (c .before .before .before .before .before .before .before .before .before .before .before .before .before .before .before .before .before .x .given .1) at (c .before .before .before .before .before .before .before .before .before .before .before .before .before .before .before .before .before .before .before .before .before .before .before .before .before .best-term .ensures)) (c .before .before .before .before .before .before .before .before .before .before .before .before .before .before .before .if1 .left) _ _ _ (b .pre .2) (b .pre .0 .valid) (omega (arith, b .pre .3, classes-many (a .s .now) (a .im) (b .pre .1))) (omega (arith, b .pre .4, classes-many (a .s .now) (a .im) (b .pre .1))) _ (rw (c .before .before .before .y .given .1) at (c .before .before .before .before .before .before .before .before .before .before .before .best-term2 .ensures)) in
-    (c .before .before .before .before .before .before .before .before .before .before .before .best-term2 .ensures .holds, w .0, w .1)
-
--- src/lib.rt:746:21
-same-length-10 : tie.Need-same-length-10
-same-length-10 c = search needs
-
--- src/lib.rt:746:21
-same-length-11 : tie.Need-same-length-11
-same-length-11 c = search needs
-
--- src/lib.rt:746:21
-same-length-12 : tie.Need-same-length-12
-same-length-12 c = search needs
-
--- src/lib.rt:746:21
-returns-4 : tie.Need-returns-4
-returns-4 c =
-    let b = c .before .before .before .before .before .before .before .before .before .before .before .before .before .before .before .before .before .before .before .before .before .before .before .before .before .before .before .before .before .before .before .before .before .before .before .before .before .before in
-    let a = b .args in
-    start-marked (tablesOf (a .s .now)) (poolOf (a .terms .now) (a .runs .now)) (a .l) (a .r) _ _ _ _ (rw (c .before .before .before .before .before .before .before .before .before .before .before .before .before .before .before .before .before .before .before .before .before .before .x .given .1) at (c .before .before .before .before .before .before .before .before .before .before .before .before .before .before .before .before .before .before .before .before .before .before .before .before .before .before .before .before .before .before .best-term .ensures)) (c .before .before .before .before .before .before .before .before .before .before .before .before .before .before .before .before .before .before .before .before .if1 .left) _ _ _ (b .pre .2) (b .pre .0 .valid) (omega (arith, b .pre .3, classes-many (a .s .now) (a .im) (b .pre .1))) (omega (arith, b .pre .4, classes-many (a .s .now) (a .im) (b .pre .1))) _ (rw (c .before .before .before .before .before .before .before .before .y .given .1) at (c .before .before .before .before .before .before .before .before .before .before .before .before .before .before .before .before .best-term2 .ensures)) _ _ _ (c .before .before .before .before .variants .ensures)
+    let k = c .before .before .before .before .before .before .before .before .before .starting-term in
+    let x = k .last .1 .1 .0 in
+    let y = k .last .1 .1 .1 .0 in
+    let z = k .last .1 .1 .1 .1 .0 in
+    starts-made (tablesOf (a .s .now)) (a .l, a .r) (a .terms .now) (a .runs .now) (a .best .now) x y z _ (omega (arith, k .kept)) (rw (c .before .e .given .1) at (k .ensures))
 
 pub evaluate-generalize-action-spec : {M : Type 1} → statement M
 evaluate-generalize-action-spec =
     tie.close
     (tie.spec
-    best-term-requires
+    starting-term-requires
     enum-told
+    clear4-requires
+    clear8-requires
+    clear2-requires
     same-length
     same-length-2
     same-length-3
     returns
-    enum-known-x
+    enum-known-e
     same-length-4
     same-length-5
     same-length-6
-    returns-2
-    best-term-requires-2
-    enum-told-2
-    same-length-7
-    same-length-8
-    same-length-9
-    returns-3
-    enum-known-y
-    variants-requires
-    same-length-10
-    same-length-11
-    same-length-12
-    returns-4)
+    returns-2)

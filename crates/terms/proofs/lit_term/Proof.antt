@@ -53,7 +53,7 @@ returns : tie.Need-returns
 returns c =
     let b = c .before .before .before .before .before .before .before .before .before .before .before in
     let a = b .args in
-    gives-of (litNode (a .op) (a .v)) (lit-node (c .before .before .before .before .before .short .result) (a .op) (a .v) _ (c .before .before .before .before .before .short .ensures) (b .pre .1)) (c .before .before .before .before .intern .ensures)
+    gives-of (litNode (a .op) (a .v)) (lit-node (c .before .before .before .before .before .short .result) (a .op) (a .v) _ (c .before .before .before .before .before .short .ensures) (b .pre .1)) (omega arith) (c .before .before .before .before .intern .ensures)
 
 pub lit-term-spec : {M : Type 1} → statement M
 lit-term-spec =

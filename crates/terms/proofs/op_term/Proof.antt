@@ -92,7 +92,7 @@ returns c =
     let a = b .args in
     let k = c .before .before .before .before .before .before .before .before .before .before .before .before .before .before .before .before .first-child .ensures .0 in
     let n = c .before .before .before .before .before .before .before .before .before .before .before .before .before .before .before .child-count .ensures .0 in
-    gives-of (opNode (a .op) (map (keptRun (a .best .now)) (childrenOf (tablesOf (a .s .now)) (theMember (tablesOf (a .s .now)) (a .m))))) (rw (c .before .before .before .before .before .short .ensures) (kept-node (tablesOf (a .s .now)) (a .best .now) (countIn (a .terms .now)) (a .m) (b .pre .4) (b .pre .0 .few) _ (rw (k, n) at (c .before .before .before .before .before .before .before .before .before .before .before .before .before .kept-runs .ensures)) _ (c .before .before .before .before .before .before .before .before .before .before .join-runs .result) (rw n at (c .before .before .before .before .before .before .before .before .before .before .join-runs .ensures)) (a .op) (b .pre .3))) (c .before .before .before .before .intern .ensures)
+    gives-of (opNode (a .op) (map (keptRun (a .best .now)) (childrenOf (tablesOf (a .s .now)) (theMember (tablesOf (a .s .now)) (a .m))))) (rw (c .before .before .before .before .before .short .ensures) (kept-node (tablesOf (a .s .now)) (a .best .now) (countIn (a .terms .now)) (a .m) (b .pre .4) (b .pre .0 .few) _ (rw (k, n) at (c .before .before .before .before .before .before .before .before .before .before .before .before .before .kept-runs .ensures)) _ (c .before .before .before .before .before .before .before .before .before .before .join-runs .result) (rw n at (c .before .before .before .before .before .before .before .before .before .before .join-runs .ensures)) (a .op) (b .pre .3))) (begins-fits (c .before .before .before .before .before .before .before .before .before .before .join-runs .ensures)) (c .before .before .before .before .intern .ensures)
 
 pub op-term-spec : {M : Type 1} → statement M
 op-term-spec =

@@ -90,7 +90,7 @@ returns c =
     let b = c .before .before .before .before .before .before .before .before .before .before .before .before .before .before .before .before .before .before .before .before .before in
     let a = b .args in
     let v = c .before .before .before .before .before .before .before .before .before .join-runs in
-    gives-of (variantsNode (a .a) (a .b)) (pair-node (a .a) (a .b) (omega (arith, b .pre .1, b .pre .0 .few)) (omega (arith, b .pre .2, b .pre .0 .few)) (replicate 2 0) _ (length-replicate {A = ℕ} 2 0) (c .before .before .before .before .before .before .before .before .before .before .before .before .before .before .before .before .before .long .result) (c .before .before .before .before .before .before .before .before .before .before .before .before .before .long2 .result) (c .before .before .before .before .before .before .before .before .before .before .before .before .before .before .before .before .before .long .ensures) (c .before .before .before .before .before .before .before .before .before .before .before .before .before .long2 .ensures) (c .before .before .before .before .before .before .before .before .before .before .before .before .put82 .ensures ∙ ap (λ (z : List ℕ). set z 1 (16384 + c .before .before .before .before .before .before .before .before .before .before .before .before .before .long2 .result)) (c .before .before .before .before .before .before .before .before .before .before .before .before .before .before .before .before .put8 .ensures)) _ (v .result) (v .ensures)) (c .before .before .before .before .intern .ensures)
+    gives-of (variantsNode (a .a) (a .b)) (pair-node (a .a) (a .b) (omega (arith, b .pre .1, b .pre .0 .few)) (omega (arith, b .pre .2, b .pre .0 .few)) (replicate 2 0) _ (length-replicate {A = ℕ} 2 0) (c .before .before .before .before .before .before .before .before .before .before .before .before .before .before .before .before .before .long .result) (c .before .before .before .before .before .before .before .before .before .before .before .before .before .long2 .result) (c .before .before .before .before .before .before .before .before .before .before .before .before .before .before .before .before .before .long .ensures) (c .before .before .before .before .before .before .before .before .before .before .before .before .before .long2 .ensures) (c .before .before .before .before .before .before .before .before .before .before .before .before .put82 .ensures ∙ ap (λ (z : List ℕ). set z 1 (16384 + c .before .before .before .before .before .before .before .before .before .before .before .before .before .long2 .result)) (c .before .before .before .before .before .before .before .before .before .before .before .before .before .before .before .before .put8 .ensures)) _ (v .result) (v .ensures)) (begins-fits (v .ensures)) (c .before .before .before .before .intern .ensures)
 
 pub variants-spec : {M : Type 1} → statement M
 variants-spec =

@@ -1,3 +1,4 @@
+use Rattle.transport.proofs.PathLaws.{sent-kept}
 use Rattle.transport.proofs.Augments.{low-of, ready-of, not-sent, Way, way, units-fit, path-steps, sent-along}
 use Rattle.transport.specs.Path.{stepsFrom, Balanced}
 use Rattle.transport.specs.Holds.{Ready, Found, Midway, Sent}
@@ -59,6 +60,7 @@ returns c = let a = c .before .before .before .before .before .before .before .b
   c .before .before .before .before .before .before .before .before .before .before .before .before .before .search .ensures (ready-of M y B) .net .size,
   c .before .before .before .before .before .before .before .before .before .trace .ensures .1,
   λ M′. sent-along M′ y m (way M′ y B m (rw (c .before .before .before .before .before .before .before .before .before .before .before .before .if1 .taken) at (c .before .before .before .before .before .before .before .before .before .before .before .before .before .search .ensures (ready-of M′ y B)))) (a .rest) (c .before .before .before .before .before .bottleneck .result) l (c .before .before .send .last .0) (c .before .before .before .before .before .before .before .before .before .trace .ensures .2) (c .before .before .before .before .before .bottleneck .ensures) (c .before .before .send .ensures) (c .before .before .before .before .before .before .before .before .before .before .before .before .before .before .before .before .before .before .before .before .before .before .before .before .pre .3),
+  ap (λ (f : List ℕ). drop (length (a .supply .now) * length (a .demand .now)) f) (c .before .before .send .ensures) ∙ sent-kept (length (a .supply .now)) (length (a .demand .now)) (c .before .before .before .before .before .bottleneck .result) l (a .flow .now) (path-steps M y m w l (c .before .before .before .before .before .before .before .before .before .trace .ensures .2)),
 )
 
 -- src/lib.rt:506:1
@@ -68,7 +70,7 @@ same-length-2 c = search needs
 -- src/lib.rt:506:1
 returns-2 : tie.Need-returns-2
 returns-2 c = let a = c .before .before .before .before .before .before .before .before .before .before .before .before .args in let y = c .before .before .before .before .before .balance .last .1 .1 .1 .0 in let B = c .before .before .before .before .before .balance .ensures in let m = c .before .search .last .1 .1 .1 .0 in
-    (B .size, c .before .search .ensures (ready-of (c .before .before .before .before .before .before .before .before .before .before .before .before .pre .8) y B) .net .size, c .before .before .before .before .before .before .before .before .before .before .before .before .pre .6, λ M′. not-sent M′ y B m (a .rest) (a .flow .now) (rw (c .if1 .left) at (c .before .search .ensures (ready-of M′ y B))))
+    (B .size, c .before .search .ensures (ready-of (c .before .before .before .before .before .before .before .before .before .before .before .before .pre .8) y B) .net .size, c .before .before .before .before .before .before .before .before .before .before .before .before .pre .6, λ M′. not-sent M′ y B m (a .rest) (a .flow .now) (rw (c .if1 .left) at (c .before .search .ensures (ready-of M′ y B))), refl)
 
 pub augment-spec : {M : Type 1} → statement M
 augment-spec =

@@ -1,0 +1,103 @@
+use Rattle.spec.specs.Action.{structural, transports, joins}
+use Rattle.graph.specs.JoinLaws.{pairsOf, cellsOf, joins-small, joins-are}
+use Rattle.image.specs.Loaded.{classes-many, operations-many}
+use Rattle.graph.specs.Growing.{pairsIn, Going}
+use Rattle.spec.specs.Image.{tablesOf}
+use Rattle.spec.specs.Graph.{enterAll}
+use Rattle.spec.specs.Meaning.{here}
+use Rattle.graph.specs.GrowLaws.{going-start, going-same, going-small, going-on, going-full, going-end, going-last}
+use borrow.Author.Tests.{lt-ltb, le-ltb, le-leb, lt-leb, eq-eqb, ne-eqb}
+use Prim.Native.Nat.{ℕ, zero, suc, _≤_, _<_, _-_, _+_, _*_, _^_}
+use native.Mathlib.Omega.{arith}
+use native.Mathlib.Numerals.{add-one}
+use mathlib.Core.Path.{_≡_, refl, ap, sym, _∙_}
+use mathlib.Core.Logic.{⊎-elim}
+use mathlib.Core.List.{List, [], _∷_, _++_, append-nil}
+use lib.ListN.{length, take, drop, getD, set, length-set, length-take, length-drop, length-append, drop-of-length-le}
+use borrow.Author.Needs.{needs}
+use Rattle.graph.proofs.enter_joins.Statement.{statement}
+use Rattle.graph.proofs.enter_joins.Tie as tie
+use Rattle.graph.proofs.enter_joins.Reads as reads
+use Rattle.graph.proofs.enter_joins.Lts as lts
+use Rattle.graph.proofs.enter_actions.Reads as enter-actions-reads
+use Rattle.graph.proofs.enter_transports.Reads as enter-transports-reads
+
+-- src/lib.rt:346:11
+enter-actions-requires : tie.Need-enter-actions-requires
+enter-actions-requires c κs = search needs
+
+-- src/lib.rt:347:24
+enum-told : tie.Need-enum-told
+enum-told c = search needs
+
+-- src/lib.rt:348:19
+enum-known-m : tie.Need-enum-known-m
+enum-known-m c = search needs
+
+-- src/lib.rt:348:25
+enter-transports-requires : tie.Need-enter-transports-requires
+enter-transports-requires c κs = let b = c .before .before .before .before .before .before .before .before .before .before .before .before .before .before .before .before .before .before .before .before in
+    let t = tablesOf (b .args .s .now) in
+    let l = b .args .l in
+    let r = b .args .r in
+    let d = going-start (joins t (l, r)) (b .pre .4) (joins-small t (b .pre .1) l r (omega (arith, b .pre .2, classes-many (b .args .s .now) (b .args .im) (b .pre .0))) (omega (arith, b .pre .3, classes-many (b .args .s .now) (b .args .im) (b .pre .0)))) in
+    (b .pre .0, b .pre .1, b .pre .2, b .pre .3, going-on d (pairsOf (structural t l r)) (cellsOf (transports t l r)) (joins-are t l r) (c .before .before .before .before .before .before .before .before .before .before .before .before .enter-actions .result) (c .before .before .before .before .before .before .before .before .before .before .before .before .enter-actions .ensures) (c .before .before .before .before .m .given .1) .graph)
+
+-- src/lib.rt:333:1
+same-length : tie.Need-same-length
+same-length c = search needs
+
+-- src/lib.rt:333:1
+same-length-2 : tie.Need-same-length-2
+same-length-2 c = search needs
+
+-- src/lib.rt:333:1
+same-length-3 : tie.Need-same-length-3
+same-length-3 c = search needs
+
+-- src/lib.rt:333:1
+returns : tie.Need-returns
+returns c = let b = c .before .before .before .before .before .before .before .before .before .before .before .before .before .before .before .before in
+    let t = tablesOf (b .args .s .now) in
+    let l = b .args .l in
+    let r = b .args .r in
+    let d = going-start (joins t (l, r)) (b .pre .4) (joins-small t (b .pre .1) l r (omega (arith, b .pre .2, classes-many (b .args .s .now) (b .args .im) (b .pre .0))) (omega (arith, b .pre .3, classes-many (b .args .s .now) (b .args .im) (b .pre .0)))) in
+    going-full d (pairsOf (structural t l r)) (cellsOf (transports t l r)) (joins-are t l r) (c .before .before .before .before .before .before .before .before .enter-actions .result) (c .before .before .before .before .before .before .before .before .enter-actions .ensures) (c .enum-told .given .1)
+
+-- src/lib.rt:333:1
+same-length-4 : tie.Need-same-length-4
+same-length-4 c = search needs
+
+-- src/lib.rt:333:1
+same-length-5 : tie.Need-same-length-5
+same-length-5 c = search needs
+
+-- src/lib.rt:333:1
+same-length-6 : tie.Need-same-length-6
+same-length-6 c = search needs
+
+-- src/lib.rt:333:1
+returns-2 : tie.Need-returns-2
+returns-2 c = let b = c .before .before .before .before .before .before .before .before .before .before .before .before .before .before .before .before .before .before .before .before .before .before .before .before .before .before .before in
+    let t = tablesOf (b .args .s .now) in
+    let l = b .args .l in
+    let r = b .args .r in
+    let d = going-start (joins t (l, r)) (b .pre .4) (joins-small t (b .pre .1) l r (omega (arith, b .pre .2, classes-many (b .args .s .now) (b .args .im) (b .pre .0))) (omega (arith, b .pre .3, classes-many (b .args .s .now) (b .args .im) (b .pre .0)))) in
+    going-last (going-on d (pairsOf (structural t l r)) (cellsOf (transports t l r)) (joins-are t l r) (c .before .before .before .before .before .before .before .before .before .before .before .before .before .before .before .before .before .before .before .enter-actions .result) (c .before .before .before .before .before .before .before .before .before .before .before .before .before .before .before .before .before .before .before .enter-actions .ensures) (c .before .before .before .before .before .before .before .before .before .before .before .m .given .1)) (c .before .before .before .before .before .before .enter-transports .result) (c .before .before .before .before .before .before .enter-transports .ensures)
+
+pub enter-joins-spec : {M : Type 1} → statement M
+enter-joins-spec =
+    tie.close
+    (tie.spec
+    enter-actions-requires
+    enum-told
+    enum-known-m
+    enter-transports-requires
+    same-length
+    same-length-2
+    same-length-3
+    returns
+    same-length-4
+    same-length-5
+    same-length-6
+    returns-2)
