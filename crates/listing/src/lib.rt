@@ -226,7 +226,7 @@ fn put(out: &mut [u8], at: usize, x: u8)
     out[at] = x;
 }
 
-fn text(out: &mut [u8], at: usize, b: &[u8]) -> usize
+pub fn text(out: &mut [u8], at: usize, b: &[u8]) -> usize
     requires { ⌜ at + length (now b) ≤ length (now out) ⌝ }
     ensures { λ r. ⌜ Wrote (now (b .entry)) (now (out .entry)) at (now (out .exit)) r ⌝ }
 {
@@ -259,7 +259,7 @@ fn decimal(out: &mut [u8], at: usize, v: u64) -> usize
 }
 
 // b, then v
-fn labelled(out: &mut [u8], at: usize, b: &[u8], v: u64) -> usize
+pub fn labelled(out: &mut [u8], at: usize, b: &[u8], v: u64) -> usize
     requires { ⌜ at + length (now b ++ decimal v) ≤ length (now out) ⌝ }
     ensures { λ r. ⌜ Wrote (now (b .entry) ++ decimal v) (now (out .entry)) at (now (out .exit)) r ⌝ }
 {

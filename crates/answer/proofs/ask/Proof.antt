@@ -1,0 +1,165 @@
+use borrow.Author.Tests.{lt-ltb, le-ltb, le-leb, lt-leb, eq-eqb, ne-eqb}
+use Prim.Native.Nat.{ℕ, zero, suc, _≤_, _<_, _-_, _+_, _*_, _^_}
+use native.Mathlib.Omega.{arith}
+use native.Mathlib.Numerals.{add-one}
+use mathlib.Core.Path.{_≡_, refl, ap, sym, _∙_}
+use mathlib.Core.Logic.{⊎-elim}
+use mathlib.Core.List.{List, [], _∷_, _++_, append-nil}
+use lib.ListN.{length, take, drop, getD, set, length-set, length-take, length-drop, length-append, drop-of-length-le}
+use borrow.Author.Needs.{needs}
+use Rattle.spec.specs.Bytes.{be4}
+use Rattle.answer.specs.RespondingLaws.{framed-says, asks-from}
+use Rattle.answer.proofs.ask.Statement.{statement}
+use Rattle.answer.proofs.ask.Tie as tie
+use Rattle.answer.proofs.ask.Reads as reads
+use Rattle.answer.proofs.ask.Lts as lts
+use Rattle.au.proofs.merge_plain.Reads as merge-plain-reads
+use Rattle.answer.proofs.narrow2.Reads as narrow2-reads
+use Rattle.answer.proofs.narrow4.Reads as narrow4-reads
+use Rattle.answer.proofs.size.Reads as size-reads
+use Rattle.image.proofs.be2.Reads as be2-reads
+use Rattle.image.proofs.be4.Reads as be4-reads
+
+-- src/program.rt:97:18
+be4-requires : tie.Need-be4-requires
+be4-requires c κs =
+    let a = c .before .before .before .before .before .before .before .before in
+    let F = framed-says (a .args .input .now) (a .pre) in
+    omega (arith, F .some)
+
+-- src/program.rt:97:13
+size-requires : tie.Need-size-requires
+size-requires c κs = search needs
+
+-- src/program.rt:97:13
+add-n : tie.Need-add-n
+add-n c = search needs
+
+-- src/program.rt:98:24
+be2-requires : tie.Need-be2-requires
+be2-requires c κs =
+    let a = c .before .before .before .before .before .before .before .before .before .before in
+    let F = framed-says (a .args .input .now) (a .pre) in
+    omega (arith, F .ends, F .short, c .size .ensures, c .before .be4 .ensures .0)
+
+-- src/program.rt:98:9
+narrow2-requires : tie.Need-narrow2-requires
+narrow2-requires c κs = search needs
+
+-- src/program.rt:99:36
+add-be2 : tie.Need-add-be2
+add-be2 c = search needs
+
+-- src/program.rt:99:25
+be2-requires-2 : tie.Need-be2-requires-2
+be2-requires-2 c κs =
+    let a = c .before .before .before .before .before .before .before .before .before .before .before .before in
+    let F = framed-says (a .args .input .now) (a .pre) in
+    omega (arith, F .ends, F .short, c .before .before .size .ensures, c .before .before .before .be4 .ensures .0)
+
+-- src/program.rt:99:9
+narrow2-requires-2 : tie.Need-narrow2-requires-2
+narrow2-requires-2 c κs = search needs
+
+-- src/program.rt:100:37
+add-be4 : tie.Need-add-be4
+add-be4 c = search needs
+
+-- src/program.rt:100:26
+be4-requires-2 : tie.Need-be4-requires-2
+be4-requires-2 c κs =
+    let a = c .before .before .before .before .before .before .before .before .before .before .before .before .before .before in
+    let F = framed-says (a .args .input .now) (a .pre) in
+    omega (arith, F .ends, F .short, c .before .before .before .before .size .ensures, c .before .before .before .before .before .be4 .ensures .0)
+
+-- src/program.rt:100:9
+narrow4-requires : tie.Need-narrow4-requires
+narrow4-requires c κs = search needs
+
+-- src/program.rt:101:17
+sub-merge-plain : tie.Need-sub-merge-plain
+sub-merge-plain c = search needs
+
+-- src/program.rt:101:17
+part-merge-plain-start : tie.Need-part-merge-plain-start
+part-merge-plain-start c =
+    let a = c .before .before .before .before .before .before .before .before .before .before .before .before .before .before .before .before in
+    let F = framed-says (a .args .input .now) (a .pre) in
+    omega (arith, F .ends, F .short, c .before .before .before .before .before .before .size .ensures, c .before .before .before .before .before .before .before .be4 .ensures .0)
+
+-- src/program.rt:101:17
+part-merge-plain-end : tie.Need-part-merge-plain-end
+part-merge-plain-end c =
+    let a = c .before .before .before .before .before .before .before .before .before .before .before .before .before .before .before .before in
+    let F = framed-says (a .args .input .now) (a .pre) in
+    omega (arith, F .ends, F .short, c .before .before .before .before .before .before .size .ensures, c .before .before .before .before .before .before .before .be4 .ensures .0)
+
+-- src/program.rt:101:5
+merge-plain-requires : tie.Need-merge-plain-requires
+merge-plain-requires c κs = search needs
+
+-- src/program.rt:82:1
+same-length : tie.Need-same-length
+same-length c = search needs
+
+-- src/program.rt:82:1
+same-length-2 : tie.Need-same-length-2
+same-length-2 c = search needs
+
+-- src/program.rt:82:1
+same-length-3 : tie.Need-same-length-3
+same-length-3 c = search needs
+
+-- src/program.rt:82:1
+same-length-4 : tie.Need-same-length-4
+same-length-4 c = search needs
+
+-- src/program.rt:82:1
+same-length-5 : tie.Need-same-length-5
+same-length-5 c = search needs
+
+-- src/program.rt:82:1
+same-length-6 : tie.Need-same-length-6
+same-length-6 c = search needs
+
+-- src/program.rt:82:1
+same-length-7 : tie.Need-same-length-7
+same-length-7 c = search needs
+
+-- src/program.rt:82:1
+returns : tie.Need-returns
+returns c =
+    let a = c .before .before .before .before .before .before .before .before .before .before .before .before .before .before .before .before .before .before .before .before .before .before .before .before .before .before .before .before .before .before .before .before .before .before .before .before .before .before .before in
+    let s = a .args .input .now in
+    let m = c .before .before .before .before .before .before .before .before .before .before .before .before .before .before .merge-plain .ensures in
+    let u : c .before .before .before .before .before .before .before .before .before .before .before .before .before .before .before .before .before .before .before .before .before .before .before .before .before .before .before .before .before .size .result + 4 - 0 ≡ c .before .before .before .before .before .before .before .before .before .before .before .before .before .before .before .before .before .before .before .before .before .before .before .before .before .before .before .before .before .size .result + 4 = omega arith in
+    let e : c .before .before .before .before .before .before .before .before .before .before .before .before .before .before .before .before .before .before .before .before .before .before .before .before .before .before .before .before .before .size .result + 4 ≡ be4 s 0 + 4 = omega (arith, c .before .before .before .before .before .before .before .before .before .before .before .before .before .before .before .before .before .before .before .before .before .before .before .before .before .before .before .before .before .size .ensures, c .before .before .before .before .before .before .before .before .before .before .before .before .before .before .before .before .before .before .before .before .before .before .before .before .before .before .before .before .before .before .be4 .ensures .0) in
+    (asks-from s _ (c .before .before .before .before .before .before .before .before .before .before .before .before .before .before .before .before .before .before .before .before .before .before .before .before .before .before .before .before .before .size .result + 4) _ _ _ _ _ _ _ (ap (λ (k : ℕ). take k s) u) e (c .before .before .before .before .before .before .before .before .before .before .before .before .before .before .before .before .before .before .before .before .before .before .before .before .before .before .before .narrow2 .ensures ∙ c .before .before .before .before .before .before .before .before .before .before .before .before .before .before .before .before .before .before .before .before .before .before .before .before .before .before .before .before .be2 .ensures .0) (c .before .before .before .before .before .before .before .before .before .before .before .before .before .before .before .before .before .before .before .before .before .before .before .before .before .narrow22 .ensures ∙ c .before .before .before .before .before .before .before .before .before .before .before .before .before .before .before .before .before .before .before .before .before .before .before .before .before .before .be22 .ensures .0) (c .before .before .before .before .before .before .before .before .before .before .before .before .before .before .before .before .before .before .before .before .before .before .before .narrow4 .ensures ∙ c .before .before .before .before .before .before .before .before .before .before .before .before .before .before .before .before .before .before .before .before .before .before .before .before .be42 .ensures .0) (m .0), m .1)
+
+pub ask-spec : {M : Type 1} → statement M
+ask-spec =
+    tie.close
+    (tie.spec
+    be4-requires
+    size-requires
+    add-n
+    be2-requires
+    narrow2-requires
+    add-be2
+    be2-requires-2
+    narrow2-requires-2
+    add-be4
+    be4-requires-2
+    narrow4-requires
+    sub-merge-plain
+    part-merge-plain-start
+    part-merge-plain-end
+    merge-plain-requires
+    same-length
+    same-length-2
+    same-length-3
+    same-length-4
+    same-length-5
+    same-length-6
+    same-length-7
+    returns)

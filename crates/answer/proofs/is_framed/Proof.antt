@@ -1,0 +1,47 @@
+use borrow.Author.Tests.{lt-ltb, le-ltb, le-leb, lt-leb, eq-eqb, ne-eqb}
+use Prim.Native.Nat.{ℕ, zero, suc, _≤_, _<_, _-_, _+_, _*_, _^_}
+use native.Mathlib.Omega.{arith}
+use native.Mathlib.Numerals.{add-one}
+use mathlib.Core.Path.{_≡_, refl, ap, sym, _∙_}
+use mathlib.Core.Logic.{⊎-elim}
+use mathlib.Core.List.{List, [], _∷_, _++_, append-nil}
+use lib.ListN.{length, take, drop, getD, set, length-set, length-take, length-drop, length-append, drop-of-length-le}
+use borrow.Author.Needs.{needs}
+use Rattle.answer.specs.RespondingLaws.{too-long, too-short, by-length}
+use Rattle.answer.proofs.is_framed.Statement.{statement}
+use Rattle.answer.proofs.is_framed.Tie as tie
+use Rattle.answer.proofs.is_framed.Reads as reads
+use Rattle.answer.proofs.is_framed.Lts as lts
+use Rattle.answer.proofs.long.Reads as long-reads
+use Rattle.image.proofs.be4.Reads as be4-reads
+
+-- src/program.rt:52:9
+returns : tie.Need-returns
+returns c =
+    too-long (c .before .before .args .input .now) (omega (arith, c .if1 .taken))
+
+-- src/program.rt:55:9
+returns-2 : tie.Need-returns-2
+returns-2 c =
+    too-short (c .before .before .before .args .input .now) (omega (arith, c .before .if1 .left)) (omega (arith, c .if2 .taken))
+
+-- src/program.rt:57:5
+be4-requires : tie.Need-be4-requires
+be4-requires c κs = search needs
+
+-- src/program.rt:57:5
+add-result : tie.Need-add-result
+add-result c = search needs
+
+-- src/program.rt:57:27
+long-requires : tie.Need-long-requires
+long-requires c κs = search needs
+
+-- src/program.rt:48:1
+returns-3 : tie.Need-returns-3
+returns-3 c =
+    let s = c .before .before .before .before .before .args .input .now in rw (c .long .ensures) (by-length s _ (omega (arith, c .before .before .before .if1 .left)) (omega (arith, c .before .before .if2 .left)) (omega (arith, c .before .be4 .ensures .0)))
+
+pub is-framed-spec : {M : Type 1} → statement M
+is-framed-spec =
+    tie.close (tie.spec returns returns-2 be4-requires add-result long-requires returns-3)

@@ -1,0 +1,58 @@
+use borrow.Author.Tests.{lt-ltb, le-ltb, le-leb, lt-leb, eq-eqb, ne-eqb}
+use Prim.Native.Nat.{ℕ, zero, suc, _≤_, _<_, _-_, _+_, _*_, _^_}
+use native.Mathlib.Omega.{arith}
+use native.Mathlib.Numerals.{add-one}
+use mathlib.Core.Path.{_≡_, refl, ap, sym, _∙_}
+use mathlib.Core.Logic.{⊎-elim}
+use mathlib.Core.List.{List, [], _∷_, _++_, append-nil}
+use lib.ListN.{length, take, drop, getD, set, length-set, length-take, length-drop, length-append, drop-of-length-le}
+use borrow.Author.Needs.{needs}
+use Rattle.spec.specs.Bytes as X
+use Rattle.answer.specs.RespondingLaws.{room-label, room-end, wrote-line}
+use Rattle.answer.proofs.refusal.Statement.{statement}
+use Rattle.answer.proofs.refusal.Tie as tie
+use Rattle.answer.proofs.refusal.Reads as reads
+use Rattle.answer.proofs.refusal.Lts as lts
+use Rattle.listing.proofs.labelled.Reads as labelled-reads
+use Rattle.listing.proofs.text.Reads as text-reads
+
+-- src/program.rt:65:39
+slice-aggregate-labelled : tie.Need-slice-aggregate-labelled
+slice-aggregate-labelled c = search needs
+
+-- src/program.rt:65:9
+labelled-requires : tie.Need-labelled-requires
+unfolding X.text
+labelled-requires c κs =
+    let a = c .before .before .before in room-label (a .args .k) (length (a .args .out .now)) (a .pre .1) (a .pre .0)
+
+-- src/program.rt:66:27
+slice-aggregate-text : tie.Need-slice-aggregate-text
+slice-aggregate-text c = search needs
+
+-- src/program.rt:66:5
+text-requires : tie.Need-text-requires
+unfolding X.text
+text-requires c κs =
+    let a = c .before .before .before .before .before .before .before .before in room-end (a .args .k) (a .args .out .now) _ _ (a .pre .1) (a .pre .0) (c .before .before .before .before .labelled .ensures)
+
+-- src/program.rt:61:1
+same-length : tie.Need-same-length
+same-length c = search needs
+
+-- src/program.rt:61:1
+returns : tie.Need-returns
+unfolding X.text
+returns c =
+    let a = c .before .before .before .before .before .before .before .before .before .before .before in wrote-line (a .args .k) (a .args .out .now) _ _ (a .pre .1) (a .pre .0) (c .before .before .before .before .before .before .before .labelled .ensures) (c .before .before .text .ensures)
+
+pub refusal-spec : {M : Type 1} → statement M
+refusal-spec =
+    tie.close
+    (tie.spec
+    slice-aggregate-labelled
+    labelled-requires
+    slice-aggregate-text
+    text-requires
+    same-length
+    returns)

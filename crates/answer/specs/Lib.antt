@@ -1,0 +1,2 @@
+pub mod Responding
+pub mod RespondingLaws

@@ -1,0 +1,48 @@
+-- What program `merge` writes for an input, as a function on lent buffers.
+use mathlib.Core.Path.{_≡_, _∙_}
+use mathlib.Core.Bool.{Bool, true}
+use mathlib.Core.List.{List, [], _∷_, _++_}
+use Prim.Native.Nat.{ℕ, _+_, _≤_}
+use lib.Dec.{leb, eqb}
+use lib.ListN.{length, take, drop}
+use Rattle.spec.specs.Bytes.{both, be2, be4, text, decimal, refused}
+use Rattle.spec.specs.Listing.{line}
+use Rattle.spec.specs.Merge.{INPUT, OUTPUT, printed, programOf}
+use Rattle.au.specs.declared.Answer.{Answer}
+use Rattle.au.specs.declared.Answer.the-variants.{Listing}
+use Rattle.au.specs.Merges.{fitOf, answerOf, Merges}
+
+-- the test of `answerTo`: the image ends where its length field says, and the query's eight bytes follow
+abbrev pub framed : List ℕ → Bool
+framed s = both (leb (length s) INPUT) (both (leb 4 (length s)) (eqb (be4 s 0 + 4 + 8) (length s)))
+
+abbrev pub refusalBytes : ℕ → List ℕ
+refusalBytes k = line (text "refused" ∷ decimal k ∷ [])
+
+-- the bytes of l stand at the output's front; past them it is as it was
+pub record Front (l out out′ : List ℕ) (r : ℕ) : Type 0 where
+  pub long : r ≡ length l
+  pub bytes : out′ ≡ l ++ drop (length l) out
+
+-- what is printed of an answer whose listing, if any, is there already
+pub record Prints (out out′ : List ℕ) (a : Answer) (r : ℕ) : Type 0 where
+  pub listing : (n : ℕ) → a ≡ Listing n → (r ≡ n) × (out′ ≡ out)
+  pub refusal : (k : ℕ) → answerOf out a ≡ refused k → Front (refusalBytes k) out out′ r
+
+-- the call of `merge` for a framed input
+abbrev pub Asks : List ℕ → Bool → List ℕ → List ℕ → Answer → Type 0
+Asks s fit out out′ a = Merges (take (be4 s 0 + 4) s) (be2 s (be4 s 0 + 4)) (be2 s (be4 s 0 + 4 + 2)) (be4 s (be4 s 0 + 4 + 4)) fit out out′ a
+
+-- the buffers that the program lends
+pub record Rooms (a b c d e f out : List ℕ) : Type 0 where
+  pub fit : fitOf 4096 (length a) (length b) (length c) (length d) (length e) (length f) ≡ true
+  pub output : length out ≡ OUTPUT
+
+-- what the program writes
+abbrev pub Responds : List ℕ → List ℕ → List ℕ → ℕ → Type 0
+Responds input out out′ r = Front (programOf input) out out′ r
+
+-- buffers as long as those
+pub rooms-kept : {a b c d e f o a′ b′ c′ d′ e′ f′ o′ : List ℕ} → Rooms a b c d e f o → length a′ ≡ length a → length b′ ≡ length b → length c′ ≡ length c → length d′ ≡ length d → length e′ ≡ length e → length f′ ≡ length f → length o′ ≡ length o
+    → Rooms a′ b′ c′ d′ e′ f′ o′
+rooms-kept R p q r s t u v = record { fit = rw (p, q, r, s, t, u) (R .fit); output = v ∙ R .output }

@@ -1,0 +1,135 @@
+use borrow.Author.Tests.{lt-ltb, le-ltb, le-leb, lt-leb, eq-eqb, ne-eqb}
+use Prim.Native.Nat.{ℕ, zero, suc, _≤_, _<_, _-_, _+_, _*_, _^_}
+use native.Mathlib.Omega.{arith}
+use native.Mathlib.Numerals.{add-one}
+use mathlib.Core.Path.{_≡_, refl, ap, sym, _∙_, subst}
+use mathlib.Core.Logic.{⊎-elim}
+use mathlib.Core.List.{List, [], _∷_, _++_, append-nil}
+use lib.ListN.{length, take, drop, getD, set, length-set, length-take, length-drop, length-append, drop-of-length-le}
+use borrow.Author.Needs.{needs}
+use Rattle.au.specs.declared.Prepared.{Prepared}
+use Rattle.au.specs.Prepared.{Prepares}
+use Rattle.au.specs.PreparedLaws.{merges-stop}
+use Rattle.au.proofs.conclude.Statement.{statement}
+use Rattle.au.proofs.conclude.Tie as tie
+use Rattle.au.proofs.conclude.Reads as reads
+use Rattle.au.proofs.conclude.Lts as lts
+use Rattle.au.proofs.clear_all.Reads as clear-all-reads
+use Rattle.au.proofs.finish.Reads as finish-reads
+use Rattle.au.proofs.wide.Reads as wide-reads
+
+-- src/lib.rt:252:24
+enum-known-p : tie.Need-enum-known-p
+enum-known-p c = search needs
+
+-- src/lib.rt:253:13
+clear-all-requires : tie.Need-clear-all-requires
+clear-all-requires c κs = search needs
+
+-- src/lib.rt:256:22
+enum-known-p-2 : tie.Need-enum-known-p-2
+enum-known-p-2 c = search needs
+
+-- src/lib.rt:256:46
+wide-requires : tie.Need-wide-requires
+wide-requires c κs = search needs
+
+-- src/lib.rt:256:58
+wide-requires-2 : tie.Need-wide-requires-2
+wide-requires-2 c κs = search needs
+
+-- src/lib.rt:256:32
+finish-requires : tie.Need-finish-requires
+finish-requires c κs =
+    let a = c .before .before .before .before .before .before .before .before .before .before .before .before .before .before .before .before .before .before .before .before in
+    let g = subst (λ (z : Prepared). Prepares (a .args .s .now) (a .args .left) (a .args .right) (a .args .budget) z (a .args .lefts .now) (a .args .rights .now) (a .args .index .now) (a .args .terms .now) (a .args .runs .now)) (c .before .before .before .before .before .before .before .before .before .before .p2 .given .1) (a .pre .2) in
+    (a .pre .0, a .pre .1, rw (c .before .before .before .before .before .before .before .before .wide .ensures .0, c .before .before .before .before .before .before .before .wide2 .ensures .0) g)
+
+-- src/lib.rt:234:1
+same-length : tie.Need-same-length
+same-length c = search needs
+
+-- src/lib.rt:234:1
+same-length-2 : tie.Need-same-length-2
+same-length-2 c = search needs
+
+-- src/lib.rt:234:1
+same-length-3 : tie.Need-same-length-3
+same-length-3 c = search needs
+
+-- src/lib.rt:234:1
+same-length-4 : tie.Need-same-length-4
+same-length-4 c = search needs
+
+-- src/lib.rt:234:1
+same-length-5 : tie.Need-same-length-5
+same-length-5 c = search needs
+
+-- src/lib.rt:234:1
+same-length-6 : tie.Need-same-length-6
+same-length-6 c = search needs
+
+-- src/lib.rt:234:1
+returns : tie.Need-returns
+returns c =
+    let a = c .before .before .before .before .before .before .before .before .before .before .before .before .before .before .before .before .before .before .before .before .before .before .before .before .before .before .before .before .before .before in
+    let g = subst (λ (z : Prepared). Prepares (a .args .s .now) (a .args .left) (a .args .right) (a .args .budget) z (a .args .lefts .now) (a .args .rights .now) (a .args .index .now) (a .args .terms .now) (a .args .runs .now)) (c .before .before .before .before .before .before .before .before .before .before .before .before .before .before .before .before .before .before .before .before .p .given .1) (a .pre .2) in
+    (merges-stop (a .args .s .now) (a .args .left) (a .args .right) (a .args .budget) (a .args .out .now) (c .before .before .before .before .before .before .before .before .before .before .before .before .before .before .before .before .before .before .before .before .p .given .0 .0) g, c .before .before .before .before .before .before .before .before .before .before .before .before .clear-all .ensures)
+
+-- src/lib.rt:234:1
+same-length-7 : tie.Need-same-length-7
+same-length-7 c = search needs
+
+-- src/lib.rt:234:1
+same-length-8 : tie.Need-same-length-8
+same-length-8 c = search needs
+
+-- src/lib.rt:234:1
+same-length-9 : tie.Need-same-length-9
+same-length-9 c = search needs
+
+-- src/lib.rt:234:1
+same-length-10 : tie.Need-same-length-10
+same-length-10 c = search needs
+
+-- src/lib.rt:234:1
+same-length-11 : tie.Need-same-length-11
+same-length-11 c = search needs
+
+-- src/lib.rt:234:1
+same-length-12 : tie.Need-same-length-12
+same-length-12 c = search needs
+
+-- src/lib.rt:234:1
+same-length-13 : tie.Need-same-length-13
+same-length-13 c = search needs
+
+-- src/lib.rt:234:1
+returns-2 : tie.Need-returns-2
+returns-2 c = rw (c .before .before .before .before .before .before .before .before .before .before .before .before .before .before .before .before .before .before .before .before .before .before .before .wide .ensures .0, c .before .before .before .before .before .before .before .before .before .before .before .before .before .before .before .before .before .before .before .before .before .before .wide2 .ensures .0) at (c .before .before .before .before .before .before .before .before .before .before .before .before .before .before .finish .ensures)
+
+pub conclude-spec : {M : Type 1} → statement M
+conclude-spec =
+    tie.close
+    (tie.spec
+    enum-known-p
+    clear-all-requires
+    enum-known-p-2
+    wide-requires
+    wide-requires-2
+    finish-requires
+    same-length
+    same-length-2
+    same-length-3
+    same-length-4
+    same-length-5
+    same-length-6
+    returns
+    same-length-7
+    same-length-8
+    same-length-9
+    same-length-10
+    same-length-11
+    same-length-12
+    same-length-13
+    returns-2)

@@ -1,0 +1,5 @@
+pub mod Merges
+pub mod Prepared
+pub mod PreparedLaws
+pub mod TableHolds
+pub mod Assembled

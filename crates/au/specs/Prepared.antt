@@ -1,0 +1,63 @@
+-- What `prepare` gives and leaves.
+use mathlib.Core.Path.{_≡_}
+use mathlib.Core.Bool.{true}
+use mathlib.Core.List.{List}
+use Prim.Native.Nat.{ℕ, _≤_, _<_, min}
+use lib.ListN.{length}
+use Rattle.spec.specs.Bytes.{ok, refused}
+use Rattle.spec.specs.Image.{imageOf, tablesOf}
+use Rattle.spec.specs.Merge.{mergeOf}
+use Rattle.image.specs.Loaded.{Loaded}
+use Rattle.image.specs.declared.Image.{Image}
+use Rattle.exact_fixed.specs.Beginning.{Ready}
+use Rattle.exact_fixed.specs.declared.Begun.{Begun}
+use Rattle.exact_fixed.specs.declared.Begun.the-variants.{Stopped, Cut, All}
+use Rattle.exact_fixed.specs.declared.Answer as E
+use Rattle.exact_fixed.specs.declared.Answer.the-variants as E′
+use Rattle.au.specs.declared.Answer.{Answer}
+use Rattle.au.specs.declared.Answer.the-variants.{Listing, Refused}
+use Rattle.au.specs.declared.Prepared.{Prepared}
+use Rattle.au.specs.declared.Prepared.the-variants.{Stop, Go}
+use Rattle.au.specs.Merges.{answerOf, Carries}
+
+-- the plain buffers that building uses are long enough
+pub record Wide (a b c e f : List ℕ) : Type 0 where
+  pub lefts : 4096 ≤ length a
+  pub rights : 4096 ≤ length b
+  pub index : 65536 ≤ length c
+  pub terms : 69634 ≤ length e
+  pub runs : 65536 ≤ length f
+
+-- how many pairs the graph has where it is built in full
+abbrev pub pairsBegun : Begun → ℕ
+pairsBegun (Stopped k) = 0
+pairsBegun (Cut root) = 0
+pairsBegun (All root n left) = n
+
+abbrev pub pairsOf : Prepared → ℕ
+pairsOf (Stop a) = 0
+pairsOf (Go im b) = pairsBegun b
+
+-- the engine's answer, with at most `room` bytes
+abbrev pub engineAnswer : E.Answer → ℕ → Answer
+engineAnswer (E′.Listing n) room = Listing (min n room)
+engineAnswer (E′.Refused k) room = Refused k
+
+-- a refusal of 2 to 11, whatever the output buffer
+pub record Stops (image : List ℕ) (left right budget : ℕ) (a : Answer) : Type 0 where
+  pub number : ℕ
+  pub answer : (out : List ℕ) → answerOf out a ≡ refused number
+  pub merge : (room : ℕ) → mergeOf true image left right budget room ≡ refused number
+  pub carries : (out : List ℕ) → Carries image out a
+
+-- an accepted image and query, and what the run has begun
+pub record Goes (image : List ℕ) (l r budget : ℕ) (im : Image) (b : Begun) (ls rs ix ts us : List ℕ) : Type 0 where
+  pub read : imageOf image ≡ ok (tablesOf image)
+  pub loaded : Loaded image im
+  pub left : l < im .classes
+  pub right : r < im .classes
+  pub ready : Ready (tablesOf image) (l, r) budget b ls rs ix ts us
+
+abbrev pub Prepares : List ℕ → ℕ → ℕ → ℕ → Prepared → List ℕ → List ℕ → List ℕ → List ℕ → List ℕ → Type 0
+Prepares image left right budget (Stop a) ls rs ix ts us = Stops image left right budget a
+Prepares image left right budget (Go im b) ls rs ix ts us = Goes image left right budget im b ls rs ix ts us

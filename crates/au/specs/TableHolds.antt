@@ -1,0 +1,48 @@
+-- "Above a covered engine on plain arrays": the pair table holds the engine's pairs. Where the graph is built in full, each of its pairs is new at its own number, and the table's first n records are the graph's n pairs, in their order.
+use mathlib.Core.Path.{_≡_, refl, sym, ap, ap₂, _∙_}
+use mathlib.Core.Bool.{true}
+use mathlib.Core.List.{List, [], _∷_, map}
+use Prim.Native.Nat.{ℕ, _<_, _≤_}
+use native.Mathlib.Omega.{arith}
+use lib.ListN.{length, getD}
+use Rattle.spec.specs.Bytes.{Two, Res, ok, refused, Checked, passed, cutShort}
+use Rattle.spec.specs.Image.{tablesOf}
+use Rattle.spec.specs.Graph.{PAIRS, build}
+use Rattle.spec.specs.Pool.{Interned, startingTerm}
+use Rattle.budget.specs.declared.Budget.{Budget}
+use Rattle.image.specs.declared.Image.{Image}
+use Rattle.pair_table.specs.declared.Pair.{Pair}
+use Rattle.pair_table.specs.Table.{held, enterFrom}
+use Rattle.pair_table.specs.From.{in-step}
+use Rattle.graph.specs.Building.{leftsAfter, rightsAfter, over}
+use Rattle.graph.specs.Built.{left-at, right-at, built-apart, built-few}
+use Rattle.exact_fixed.specs.Beginning.{begunOf}
+use Rattle.exact_fixed.specs.declared.Begun.{Begun}
+use Rattle.exact_fixed.specs.declared.Begun.the-variants.{Stopped, Cut, All}
+use Rattle.au.specs.Prepared.{Goes}
+
+-- an answer of `begin` with n pairs
+all-says : (x : Res Interned) (g : Res (Checked (List Two))) (root n : ℕ) (b : Budget) → All root n b ≡ begunOf x g → (a : Interned) × (ps : List Two) × (c : ℕ) × (x ≡ ok a) × (g ≡ ok (passed ps c)) × (length ps ≡ n)
+all-says (refused k) g root n b e = absurd (let z : _≡_ {A = ℕ} 0 1 = cc in omega arith)
+all-says (ok a) (refused k) root n b e = absurd (let z : _≡_ {A = ℕ} 0 1 = cc in omega arith)
+all-says (ok a) (ok cutShort) root n b e = absurd (let z : _≡_ {A = ℕ} 0 1 = cc in omega arith)
+all-says (ok a) (ok (passed ps c)) root n b e = (a, ps, c, refl, refl, cc)
+
+pub record Holds (image : List ℕ) (l r budget n : ℕ) (ls rs : List ℕ) (table : List Pair) : Type 0 where
+  pub ps : List Two
+  pub left : ℕ
+  pub built : build (tablesOf image) (l, r) budget ≡ ok (passed ps left)
+  pub many : length ps ≡ n
+  -- "looks up or enters": each is entered
+  pub fresh : enterFrom ls rs n 0 true table .0 ≡ true
+  pub held : held (enterFrom ls rs n 0 true table .1) n ≡ ps
+
+pub table-holds : (image : List ℕ) (l r budget : ℕ) (im : Image) (root n : ℕ) (b : Budget) (ls rs ix ts us : List ℕ) → Goes image l r budget im (All root n b) ls rs ix ts us → (table : List Pair) → PAIRS ≤ length table
+    → Holds image l r budget n ls rs table
+table-holds image l r budget im root n b ls rs ix ts us G table wide =
+    let (a, ps, c, x, g, m) = all-says (startingTerm (tablesOf image) [] (l, r)) (build (tablesOf image) (l, r) budget) root n b (G .ready .answer) in
+    let ls-is : ls ≡ over (map (λ p. p .0) ps) ls = G .ready .lefts a x ∙ ap (λ (z : Res (Checked (List Two))). leftsAfter z ls) g in
+    let rs-is : rs ≡ over (map (λ p. p .1) ps) rs = G .ready .rights a x ∙ ap (λ (z : Res (Checked (List Two))). rightsAfter z rs) g in
+    let step = in-step ls rs ps (built-few (tablesOf image) (l, r) budget c ps g) (λ j h. ap₂ (λ (u v : ℕ). (u, v)) (ap (λ (z : List ℕ). getD z j 0) ls-is ∙ left-at ps ls j h) (ap (λ (z : List ℕ). getD z j 0) rs-is ∙ right-at ps rs j h)) in
+    let done = step n 0 table (omega arith) wide refl (λ j z h. built-apart (tablesOf image) (l, r) budget c ps g j h) in
+    record { ps = ps; left = c; built = g; many = m; fresh = done .0; held = ap (λ (k : ℕ). held (enterFrom ls rs n 0 true table .1) k) (sym m) ∙ done .1 }

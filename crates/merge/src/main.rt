@@ -1,0 +1,32 @@
+// Program `merge`: reads an image and a query from standard input, and writes the listing or `refused` and its number.
+use libc::STDIN_FILENO;
+use libc::STDOUT_FILENO;
+
+fn emit(s: &[u8], k: usize) {
+    if k <= s.len() {
+        io::write_all(STDOUT_FILENO, &s[0..k]);
+    }
+}
+
+fn main() {
+    let mut input = [0u8; 65537];
+    let mut lefts = [0u16; 4096];
+    let mut rights = [0u16; 4096];
+    let mut index = [0u16; 65536];
+    let mut pairs = [0u32; 24576];
+    let mut terms = [0u32; 69634];
+    let mut runs = [0u64; 65536];
+    let mut out = [0u8; 65536];
+    let n = io::read_full(STDIN_FILENO, &mut input);
+    let k = answer::respond(
+        &input[..n],
+        &mut lefts,
+        &mut rights,
+        &mut index,
+        &mut pairs,
+        &mut terms,
+        &mut runs,
+        &mut out,
+    );
+    emit(&out, k);
+}

@@ -1,0 +1,114 @@
+use borrow.Author.Needs.{needs}
+use borrow.Author.Tests.{lt-ltb, le-ltb, le-leb, lt-leb, eq-eqb, ne-eqb}
+use Prim.Native.Nat.{ℕ, zero, suc, _≤_, _<_, _-_, _+_, _*_, _^_}
+use native.Mathlib.Omega.{arith}
+use native.Mathlib.Numerals.{add-one}
+use mathlib.Core.Path.{_≡_, refl, ap, sym, _∙_}
+use mathlib.Core.Logic.{⊎-elim}
+use mathlib.Core.List.{List, [], _∷_, _++_, append-nil}
+use lib.ListN.{length, take, drop, getD, set, length-set, length-take, length-drop, length-append, drop-of-length-le}
+use Rattle.answer.specs.Responding.{rooms-kept}
+use Rattle.replay.proofs.replay_all.Statement.{statement}
+use Rattle.replay.proofs.replay_all.Tie as tie
+use Rattle.replay.proofs.replay_all.Reads as reads
+use Rattle.replay.proofs.replay_all.Lts as lts
+use Rattle.replay.proofs.judge_next.Reads as judge-next-reads
+use Rattle.replay.proofs.say.Reads as say-reads
+use Rattle.replay.proofs.tallied.Reads as tallied-reads
+
+abbrev Inv-loop : tie.InvT-loop
+Inv-loop input₀ expected₀ lefts₀ rights₀ index₀ pairs₀ terms₀ runs₀ out₀ t₀ input expected lefts rights index pairs terms runs out t =
+    (length input ≡ length input₀) × (length expected ≡ length expected₀) × (length lefts ≡ length lefts₀) × (length rights ≡ length rights₀) × (length index ≡ length index₀) × (length pairs ≡ length pairs₀) × (length terms ≡ length terms₀) × (length runs ≡ length runs₀) × (length out ≡ length out₀) × (t .same ≤ t .all) × (t .all + t .left ≤ 1000000)
+
+abbrev μ-loop : tie.MeasureT-loop
+μ-loop input₀ expected₀ lefts₀ rights₀ index₀ pairs₀ terms₀ runs₀ out₀ t₀ input expected lefts rights index pairs terms runs out t =
+    t .left
+
+-- src/main.rt:132:5
+loop-holds : tie.Need-loop-holds Inv-loop μ-loop
+loop-holds c = search needs
+
+-- src/main.rt:133:13
+judge-next-requires : tie.Need-judge-next-requires Inv-loop μ-loop
+judge-next-requires c κs =
+    let i = c .before .before .before .before .before .before .before .before .before .before .before .loop .inv in
+    rooms-kept (c .before .before .before .before .before .before .before .before .before .before .before .before .before .before .before .before .before .before .before .before .before .pre) (i .2) (i .3) (i .4) (i .5) (i .6) (i .7) (i .8)
+
+-- src/main.rt:134:9
+tallied-requires : tie.Need-tallied-requires Inv-loop μ-loop
+tallied-requires c κs = search needs
+
+-- src/main.rt:132:5
+loop-less : tie.Need-loop-less Inv-loop μ-loop
+loop-less c = search needs
+
+-- src/main.rt:132:5
+loop-again : tie.Need-loop-again Inv-loop μ-loop
+loop-again c = omega arith
+
+-- src/main.rt:136:5
+say-requires : tie.Need-say-requires Inv-loop μ-loop
+say-requires c κs = search needs
+
+-- src/main.rt:114:1
+same-length : tie.Need-same-length Inv-loop μ-loop
+same-length c = search needs
+
+-- src/main.rt:114:1
+same-length-2 : tie.Need-same-length-2 Inv-loop μ-loop
+same-length-2 c = search needs
+
+-- src/main.rt:114:1
+same-length-3 : tie.Need-same-length-3 Inv-loop μ-loop
+same-length-3 c = search needs
+
+-- src/main.rt:114:1
+same-length-4 : tie.Need-same-length-4 Inv-loop μ-loop
+same-length-4 c = search needs
+
+-- src/main.rt:114:1
+same-length-5 : tie.Need-same-length-5 Inv-loop μ-loop
+same-length-5 c = search needs
+
+-- src/main.rt:114:1
+same-length-6 : tie.Need-same-length-6 Inv-loop μ-loop
+same-length-6 c = search needs
+
+-- src/main.rt:114:1
+same-length-7 : tie.Need-same-length-7 Inv-loop μ-loop
+same-length-7 c = search needs
+
+-- src/main.rt:114:1
+same-length-8 : tie.Need-same-length-8 Inv-loop μ-loop
+same-length-8 c = search needs
+
+-- src/main.rt:114:1
+same-length-9 : tie.Need-same-length-9 Inv-loop μ-loop
+same-length-9 c = search needs
+
+-- src/main.rt:114:1
+returns : tie.Need-returns Inv-loop μ-loop
+returns c = tt
+
+pub replay-all-spec : {M : Type 1} → statement M
+replay-all-spec =
+    tie.close
+    (tie.spec
+    Inv-loop
+    μ-loop
+    loop-holds
+    judge-next-requires
+    tallied-requires
+    loop-less
+    loop-again
+    say-requires
+    same-length
+    same-length-2
+    same-length-3
+    same-length-4
+    same-length-5
+    same-length-6
+    same-length-7
+    same-length-8
+    same-length-9
+    returns)
