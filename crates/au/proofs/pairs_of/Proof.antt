@@ -1,0 +1,63 @@
+use borrow.Author.Tests.{lt-ltb, le-ltb, le-leb, lt-leb, eq-eqb, ne-eqb}
+use Prim.Native.Nat.{ℕ, zero, suc, _≤_, _<_, _-_, _+_, _*_, _^_}
+use native.Mathlib.Omega.{arith}
+use native.Mathlib.Numerals.{add-one}
+use mathlib.Core.Path.{_≡_, refl, ap, sym, _∙_}
+use mathlib.Core.Logic.{⊎-elim}
+use mathlib.Core.List.{List, [], _∷_, _++_, append-nil}
+use lib.ListN.{length, take, drop, getD, set, length-set, length-take, length-drop, length-append, drop-of-length-le}
+use borrow.Author.Needs.{needs}
+use Rattle.au.proofs.pairs_of.Statement.{statement}
+use Rattle.au.proofs.pairs_of.Tie as tie
+use Rattle.au.proofs.pairs_of.Reads as reads
+use Rattle.au.proofs.pairs_of.Lts as lts
+
+-- src/lib.rt:70:24
+enum-known-p : tie.Need-enum-known-p
+enum-known-p c = search needs
+
+-- src/lib.rt:71:22
+enum-known-p-2 : tie.Need-enum-known-p-2
+enum-known-p-2 c = search needs
+
+-- src/lib.rt:72:28
+enum-known-b : tie.Need-enum-known-b
+enum-known-b c = search needs
+
+-- src/lib.rt:73:24
+enum-known-b-2 : tie.Need-enum-known-b-2
+enum-known-b-2 c = search needs
+
+-- src/lib.rt:74:24
+enum-known-b-3 : tie.Need-enum-known-b-3
+enum-known-b-3 c = search needs
+
+-- src/lib.rt:66:1
+returns : tie.Need-returns
+returns c = search needs
+
+-- src/lib.rt:66:1
+returns-2 : tie.Need-returns-2
+returns-2 c = ?
+
+-- src/lib.rt:66:1
+returns-3 : tie.Need-returns-3
+returns-3 c = ?
+
+-- src/lib.rt:66:1
+returns-4 : tie.Need-returns-4
+returns-4 c = ?
+
+pub pairs-of-spec : {M : Type 1} → statement M
+pairs-of-spec =
+    tie.close
+    (tie.spec
+    enum-known-p
+    enum-known-p-2
+    enum-known-b
+    enum-known-b-2
+    enum-known-b-3
+    returns
+    returns-2
+    returns-3
+    returns-4)

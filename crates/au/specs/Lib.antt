@@ -1,0 +1,3 @@
+pub mod Merges
+pub mod Prepared
+pub mod Assembled

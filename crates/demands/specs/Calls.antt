@@ -1,0 +1,151 @@
+-- The ways in which a call of `merge` ends, from its contract alone; and the run behind a listing.
+use mathlib.Core.Path.{_≡_, refl, sym, ap, _∙_}
+use mathlib.Core.Logic.{_≢_, _↔_}
+use mathlib.Core.Bool.{Bool, true, false}
+use mathlib.Core.List.{List, [], _∷_, _++_}
+use Prim.Native.Nat.{ℕ, zero, suc, _≤_, _<_}
+use native.Mathlib.Omega.{arith}
+use lib.Dec.{ltb, leb}
+use lib.ListN.{length, take, drop}
+use lib.Seq.{length-take-le, drop-at}
+use borrow.Author.Tests.{lt-ltb, ltb-true, ltb-false, leb-true, leb-false}
+use Rattle.spec.specs.Bytes.{both, Res, ok, refused, rule, _>>=_}
+use Rattle.spec.specs.Image.{Tables, tablesOf, imageOf}
+use Rattle.spec.specs.Run.{Outcome, runOf}
+use Rattle.spec.specs.Listing.{listingOf}
+use Rattle.spec.specs.Merge.{mergeOf, outputAfter}
+use Rattle.laws.specs.Valid.{Valid, Keeps}
+use Rattle.laws.specs.Accepted as A
+use Rattle.lgg.specs.Results.{refused-ok, ok-inj, refused-inj}
+use Rattle.au.specs.declared.Answer.{Answer}
+use Rattle.au.specs.declared.Answer.the-variants.{Listing, Refused, Doubled}
+use Rattle.au.specs.Merges.{answerOf, Carries, Merges}
+
+-- both queried classes are classes of the image
+abbrev pub Asked : List ℕ → ℕ → ℕ → Type 0
+Asked image left right = (left < length (tablesOf image .classes)) × (right < length (tablesOf image .classes))
+
+-- the image keeps the rules of the table of refusals below k
+abbrev pub Sound : List ℕ → ℕ → Type 0
+Sound image k = (j : ℕ) → 2 ≤ j → j < k → Keeps image j
+
+-- nothing of 1 to 11 is broken
+pub record Taken (fit : Bool) (image : List ℕ) (left right : ℕ) : Type 0 where
+  pub fits : fit ≡ true
+  pub sound : Sound image 11
+  pub asked : Asked image left right
+
+-- ---- the definition, case by case
+pub data Way (fit : Bool) (image : List ℕ) (left right budget room : ℕ) (m : Res (List ℕ)) : Type 0 where
+  short : m ≡ refused 1 → fit ≡ false → Way fit image left right budget room m
+  unsound : (k : ℕ) → m ≡ refused k → fit ≡ true → imageOf image ≡ refused k → Way fit image left right budget room m
+  outside : m ≡ refused 11 → fit ≡ true → imageOf image ≡ ok (tablesOf image) → (Asked image left right → ⊥) → Way fit image left right budget room m
+  stopped : (k : ℕ) → m ≡ refused k → Taken fit image left right → runOf (tablesOf image) (left, right) budget ≡ refused k → Way fit image left right budget room m
+  over : (o : Outcome) → m ≡ refused 14 → Taken fit image left right → runOf (tablesOf image) (left, right) budget ≡ ok o → room < length (listingOf o) → Way fit image left right budget room m
+  listed : (o : Outcome) → m ≡ ok (listingOf o) → Taken fit image left right → runOf (tablesOf image) (left, right) budget ≡ ok o → length (listingOf o) ≤ room → Way fit image left right budget room m
+
+sound-of : (image : List ℕ) (t : Tables) → imageOf image ≡ ok t → (t ≡ tablesOf image) × Sound image 11
+sound-of image t e = let (q, k) = A.accepted image t .0 e in (q, λ j a b. k j a (omega arith))
+
+pub read-of : (image : List ℕ) → Sound image 11 → imageOf image ≡ ok (tablesOf image)
+read-of image s = A.accepted image (tablesOf image) .1 (refl, λ n a b. s n a (omega arith))
+
+-- past the rules 1 to 11 it is the run, and 14 last
+pub taken-is : (fit : Bool) (image : List ℕ) (left right budget room : ℕ) → Taken fit image left right
+    → mergeOf fit image left right budget room ≡ (runOf (tablesOf image) (left, right) budget >>= λ o. rule 14 (leb (length (listingOf o)) room) >>= λ _. ok (listingOf o))
+unfolding mergeOf
+taken-is fit image left right budget room T =
+    rw (T .fits, read-of image (T .sound), lt-ltb left (length (tablesOf image .classes)) (T .asked .0), lt-ltb right (length (tablesOf image .classes)) (T .asked .1)) refl
+
+pub way : (fit : Bool) (image : List ℕ) (left right budget room : ℕ) → Way fit image left right budget room (mergeOf fit image left right budget room)
+unfolding mergeOf
+way false image left right budget room = short refl refl
+way true image left right budget room = go (imageOf image) refl
+  where
+    n : ℕ
+    n = length (tablesOf image .classes)
+
+    fits : (o : Outcome) → Taken true image left right → runOf (tablesOf image) (left, right) budget ≡ ok o → (b : Bool) → leb (length (listingOf o)) room ≡ b → Way true image left right budget room (mergeOf true image left right budget room)
+    fits o T k true q = listed o (taken-is true image left right budget room T ∙ rw (k, q) refl) T k (leb-true (length (listingOf o)) room q)
+    fits o T k false q = over o (taken-is true image left right budget room T ∙ rw (k, q) refl) T k (leb-false (length (listingOf o)) room q)
+
+    ran : Taken true image left right → (x : Res Outcome) → runOf (tablesOf image) (left, right) budget ≡ x → Way true image left right budget room (mergeOf true image left right budget room)
+    ran T (refused k) q = stopped k (taken-is true image left right budget room T ∙ rw q refl) T q
+    ran T (ok o) q = fits o T q (leb (length (listingOf o)) room) refl
+
+    asks : imageOf image ≡ ok (tablesOf image) → Sound image 11 → (a b : Bool) → ltb left n ≡ a → ltb right n ≡ b → Way true image left right budget room (mergeOf true image left right budget room)
+    asks e S false b p q = outside (rw (e, p) refl) refl e (λ h. absurd (omega (arith, h .0, ltb-false left n p)))
+    asks e S true false p q = outside (rw (e, p, q) refl) refl e (λ h. absurd (omega (arith, h .1, ltb-false right n q)))
+    asks e S true true p q = ran (record { fits = refl; sound = S; asked = (ltb-true left n p, ltb-true right n q) }) (runOf (tablesOf image) (left, right) budget) refl
+
+    go : (x : Res Tables) → imageOf image ≡ x → Way true image left right budget room (mergeOf true image left right budget room)
+    go (refused k) e = unsound k (rw e refl) refl e
+    go (ok t) e = let (q, S) = sound-of image t e in asks (e ∙ ap ok q) S (ltb left n) (ltb right n) refl refl
+
+-- ---- the answer and the definition's number
+refused-of : {j k : ℕ} → _≡_ {A = Res (List ℕ)} (refused j) (refused k) → j ≡ k
+refused-of e = refused-inj e
+
+module _ (image : List ℕ) (left right budget : ℕ) (fit : Bool) (out out′ : List ℕ) (r : Answer) (m : Merges image left right budget fit out out′ r) where
+  abbrev M : Res (List ℕ)
+  M = mergeOf fit image left right budget (length out)
+
+  pub refused-iff : (k : ℕ) → k ≢ 10 → (r ≡ Refused k) ↔ (M ≡ refused k)
+  refused-iff k n = (λ e. sym (m .answer) ∙ ap (answerOf out′) e, λ e. go r (m .answer ∙ e))
+    where
+      go : (z : Answer) → answerOf out′ z ≡ refused k → z ≡ Refused k
+      go (Listing i) e = absurd (refused-ok (sym e))
+      go (Refused j) e = ap Refused (refused-of e)
+      go (Doubled c) e = absurd (n (sym (refused-of e)))
+
+  pub doubled-iff : ((c : ℕ) × (r ≡ Doubled c)) ↔ (M ≡ refused 10)
+  doubled-iff = (λ e. sym (m .answer) ∙ ap (answerOf out′) (e .1), λ e. go r (m .answer ∙ e) (m .carries))
+    where
+      go : (z : Answer) → answerOf out′ z ≡ refused 10 → Carries image out′ z → (c : ℕ) × (z ≡ Doubled c)
+      go (Listing i) e h = absurd (refused-ok (sym e))
+      go (Refused j) e h = absurd (h (refused-of e))
+      go (Doubled c) e h = (c, refl)
+
+  pub listing-iff : ((n : ℕ) × (r ≡ Listing n)) ↔ ((l : List ℕ) × (M ≡ ok l))
+  listing-iff = (λ e. (take (e .0) out′, sym (m .answer) ∙ ap (answerOf out′) (e .1)), λ e. go r (m .answer ∙ e .1))
+    where
+      go : (z : Answer) {l : List ℕ} → answerOf out′ z ≡ ok l → (n : ℕ) × (z ≡ Listing n)
+      go (Listing i) e = (i, refl)
+      go (Refused j) e = absurd (refused-ok e)
+      go (Doubled c) e = absurd (refused-ok e)
+
+-- ---- an accepted call
+-- The run behind a listing of n bytes: its outcome o, what it printed, and what the output buffer then holds.
+pub record Accepted (image : List ℕ) (left right budget : ℕ) (fit : Bool) (out out′ : List ℕ) (n : ℕ) : Type 0 where
+  pub taken : Taken fit image left right
+  pub o : Outcome
+  pub ran : runOf (tablesOf image) (left, right) budget ≡ ok o
+  pub long : n ≡ length (listingOf o)
+  pub room : n ≤ length out
+  pub listed : take n out′ ≡ listingOf o
+  -- "leaves output past the listing untouched"
+  pub rest : drop n out′ ≡ drop n out
+  pub whole : out′ ≡ listingOf o ++ drop n out
+
+take-short : (n : ℕ) (l s : List ℕ) → take n l ≡ s → n ≤ length l → n ≡ length s
+take-short n l s e h = sym (length-take-le n l h) ∙ ap length e
+
+pub accepted : (image : List ℕ) (left right budget : ℕ) (fit : Bool) (out out′ : List ℕ) (n : ℕ) → Merges image left right budget fit out out′ (Listing n) → Accepted image left right budget fit out out′ n
+unfolding outputAfter
+accepted image left right budget fit out out′ n m = go (way fit image left right budget (length out))
+  where
+    none : (k : ℕ) → mergeOf fit image left right budget (length out) ≡ refused k → Accepted image left right budget fit out out′ n
+    none k e = absurd (refused-ok (sym (m .answer ∙ e)))
+
+    go : Way fit image left right budget (length out) (mergeOf fit image left right budget (length out)) → Accepted image left right budget fit out out′ n
+    go (short e f) = none 1 e
+    go (unsound k e f g) = none k e
+    go (outside e f g h) = none 11 e
+    go (stopped k e T f) = none k e
+    go (over o e T f h) = none 14 e
+    go (listed o e T f h) =
+        let l : take n out′ ≡ listingOf o = ok-inj (m .answer ∙ e) in
+        let z : n ≡ length (listingOf o) = take-short n out′ (listingOf o) l (m .carries) in
+        let w : out′ ≡ listingOf o ++ drop (length (listingOf o)) out = m .output ∙ ap (outputAfter out) e in
+        let v : out′ ≡ listingOf o ++ drop n out = w ∙ ap (λ (k : ℕ). listingOf o ++ drop k out) (sym z) in
+        record { taken = T; o = o; ran = f; long = z; room = omega arith; listed = l; rest = ap (drop n) v ∙ drop-at (listingOf o) (drop n out) n (sym z); whole = v }

@@ -1,0 +1,121 @@
+-- Demand 2, of a call of `merge`, from its contract: the formula's readings, its size and mass, and the transport plans of the steps that build it.
+use mathlib.Core.Path.{_≡_, refl, sym, ap, _∙_, subst}
+use mathlib.Core.Bool.{Bool, true, false}
+use mathlib.Core.List.{List, [], _∷_, _++_, map, append-assoc}
+use mathlib.Core.Option.{Option, none, some}
+use Prim.Native.Nat.{ℕ, _<_}
+use lib.ListN.{length, take}
+use lib.Seq.{take-at}
+use Rattle.spec.specs.Bytes.{pick, each, Two, ok}
+use Rattle.spec.specs.Image.{Tables, tablesOf}
+use Rattle.spec.specs.Transport.{Problem, solveCells}
+use Rattle.spec.specs.Action.{Action, TransportAction, structural, transports, cellPairs}
+use Rattle.spec.specs.Round.{better, lookUp, qualityOver, ones, problemOver, Choice, stay, act, Turn, offer, offerActions, offerPlan, offerTransports, turnOf, turnsOf, qualitiesAfter}
+use Rattle.spec.specs.Run.{Outcome, runOf}
+use Rattle.spec.specs.Listing.{firstLine, termLine, subterms, listingOf}
+use Rattle.spec.specs.Meaning.{In, here, there, Plan, _⊑_, termQuality, readFirst, readSecond, treeAt, Belongs}
+use Rattle.laws.specs.Valid.{Valid}
+use Rattle.laws.specs.Accepted as A
+use Rattle.flow.specs.Theorems.{margins, least, totals}
+use Rattle.lgg.specs.Pool.{PoolValid}
+use Rattle.lgg.specs.Readings as L
+use Rattle.au.specs.declared.Answer.the-variants.{Listing}
+use Rattle.au.specs.Merges.{Merges}
+use Rattle.demands.specs.Calls.{Accepted, accepted, read-of}
+
+module _ (image : List ℕ) (left right budget : ℕ) (fit : Bool) (out out′ : List ℕ) (n : ℕ) (m : Merges image left right budget fit out out′ (Listing n)) where
+  abbrev t : Tables
+  t = tablesOf image
+
+  -- the run behind the listing
+  abbrev o : Outcome
+  o = accepted image left right budget fit out out′ n m .o
+
+  abbrev ran : runOf t (left, right) budget ≡ ok o
+  ran = accepted image left right budget fit out out′ n m .ran
+
+  valid : Valid t
+  valid = A.valid image t (read-of image (accepted image left right budget fit out out′ n m .taken .sound))
+
+  -- The term is the one that the steps build, and the first n bytes of the output are its listing.
+  pub the-listing : (runOf t (left, right) budget ≡ ok o) × (n ≡ length (listingOf o)) × (take n out′ ≡ listingOf o)
+  the-listing = let a = accepted image left right budget fit out out′ n m in (a .ran, a .long, a .listed)
+
+  -- "The first line has the status (`complete` or `partial`), pairs, rounds, size, mass."
+  pub the-first-line : take (length (firstLine o)) out′ ≡ firstLine o
+  unfolding listingOf
+  the-first-line =
+      let a = accepted image left right budget fit out out′ n m in
+      ap (take (length (firstLine o))) (a .whole ∙ append-assoc (firstLine o) _ _) ∙ take-at (firstLine o) _ (length (firstLine o)) refl
+
+  -- "The root is last": the pool's terms stand over earlier ones, and the root is one of them.
+  pub the-term : PoolValid (o .pool) × (o .root < length (o .pool))
+  the-term = L.run-pool t valid (left, right) (accepted image left right budget fit out out′ n m .taken .asked) budget o ran
+
+  -- "The formula read by the first branch at every marked place belongs to the left class"
+  pub first-reading : Belongs t (readFirst (treeAt (o .pool) (o .root))) left
+  first-reading = L.readings t valid (left, right) (accepted image left right budget fit out out′ n m .taken .asked) budget o ran .0
+
+  -- ".. by the second to the right"
+  pub second-reading : Belongs t (readSecond (treeAt (o .pool) (o .root))) right
+  second-reading = L.readings t valid (left, right) (accepted image left right budget fit out out′ n m .taken .asked) budget o ran .1
+
+  -- The first line's size and mass are the formula's.
+  pub size-and-mass : termQuality (treeAt (o .pool) (o .root)) ≡ o .quality
+  size-and-mass = L.run-quality t valid (left, right) (accepted image left right budget fit out out′ n m .taken .asked) budget o ran
+
+-- ---- the transport plans of the steps
+-- What a pair's turn chose, over the qualities q of the round before: nothing better; a structural action, each joined pair once; or a transport action with a plan x.
+pub data Chose (t : Tables) (q : Two → Two) (p : Two) (w : Turn) : Type 0 where
+  stayed : w .choice ≡ stay → w .quality ≡ q p → Chose t q p w
+  aligned : (a : Action) → In a (structural t (p .0) (p .1)) → w .choice ≡ act (a .op) (a .pairs) (ones (a .pairs)) → w .quality ≡ qualityOver (ones (a .pairs)) (map q (a .pairs)) → Chose t q p w
+  planned : (a : TransportAction) → In a (transports t (p .0) (p .1)) → (x : List ℕ) → w .choice ≡ act (a .op) (cellPairs (a .sides)) x → w .quality ≡ qualityOver x (map q (cellPairs (a .sides)))
+      -- "Each transport plan meets its margins"
+      → Plan (problemOver a (map q (cellPairs (a .sides)))) x
+      -- ".. at the least size, then mass, of all whole-number plans"
+      → ((y : List ℕ) → Plan (problemOver a (map q (cellPairs (a .sides)))) y → totals (problemOver a (map q (cellPairs (a .sides)))) x ⊑ totals (problemOver a (map q (cellPairs (a .sides)))) y)
+      → Chose t q p w
+
+module _ (t : Tables) (q : Two → Two) (p : Two) where
+  offer-chose : (z : Two) (c : Choice) (w : Turn) → Chose t q p (record { quality = z; choice = c }) → Chose t q p w → Chose t q p (offer z c w)
+  offer-chose z c w L W = go (better z (w .quality))
+    where
+      go : (b : Bool) → Chose t q p (pick b (record { quality = z; choice = c }) w)
+      go true = L
+      go false = W
+
+  actions-chose : (l : List Action) → ((a : Action) → In a l → In a (structural t (p .0) (p .1))) → (w : Turn) → Chose t q p w → Chose t q p (offerActions q l w)
+  unfolding offerActions
+  actions-chose [] h w W = W
+  actions-chose (a ∷ l) h w W = actions-chose l (λ b i. h b (there i)) _ (offer-chose (qualityOver (ones (a .pairs)) (map q (a .pairs))) (act (a .op) (a .pairs) (ones (a .pairs))) w (aligned a (h a here) refl refl) W)
+
+  transports-chose : (l : List TransportAction) → ((a : TransportAction) → In a l → In a (transports t (p .0) (p .1))) → (w : Turn) → Chose t q p w → Chose t q p (offerTransports q l w)
+  unfolding offerTransports offerPlan
+  transports-chose [] h w W = W
+  transports-chose (a ∷ l) h w W = transports-chose l (λ b i. h b (there i)) _ (go (solveCells P) refl)
+    where
+      P : Problem
+      P = problemOver a (map q (cellPairs (a .sides)))
+
+      go : (s : Option (List ℕ)) → solveCells P ≡ s → Chose t q p (offerPlan q a s w)
+      go none e = W
+      go (some x) e = offer-chose (qualityOver x (map q (cellPairs (a .sides)))) (act (a .op) (cellPairs (a .sides)) x) w (planned a (h a here) x refl refl (margins P x e) (λ y Y. least P x e y Y)) W
+
+  -- "Each transport plan meets its margins at the least size, then mass, of all whole-number plans": every plan that a turn takes.
+  -- The turns of round r, over the graph's pairs ps, are `turnsOf t ps (qualitiesAfter r t ps)`: `turnOf` of each pair with q = `lookUp (0, 0) ps (qualitiesAfter r t ps)`.
+  pub turn-plans : Chose t q p (turnOf t q p)
+  unfolding turnOf
+  turn-plans =
+      transports-chose (transports t (p .0) (p .1)) (λ a i. i) _
+      (actions-chose (structural t (p .0) (p .1)) (λ a i. i) _ (stayed refl refl))
+
+-- ".. of the steps that build the formula": in every round of a run each turn is one of these.
+each-in-map : {X Y : Type 0} (f : X → Y) (l : List X) (y : Y) → In y (map f l) → (x : X) × In x l × (y ≡ f x)
+each-in-map f (x ∷ l) y here = (x, here, refl)
+each-in-map f (x ∷ l) y (there i) = let (z, j, e) = each-in-map f l y i in (z, there j, e)
+
+pub round-plans : (t : Tables) (ps : List Two) (r : ℕ) (w : Turn) → In w (turnsOf t ps (qualitiesAfter r t ps)) → (p : Two) × In p ps × Chose t (lookUp (0, 0) ps (qualitiesAfter r t ps)) p w
+unfolding turnsOf
+round-plans t ps r w i =
+    let (p, j, e) = each-in-map (turnOf t (lookUp (0, 0) ps (qualitiesAfter r t ps))) ps w i in
+    (p, j, subst (λ (z : Turn). Chose t (lookUp (0, 0) ps (qualitiesAfter r t ps)) p z) (sym e) (turn-plans t (lookUp (0, 0) ps (qualitiesAfter r t ps)) p))

@@ -1,0 +1,211 @@
+-- "Table of refusals": "Each is returned in its case only", of a call of `merge`, from its contract; and demand 1's buffers.
+use mathlib.Core.Path.{_≡_, refl, sym, ap, _∙_}
+use mathlib.Core.Logic.{_≢_, _⊎_, inl, inr, _↔_}
+use mathlib.Core.Bool.{Bool, true, false}
+use mathlib.Core.List.{List, [], _∷_, _++_}
+use Prim.Native.Nat.{ℕ, zero, suc, _≤_, _<_}
+use native.Mathlib.Omega.{arith}
+use lib.ListN.{length, replicate}
+use borrow.Author.Tests.{le-leb, lt-leb}
+use Rattle.spec.specs.Bytes.{Res, ok, refused, rule, workAfter}
+use Rattle.spec.specs.Image.{tablesOf, imageOf}
+use Rattle.spec.specs.Graph.{PAIRS, build}
+use Rattle.spec.specs.Pool.{Interned, startingTerm}
+use Rattle.spec.specs.Run.{Outcome, runOf}
+use Rattle.spec.specs.Listing.{listingOf}
+use Rattle.spec.specs.Merge.{mergeOf, outputAfter}
+use Rattle.spec.specs.Meaning.{HoldsDoubled}
+use Rattle.laws.specs.Valid.{Keeps}
+use Rattle.laws.specs.Accepted as A
+use Rattle.lgg.specs.Lists.{clash}
+use Rattle.lgg.specs.Results.{refused-ok, ok-inj, refused-inj}
+use Rattle.lgg.specs.Graph.{PairCount}
+use Rattle.lgg.specs.Demand3 as D
+use Rattle.au.specs.declared.Answer.{Answer}
+use Rattle.au.specs.declared.Answer.the-variants.{Listing, Refused, Doubled}
+use Rattle.au.specs.Merges.{answerOf, Carries, Merges}
+use Rattle.demands.specs.Calls.{Asked, Sound, Taken, Way, short, unsound, outside, stopped, over, listed, read-of, taken-is, way, refused-iff, doubled-iff, listing-iff}
+
+module _ (image : List ℕ) (left right budget : ℕ) (fit : Bool) (out out′ : List ℕ) (r : Answer) (m : Merges image left right budget fit out out′ r) where
+  abbrev R : Res Outcome
+  R = runOf (tablesOf image) (left, right) budget
+
+  abbrev M : Res (List ℕ)
+  M = mergeOf fit image left right budget (length out)
+
+  as-refused : {j k : ℕ} → M ≡ refused j → M ≡ refused k → j ≡ k
+  as-refused e f = refused-inj (sym e ∙ f)
+
+  -- the run's refusals
+  run-number : (k : ℕ) → R ≡ refused k → (12 ≤ k) × (k ≤ 13)
+  run-number k e =
+      let (n, c, _) = D.pair-count (tablesOf image) (left, right) in
+      elim (D.refused-by (tablesOf image) (left, right) n c budget k e) [ inl x ↦ let z = x .0 in (omega arith, omega arith) | inr x ↦ (omega arith, omega arith) ]
+
+  -- ---- 1: "a work buffer below its constant length"
+  pub refused-1 : (r ≡ Refused 1) ↔ (fit ≡ false)
+  unfolding mergeOf
+  refused-1 = (
+    λ e. go (way fit image left right budget (length out)) (refused-iff image left right budget fit out out′ r m 1 (λ z. absurd (omega arith)) .0 e),
+    λ e. refused-iff image left right budget fit out out′ r m 1 (λ z. absurd (omega arith)) .1 (rw e refl),
+  )
+    where
+      go : Way fit image left right budget (length out) M → M ≡ refused 1 → fit ≡ false
+      go (short e f) q = f
+      go (unsound k e f g) q = let z = A.refused-in-its-case image k .0 g .0 in absurd (omega (arith, as-refused e q))
+      go (outside e f g h) q = absurd (omega (arith, as-refused e q))
+      go (stopped k e T f) q = absurd (omega (arith, as-refused e q, run-number k f))
+      go (over o e T f h) q = absurd (omega (arith, as-refused e q))
+      go (listed o e T f h) q = absurd (refused-ok (sym q ∙ e))
+
+  -- ---- 2 to 10: the image breaks rule k, and none below it
+  broken : (k : ℕ) → 2 ≤ k → k ≤ 10 → (M ≡ refused k) ↔ ((fit ≡ true) × Sound image k × (Keeps image k → ⊥))
+  unfolding mergeOf
+  broken k a b = (λ e. go (way fit image left right budget (length out)) e, λ h. rw (h .0, A.refused-in-its-case image k .1 (a, b, h .1, h .2)) refl)
+    where
+      go : Way fit image left right budget (length out) M → M ≡ refused k → (fit ≡ true) × Sound image k × (Keeps image k → ⊥)
+      go (short e f) q = absurd (omega (arith, as-refused e q))
+      go (unsound j e f g) q = let z = A.refused-in-its-case image k .0 (g ∙ ap refused (as-refused e q)) in (f, z .2, z .3)
+      go (outside e f g h) q = absurd (omega (arith, as-refused e q))
+      go (stopped j e T f) q = absurd (omega (arith, as-refused e q, run-number j f))
+      go (over o e T f h) q = absurd (omega (arith, as-refused e q))
+      go (listed o e T f h) q = absurd (refused-ok (sym q ∙ e))
+
+  pub refused-2-to-9 : (k : ℕ) → 2 ≤ k → k ≤ 9 → (r ≡ Refused k) ↔ ((fit ≡ true) × Sound image k × (Keeps image k → ⊥))
+  refused-2-to-9 k a b =
+      let i = refused-iff image left right budget fit out out′ r m k (λ z. absurd (omega arith)) in
+      let j = broken k a (omega arith) in
+      (λ e. j .0 (i .0 e), λ h. i .1 (j .1 h))
+
+  -- 10: "a literal in two classes"
+  pub refused-10 : ((c : ℕ) × (r ≡ Doubled c)) ↔ ((fit ≡ true) × Sound image 10 × (Keeps image 10 → ⊥))
+  refused-10 =
+      let i = doubled-iff image left right budget fit out out′ r m in
+      let j = broken 10 (omega arith) (omega arith) in
+      (λ e. j .0 (i .0 e), λ h. i .1 (j .1 h))
+
+  -- "10, with a class": "the class is one that holds it"
+  pub refused-10-class : (c : ℕ) → r ≡ Doubled c → HoldsDoubled (tablesOf image) c
+  refused-10-class c e = rw e at (m .carries)
+
+  -- ---- 11: "a queried class not in the image"
+  pub refused-11 : (r ≡ Refused 11) ↔ ((fit ≡ true) × Sound image 11 × (Asked image left right → ⊥))
+  refused-11 = (λ e. go (way fit image left right budget (length out)) (iff .0 e), λ h. by h (way fit image left right budget (length out)))
+    where
+      iff : (r ≡ Refused 11) ↔ (M ≡ refused 11)
+      iff = refused-iff image left right budget fit out out′ r m 11 (λ z. absurd (omega arith))
+
+      go : Way fit image left right budget (length out) M → M ≡ refused 11 → (fit ≡ true) × Sound image 11 × (Asked image left right → ⊥)
+      go (short e f) q = absurd (omega (arith, as-refused e q))
+      go (unsound j e f g) q = let z = A.refused-in-its-case image j .0 g .1 in absurd (omega (arith, as-refused e q))
+      go (outside e f g h) q = (f, (λ j a b. A.accepted image (tablesOf image) .0 g .1 j a (omega arith)), h)
+      go (stopped j e T f) q = absurd (omega (arith, as-refused e q, run-number j f))
+      go (over o e T f h) q = absurd (omega (arith, as-refused e q))
+      go (listed o e T f h) q = absurd (refused-ok (sym q ∙ e))
+
+      by : (fit ≡ true) × Sound image 11 × (Asked image left right → ⊥) → Way fit image left right budget (length out) M → r ≡ Refused 11
+      by h (short e f) = absurd (clash (sym (h .0) ∙ f))
+      by h (unsound j e f g) = absurd (refused-ok (sym g ∙ read-of image (h .1)))
+      by h (outside e f g n) = iff .1 e
+      by h (stopped j e T f) = absurd (h .2 (T .asked))
+      by h (over o e T f n) = absurd (h .2 (T .asked))
+      by h (listed o e T f n) = absurd (h .2 (T .asked))
+
+  -- ---- "then 12 and 13 as met": the run's
+  of-run : (k : ℕ) → 12 ≤ k → k ≤ 13 → (r ≡ Refused k) ↔ (Taken fit image left right × (R ≡ refused k))
+  of-run k a b = (λ e. go (way fit image left right budget (length out)) (iff .0 e), λ h. iff .1 (taken-is fit image left right budget (length out) (h .0) ∙ rw (h .1) refl))
+    where
+      iff : (r ≡ Refused k) ↔ (M ≡ refused k)
+      iff = refused-iff image left right budget fit out out′ r m k (λ z. absurd (omega arith))
+
+      go : Way fit image left right budget (length out) M → M ≡ refused k → Taken fit image left right × (R ≡ refused k)
+      go (short e f) q = absurd (omega (arith, as-refused e q))
+      go (unsound j e f g) q = let z = A.refused-in-its-case image j .0 g .1 in absurd (omega (arith, as-refused e q))
+      go (outside e f g h) q = absurd (omega (arith, as-refused e q))
+      go (stopped j e T f) q = (T, f ∙ ap refused (as-refused e q))
+      go (over o e T f h) q = absurd (omega (arith, as-refused e q))
+      go (listed o e T f h) q = absurd (refused-ok (sym q ∙ e))
+
+  -- 12: "a pair beyond 4,096 would be entered"
+  pub refused-12 : (r ≡ Refused 12) ↔ (Taken fit image left right × (R ≡ refused 12))
+  refused-12 = of-run 12 (omega arith) (omega arith)
+
+  -- .. only where the queried pair has more than 4,096 pairs
+  pub refused-12-only-beyond : r ≡ Refused 12 → (n : ℕ) → PairCount (tablesOf image) (left, right) n → PAIRS < n
+  refused-12-only-beyond e n c = elim (D.refused-by (tablesOf image) (left, right) n c budget 12 (refused-12 .0 e .1)) [ inl x ↦ x .1 | inr x ↦ absurd (omega arith) ]
+
+  -- .. and where it has, with 4,096 checks or more, unless there was no room for the queried pair's starting term (13)
+  pub refused-12-beyond : Taken fit image left right → (n : ℕ) → PairCount (tablesOf image) (left, right) n → PAIRS < n → PAIRS ≤ budget → (root : Interned) → startingTerm (tablesOf image) [] (left, right) ≡ ok root → r ≡ Refused 12
+  refused-12-beyond T n c h b root e = refused-12 .1 (T, D.refused-beyond (tablesOf image) (left, right) n c h budget root b e)
+
+  -- 13: "a term beyond 16,384 or a run beyond 65,536 would be entered"
+  pub refused-13 : (r ≡ Refused 13) ↔ (Taken fit image left right × (R ≡ refused 13))
+  refused-13 = of-run 13 (omega arith) (omega arith)
+
+  -- ---- "14 last": "the listing exceeds the output buffer"
+  pub refused-14 : (r ≡ Refused 14) ↔ (Taken fit image left right × ((o : Outcome) × (R ≡ ok o) × (length out < length (listingOf o))))
+  refused-14 = (λ e. go (way fit image left right budget (length out)) (iff .0 e), λ h. iff .1 (taken-is fit image left right budget (length out) (h .0) ∙ rw (h .1 .1, lt-leb (length (listingOf (h .1 .0))) (length out) (h .1 .2)) refl))
+    where
+      iff : (r ≡ Refused 14) ↔ (M ≡ refused 14)
+      iff = refused-iff image left right budget fit out out′ r m 14 (λ z. absurd (omega arith))
+
+      go : Way fit image left right budget (length out) M → M ≡ refused 14 → Taken fit image left right × ((o : Outcome) × (R ≡ ok o) × (length out < length (listingOf o)))
+      go (short e f) q = absurd (omega (arith, as-refused e q))
+      go (unsound j e f g) q = let z = A.refused-in-its-case image j .0 g .1 in absurd (omega (arith, as-refused e q))
+      go (outside e f g h) q = absurd (omega (arith, as-refused e q))
+      go (stopped j e T f) q = absurd (omega (arith, as-refused e q, run-number j f))
+      go (over o e T f h) q = (T, (o, f, h))
+      go (listed o e T f h) q = absurd (refused-ok (sym q ∙ e))
+
+  -- ---- a listing: nothing of 1 to 14 is the case
+  pub listing-where : ((n : ℕ) × (r ≡ Listing n)) ↔ (Taken fit image left right × ((o : Outcome) × (R ≡ ok o) × (length (listingOf o) ≤ length out)))
+  listing-where = (
+    λ e. let (l, q) = iff .0 e in go l (way fit image left right budget (length out)) q,
+    λ h. iff .1 (listingOf (h .1 .0), taken-is fit image left right budget (length out) (h .0) ∙ rw (h .1 .1, le-leb (length (listingOf (h .1 .0))) (length out) (h .1 .2)) refl),
+  )
+    where
+      iff : ((n : ℕ) × (r ≡ Listing n)) ↔ ((l : List ℕ) × (M ≡ ok l))
+      iff = listing-iff image left right budget fit out out′ r m
+
+      go : (l : List ℕ) → Way fit image left right budget (length out) M → M ≡ ok l → Taken fit image left right × ((o : Outcome) × (R ≡ ok o) × (length (listingOf o) ≤ length out))
+      go l (short e f) q = absurd (refused-ok (sym e ∙ q))
+      go l (unsound j e f g) q = absurd (refused-ok (sym e ∙ q))
+      go l (outside e f g h) q = absurd (refused-ok (sym e ∙ q))
+      go l (stopped j e T f) q = absurd (refused-ok (sym e ∙ q))
+      go l (over o e T f h) q = absurd (refused-ok (sym e ∙ q))
+      go l (listed o e T f h) q = (T, (o, f, h))
+
+  -- no other number is returned
+  pub refused-numbers : (k : ℕ) → r ≡ Refused k → (1 ≤ k) × (k ≤ 14) × (k ≢ 10)
+  refused-numbers k e = (go (way fit image left right budget (length out)) (sym (m .answer) ∙ ap (answerOf out′) e) .0, go (way fit image left right budget (length out)) (sym (m .answer) ∙ ap (answerOf out′) e) .1, (rw e at (m .carries)))
+    where
+      go : Way fit image left right budget (length out) M → M ≡ refused k → (1 ≤ k) × (k ≤ 14)
+      go (short e f) q = omega (arith, as-refused e q)
+      go (unsound j e f g) q = let z = A.refused-in-its-case image j .0 g in omega (arith, as-refused e q, z .0, z .1)
+      go (outside e f g h) q = omega (arith, as-refused e q)
+      go (stopped j e T f) q = omega (arith, as-refused e q, run-number j f)
+      go (over o e T f h) q = omega (arith, as-refused e q)
+      go (listed o e T f h) q = absurd (refused-ok (sym q ∙ e))
+
+  -- ---- demand 1: a refusal "leaves the output untouched"
+  kept : (k : ℕ) → M ≡ refused k → out′ ≡ out
+  unfolding outputAfter
+  kept k e = m .output ∙ ap (outputAfter out) e
+
+  pub refusal-keeps-output : (k : ℕ) → r ≡ Refused k → out′ ≡ out
+  refusal-keeps-output k e = kept k (sym (m .answer) ∙ ap (answerOf out′) e)
+
+  pub refusal-10-keeps-output : (c : ℕ) → r ≡ Doubled c → out′ ≡ out
+  refusal-10-keeps-output c e = kept 10 (sym (m .answer) ∙ ap (answerOf out′) e)
+
+  -- .. "and clears the work buffers": a refusal as an accepted call does, but for 1. w is a work buffer before the call, w′ afterwards.
+  pub work-cleared : {B : Type 0} (empty : B) (w w′ : List B) → w′ ≡ workAfter empty fit w → r ≢ Refused 1 → w′ ≡ replicate (length w) empty
+  work-cleared empty w w′ e n = go fit refl e
+    where
+      go : (b : Bool) → fit ≡ b → w′ ≡ workAfter empty b w → w′ ≡ replicate (length w) empty
+      go true q z = z
+      go false q z = absurd (n (refused-1 .1 q))
+
+  -- "(leaves them alone where one was too short)"
+  pub work-kept : {B : Type 0} (empty : B) (w w′ : List B) → w′ ≡ workAfter empty fit w → r ≡ Refused 1 → w′ ≡ w
+  work-kept empty w w′ e n = rw (refused-1 .0 n) at e

@@ -1,0 +1,1 @@
+// the customer's demands, as theorems about the contract of merge: see specs/
