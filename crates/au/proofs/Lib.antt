@@ -1,2 +1,4 @@
 pub mod Slices
 pub mod Locals
+pub mod LocalArray
+pub mod BigLit

@@ -15,7 +15,7 @@ pub record Wide (a b c e f : List ℕ) : Type 0 where
   pub terms : 69634 ≤ length e
   pub runs : 65536 ≤ length f
 
-abbrev pairsBegun : Begun → ℕ
+abbrev pub pairsBegun : Begun → ℕ
 pairsBegun (Stopped k) = 0
 pairsBegun (Cut root) = 0
 pairsBegun (All root n left) = n

@@ -2,7 +2,8 @@
 ghost use mathlib.Core.Path.{_≡_};
 ghost use mathlib.Core.Bool.{true, not};
 ghost use Prim.Native.Nat.{_≤_};
-ghost use lib.ListN.{length};
+ghost use lib.ListN.{length, replicate};
+ghost use Rattle.pair_table.specs.Table.{none};
 ghost use Rattle.au.specs.declared.Answer.the-variants.{Refused};
 ghost use Rattle.au.specs.Merges.{fitOf, fits, Merges, Cleared, Table};
 ghost use Rattle.au.specs.Prepared.{Wide, pairsOf, Prepares};
@@ -30,7 +31,15 @@ pub enum Prepared {
 }
 
 // 1: whether a work buffer is below its constant length
-fn short(table: usize, lefts: usize, rights: usize, index: usize, pairs: usize, terms: usize, runs: usize) -> bool
+fn short(
+    table: usize,
+    lefts: usize,
+    rights: usize,
+    index: usize,
+    pairs: usize,
+    terms: usize,
+    runs: usize,
+) -> bool
     ensures { λ r. ⌜ r ≡ not (fitOf table lefts rights index pairs terms runs) ⌝ }
 {
     if table < 4096 {
@@ -130,15 +139,78 @@ pub fn merge(
     out: &mut [u8],
 ) -> Answer
     ensures { λ r. do
-        let fit = fits (now (table .entry)) (now (lefts .entry)) (now (rights .entry)) (now (index .entry)) (now (pairs .entry)) (now (terms .entry)) (now (runs .entry))
-        ⌜ Merges (now (s .entry)) left right budget fit (now (out .entry)) (now (out .exit)) r × Table fit (now (table .entry)) (now (table .exit)) × Cleared fit (now (lefts .entry)) (now (lefts .exit)) (now (rights .entry)) (now (rights .exit)) (now (index .entry)) (now (index .exit)) (now (pairs .entry)) (now (pairs .exit)) (now (terms .entry)) (now (terms .exit)) (now (runs .entry)) (now (runs .exit)) ⌝ }
+      let fit = fits (now (table .entry)) (now (lefts .entry)) (now (rights .entry)) (now (index .entry)) (now (pairs .entry)) (now (terms .entry)) (now (runs .entry))
+      ⌜ Merges (now (s .entry)) left right budget fit (now (out .entry)) (now (out .exit)) r × Table fit (now (table .entry)) (now (table .exit)) × Cleared fit (now (lefts .entry)) (now (lefts .exit)) (now (rights .entry)) (now (rights .exit)) (now (index .entry)) (now (index .exit)) (now (pairs .entry)) (now (pairs .exit)) (now (terms .entry)) (now (terms .exit)) (now (runs .entry)) (now (runs .exit)) ⌝ }
 {
-    if short(table.len(), lefts.len(), rights.len(), index.len(), pairs.len(), terms.len(), runs.len()) {
+    if short(
+        table.len(),
+        lefts.len(),
+        rights.len(),
+        index.len(),
+        pairs.len(),
+        terms.len(),
+        runs.len(),
+    ) {
         return refuse(1);
     }
     let p = prepare(s, left, right, budget, lefts, rights, index, terms, runs);
     pair_table::enter_from(table, lefts, rights, 0, pairs_of(p));
-    let a = conclude(s, left, right, budget, p, lefts, rights, index, pairs, terms, runs, out);
+    let a = conclude(
+        s,
+        left,
+        right,
+        budget,
+        p,
+        lefts,
+        rights,
+        index,
+        pairs,
+        terms,
+        runs,
+        out,
+    );
     pair_table::clear_table(table);
     a
+}
+
+// An empty pair table.
+fn empty() -> [Pair; 4096]
+    ensures { λ r. ⌜ r ≡ replicate 4096 none ⌝ }
+{
+    [Pair { left: 0, right: 0 }; 4096]
+}
+
+// The merge with a pair table of its own, for callers that lend plain buffers only.
+pub fn merge_plain(
+    s: &[u8],
+    left: u16,
+    right: u16,
+    budget: u32,
+    lefts: &mut [u16],
+    rights: &mut [u16],
+    index: &mut [u16],
+    pairs: &mut [u32],
+    terms: &mut [u32],
+    runs: &mut [u64],
+    out: &mut [u8],
+) -> Answer
+    ensures { λ r. do
+      let fit = fitOf 4096 (length (now (lefts .entry))) (length (now (rights .entry))) (length (now (index .entry))) (length (now (pairs .entry))) (length (now (terms .entry))) (length (now (runs .entry)))
+      ⌜ Merges (now (s .entry)) left right budget fit (now (out .entry)) (now (out .exit)) r × Cleared fit (now (lefts .entry)) (now (lefts .exit)) (now (rights .entry)) (now (rights .exit)) (now (index .entry)) (now (index .exit)) (now (pairs .entry)) (now (pairs .exit)) (now (terms .entry)) (now (terms .exit)) (now (runs .entry)) (now (runs .exit)) ⌝ }
+{
+    let mut table = empty();
+    merge(
+        s,
+        left,
+        right,
+        budget,
+        &mut table,
+        lefts,
+        rights,
+        index,
+        pairs,
+        terms,
+        runs,
+        out,
+    )
 }

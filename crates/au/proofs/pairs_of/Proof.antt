@@ -7,6 +7,7 @@ use mathlib.Core.Logic.{⊎-elim}
 use mathlib.Core.List.{List, [], _∷_, _++_, append-nil}
 use lib.ListN.{length, take, drop, getD, set, length-set, length-take, length-drop, length-append, drop-of-length-le}
 use borrow.Author.Needs.{needs}
+use Rattle.au.specs.Prepared.{pairsBegun, pairsOf}
 use Rattle.au.proofs.pairs_of.Statement.{statement}
 use Rattle.au.proofs.pairs_of.Tie as tie
 use Rattle.au.proofs.pairs_of.Reads as reads
@@ -38,15 +39,15 @@ returns c = search needs
 
 -- src/lib.rt:66:1
 returns-2 : tie.Need-returns-2
-returns-2 c = ?
+returns-2 c = sym (ap pairsOf (c .before .before .before .before .p2 .given .1) ∙ ap pairsBegun (c .before .b .given .1))
 
 -- src/lib.rt:66:1
 returns-3 : tie.Need-returns-3
-returns-3 c = ?
+returns-3 c = sym (ap pairsOf (c .before .before .before .before .p2 .given .1) ∙ ap pairsBegun (c .before .b2 .given .1))
 
 -- src/lib.rt:66:1
 returns-4 : tie.Need-returns-4
-returns-4 c = ?
+returns-4 c = sym (ap pairsOf (c .before .before .before .before .p2 .given .1) ∙ ap pairsBegun (c .before .b3 .given .1))
 
 pub pairs-of-spec : {M : Type 1} → statement M
 pairs-of-spec =

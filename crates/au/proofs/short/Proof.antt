@@ -1,37 +1,44 @@
-use borrow.Author.Tests.{le-leb, lt-leb}
+use borrow.Author.Tests.{le-leb, lt-leb, ltb-true, ltb-false}
 use native.Mathlib.Omega.{arith}
+use mathlib.Core.Path.{_≡_, refl}
+use mathlib.Core.Bool.{Bool, true, false, not}
+use Prim.Native.Nat.{ℕ, _≤_, _<_}
+use lib.Dec.{leb, ltb}
+use Rattle.au.specs.Merges.{fitOf}
 use Rattle.au.proofs.short.Statement.{statement}
 use Rattle.au.proofs.short.Tie as tie
-use mathlib.Core.Path.{_≡_, refl}
 
--- src/lib.rt:39:9
+leb-ltb : (a b : ℕ) → leb a b ≡ not (ltb b a)
+leb-ltb a b = go (ltb b a) refl
+  where
+    go : (x : Bool) → ltb b a ≡ x → leb a b ≡ not (ltb b a)
+    go true e = rw (e, lt-leb a b (ltb-true b a e)) refl
+    go false e = rw (e, le-leb a b (ltb-false b a e)) refl
+
+last : (b : Bool) → b ≡ not (not b)
+last true = refl
+last false = refl
+
 returns : tie.Need-returns
-returns c = rw (lt-leb 4096 (c .before .args .table) (omega arith)) refl
+returns c = let a = c .before .args in rw (lt-leb 4096 (a .table) (omega arith)) refl
 
--- src/lib.rt:42:9
 returns-2 : tie.Need-returns-2
-returns-2 c = let a = c .before .before .args in simp (le-leb 4096 (a .table) (omega arith), lt-leb 4096 (a .lefts) (omega arith))
+returns-2 c = let a = c .before .before .args in rw (le-leb 4096 (a .table) (omega arith), lt-leb 4096 (a .lefts) (omega arith)) refl
 
--- src/lib.rt:45:9
 returns-3 : tie.Need-returns-3
-returns-3 c = ?
+returns-3 c = let a = c .before .before .before .args in rw (le-leb 4096 (a .table) (omega arith), le-leb 4096 (a .lefts) (omega arith), lt-leb 4096 (a .rights) (omega arith)) refl
 
--- src/lib.rt:48:9
 returns-4 : tie.Need-returns-4
-returns-4 c = ?
+returns-4 c = let a = c .before .before .before .before .args in rw (le-leb 4096 (a .table) (omega arith), le-leb 4096 (a .lefts) (omega arith), le-leb 4096 (a .rights) (omega arith), lt-leb 65536 (a .index) (omega arith)) refl
 
--- src/lib.rt:51:9
 returns-5 : tie.Need-returns-5
-returns-5 c = ?
+returns-5 c = let a = c .before .before .before .before .before .args in rw (le-leb 4096 (a .table) (omega arith), le-leb 4096 (a .lefts) (omega arith), le-leb 4096 (a .rights) (omega arith), le-leb 65536 (a .index) (omega arith), lt-leb 24576 (a .pairs) (omega arith)) refl
 
--- src/lib.rt:54:9
 returns-6 : tie.Need-returns-6
-returns-6 c = ?
+returns-6 c = let a = c .before .before .before .before .before .before .args in rw (le-leb 4096 (a .table) (omega arith), le-leb 4096 (a .lefts) (omega arith), le-leb 4096 (a .rights) (omega arith), le-leb 65536 (a .index) (omega arith), le-leb 24576 (a .pairs) (omega arith), lt-leb 69634 (a .terms) (omega arith)) refl
 
--- src/lib.rt:35:1
 returns-7 : tie.Need-returns-7
-returns-7 c = ?
+returns-7 c = let a = c .before .before .before .before .before .before .args in rw (le-leb 4096 (a .table) (omega arith), le-leb 4096 (a .lefts) (omega arith), le-leb 4096 (a .rights) (omega arith), le-leb 65536 (a .index) (omega arith), le-leb 24576 (a .pairs) (omega arith), le-leb 69634 (a .terms) (omega arith), leb-ltb 65536 (a .runs)) (last (ltb (a .runs) 65536))
 
 pub short-spec : {M : Type 1} → statement M
-short-spec =
-    tie.close (tie.spec returns returns-2 returns-3 returns-4 returns-5 returns-6 returns-7)
+short-spec = tie.close (tie.spec returns returns-2 returns-3 returns-4 returns-5 returns-6 returns-7)
