@@ -1,11 +1,3 @@
-use borrow.Author.Tests.{lt-ltb, le-ltb, le-leb, lt-leb, eq-eqb, ne-eqb}
-use Prim.Native.Nat.{ℕ, zero, suc, _≤_, _<_, _-_, _+_, _*_, _^_}
-use native.Mathlib.Omega.{arith}
-use native.Mathlib.Numerals.{add-one}
-use mathlib.Core.Path.{_≡_, refl, ap, sym, _∙_}
-use mathlib.Core.Logic.{⊎-elim}
-use mathlib.Core.List.{List, [], _∷_, _++_, append-nil}
-use lib.ListN.{length, take, drop, getD, set, length-set, length-take, length-drop, length-append, drop-of-length-le}
 use borrow.Author.Needs.{needs}
 use Rattle.tariff.specs.Cases.{returns-as}
 use Rattle.tariff.proofs.tariff_merge.Statement.{statement}
@@ -15,43 +7,43 @@ use Rattle.tariff.proofs.tariff_merge.Lts as lts
 use Rattle.au.proofs.merge_plain.Reads as merge-plain-reads
 use Rattle.tariff.proofs.numbers_of.Reads as numbers-of-reads
 
--- src/lib.rt:63:9
+-- src/lib.rt:82:9
 merge-plain-requires : tie.Need-merge-plain-requires
 merge-plain-requires c κs = search needs
 
--- src/lib.rt:76:5
+-- src/lib.rt:95:5
 numbers-of-requires : tie.Need-numbers-of-requires
 numbers-of-requires c κs = search needs
 
--- src/lib.rt:45:1
+-- src/lib.rt:64:1
 same-length : tie.Need-same-length
 same-length c = search needs
 
--- src/lib.rt:45:1
+-- src/lib.rt:64:1
 same-length-2 : tie.Need-same-length-2
 same-length-2 c = search needs
 
--- src/lib.rt:45:1
+-- src/lib.rt:64:1
 same-length-3 : tie.Need-same-length-3
 same-length-3 c = search needs
 
--- src/lib.rt:45:1
+-- src/lib.rt:64:1
 same-length-4 : tie.Need-same-length-4
 same-length-4 c = search needs
 
--- src/lib.rt:45:1
+-- src/lib.rt:64:1
 same-length-5 : tie.Need-same-length-5
 same-length-5 c = search needs
 
--- src/lib.rt:45:1
+-- src/lib.rt:64:1
 same-length-6 : tie.Need-same-length-6
 same-length-6 c = search needs
 
--- src/lib.rt:45:1
+-- src/lib.rt:64:1
 same-length-7 : tie.Need-same-length-7
 same-length-7 c = search needs
 
--- src/lib.rt:45:1
+-- src/lib.rt:64:1
 returns : tie.Need-returns
 returns c =
     let m = c .before .before .before .before .before .before .before .before .before .before .before .before .before .before .before .merge-plain .ensures in
