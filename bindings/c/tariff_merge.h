@@ -9,8 +9,8 @@
  * where the length is 0), aligned for their type, with as many elements behind them as the length says,
  * and no lent buffer overlapping another or the image.
  *
- * Stack: a call needs up to TARIFF_STACK_BYTES of the calling thread's stack. A thread with less must not
- * call: the library does not test it.
+ * Stack: a call needs up to TARIFF_STACK_BYTES of the calling thread's stack, since the listing is written
+ * by recursion. The library does not test it: on a thread with less, an overflow ends the process.
  */
 #ifndef TARIFF_MERGE_H
 #define TARIFF_MERGE_H

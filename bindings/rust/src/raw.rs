@@ -9,7 +9,7 @@ pub const PAIRS: usize = 24_576;
 pub const TERMS: usize = 69_634;
 pub const RUNS: usize = 65_536;
 
-/// What a call may need of its thread's stack.
+/// What a call may need of its thread's stack: the listing is written by recursion.
 pub const STACK: usize = 4 << 20;
 
 /// 0 with the listing's length, or a refusal's number; with 10 a class.

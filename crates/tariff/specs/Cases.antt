@@ -1,16 +1,14 @@
 -- From the contract of `merge` to that of the C interface, case by case.
-use mathlib.Core.Path.{_≡_, refl, sym, ap, _∙_}
-use mathlib.Core.Logic.{_≢_, _⊎_, inl, inr}
-use mathlib.Core.Bool.{Bool, true, false}
+use mathlib.Core.Path.{_≡_, refl, sym, _∙_}
+use mathlib.Core.Logic.{inl, inr}
+use mathlib.Core.Bool.{Bool, true}
 use mathlib.Core.List.{List}
-use Prim.Native.Nat.{ℕ, zero, suc, _≤_, _<_}
+use Prim.Native.Nat.{ℕ, _≤_}
 use native.Mathlib.Omega.{arith}
-use lib.Dec.{eqb}
-use lib.ListN.{length, take}
+use lib.ListN.{length}
 use borrow.Author.Tests.{ne-eqb}
-use Rattle.spec.specs.Bytes.{pick, Res, ok, refused}
-use Rattle.spec.specs.Image.{tablesOf, imageOf}
-use Rattle.spec.specs.Run.{runOf}
+use Rattle.spec.specs.Bytes.{refused}
+use Rattle.spec.specs.Image.{tablesOf}
 use Rattle.spec.specs.Merge.{mergeOf}
 use Rattle.laws.specs.Accepted as A
 use Rattle.lgg.specs.Results.{refused-ok, refused-inj}
@@ -20,7 +18,6 @@ use Rattle.au.specs.declared.Answer.the-variants.{Listing, Refused, Doubled}
 use Rattle.au.specs.Merges.{fitOf, Merges}
 use Rattle.demands.specs.Calls.{Way, short, unsound, outside, stopped, over, listed, way}
 use Rattle.tariff.specs.declared.Returned.{Returned}
-use Rattle.tariff.specs.declared.Lengths.{Lengths}
 use Rattle.tariff.specs.Returns.{returnedOf, Returns, lengths}
 
 -- a refusal's number is 1 to 14
@@ -43,6 +40,7 @@ number fit image left right budget room k q = go (way fit image left right budge
     go (over o e T f h) = from 14 e (omega arith) (omega arith)
     go (listed o e T f h) = absurd (refused-ok (sym q ∙ e))
 
+-- each case's numbers say what the case says
 pub returns-of : (image : List ℕ) (left right budget : ℕ) (fit : Bool) (out out′ : List ℕ) (a : Answer) → Merges image left right budget fit out out′ a → Returns image left right budget fit out out′ (returnedOf a)
 returns-of image left right budget fit out out′ (Listing n) m = record {
   result = m .answer;
