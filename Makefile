@@ -23,7 +23,7 @@ bindings:
 	rt staticlib tariff
 	cc -std=c11 -Wall -Wextra -Werror -O2 -o target/staticlib/test bindings/c/test.c target/staticlib/libtariff.a
 	target/staticlib/test
-	cd bindings && cargo test --release --offline --quiet -p tariff-merge
+	cd bindings && cargo test --release --offline --quiet
 
 # The listed Rust and the static library on the same queries, in one process.
 bench:

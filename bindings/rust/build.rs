@@ -18,4 +18,5 @@ fn main() {
     }
     println!("cargo::rustc-link-search=native={}", folder.display());
     println!("cargo::rustc-link-lib=static=tariff");
+    println!("cargo::rustc-env=TARIFF_LIB_FOLDER={}", folder.display());
 }
