@@ -1,5 +1,5 @@
-# make test: the gate. make run: image E through program `merge`.
-.PHONY: test run oracle fmt
+# make test: the gate. make run: image E through program `merge`. make bindings: C and Rust over the static library. make bench: against the listed Rust.
+.PHONY: test run oracle fmt bindings bench
 SHELL := /bin/bash
 
 # Everything that the gate runs; the last line printed is rt ci's `N passed, 0 failed`.
@@ -17,3 +17,15 @@ oracle:
 # The command that does the main job.
 run:
 	@if [ -d crates/merge ]; then rt check merge && target/bin/merge < examples/E.query; else echo "program merge does not exist yet: running the tests of the definitions"; rt check spec; fi
+
+# The merge for other languages: the static library, its C test, the safe Rust crate and its tests. Not part of the gate, which proves the same crates.
+bindings:
+	rt staticlib tariff
+	cc -std=c11 -Wall -Wextra -Werror -O2 -o target/staticlib/test bindings/c/test.c target/staticlib/libtariff.a
+	target/staticlib/test
+	cd bindings && cargo test --release --offline --quiet
+
+# The listed Rust and the static library on the same queries, in one process.
+bench:
+	rt staticlib tariff
+	cd bindings && cargo run --release --offline --quiet -p bench

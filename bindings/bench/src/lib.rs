@@ -1,0 +1,126 @@
+// SPDX-License-Identifier: Apache-2.0
+//! Queries for the bench and for the test of the stack: frames (image, left, right, budget).
+
+use harness::draw;
+use harness::r#gen::{class, lit, over};
+use harness::img::{Class, Img, Member, Operation, Query};
+use harness::limits::{many_terms, pairs};
+use harness::text;
+
+fn op(kind: u8) -> Operation {
+    Operation {
+        kind,
+        identity: None,
+    }
+}
+
+fn frame(mut img: Img, left: usize, right: usize) -> Vec<u8> {
+    img.order();
+    assert!(img.settle(), "every class has a finite term");
+    img.frame(&Query {
+        left,
+        right,
+        budget: u32::MAX,
+    })
+}
+
+fn literals(count: usize) -> Vec<Class> {
+    (0..count).map(|n| class(vec![lit(0, n as u32)])).collect()
+}
+
+/// Two cycles of classes, with one step in each at a time: `left` × `right` pairs where the
+/// lengths have no common divisor. One pair is cheaper than its two classes, and each round
+/// carries that one pair further: as many rounds as pairs, and a formula as deep.
+pub fn cycles(left: usize, right: usize) -> Vec<u8> {
+    let mut classes = literals(3);
+    for _ in 0..13 {
+        let under = if classes.len() == 3 {
+            0
+        } else {
+            classes.len() - 1
+        };
+        classes.push(class(vec![over(2, &[under, under])]));
+    }
+    let costly = classes.len() - 1;
+    let starts = [classes.len(), classes.len() + left];
+    for (first, length, own, end) in [(starts[0], left, 3, 1), (starts[1], right, 4, 2)] {
+        for step in 0..length {
+            let apart = if step + 1 == length {
+                over(5, &[costly, end])
+            } else {
+                over(own, &[costly])
+            };
+            let next = over(1, &[first + (step + 1) % length]);
+            classes.push(class(vec![next, apart]));
+        }
+    }
+    let ops = vec![op(9), op(1), op(2), op(1), op(1), op(2)];
+    frame(Img { ops, classes }, starts[0], starts[1])
+}
+
+/// A transport of 65 rows (64 and the identity that pads them) and `columns` columns.
+pub fn transport(columns: usize) -> Vec<u8> {
+    let mut classes = literals(65 + columns);
+    let left: Vec<usize> = (1..65).collect();
+    let mut right: Vec<(usize, u32)> = (65..65 + columns).map(|n| (n, 1)).collect();
+    right[columns / 2].1 += 66 - columns as u32;
+    classes.push(class(vec![over(1, &left)]));
+    classes.push(class(vec![Member {
+        op: 1,
+        literal: 0,
+        children: right,
+    }]));
+    let identity = Operation {
+        kind: 7,
+        identity: Some(0),
+    };
+    let (a, b) = (classes.len() - 2, classes.len() - 1);
+    frame(
+        Img {
+            ops: vec![op(9), identity],
+            classes,
+        },
+        a,
+        b,
+    )
+}
+
+/// The examples' tariffs.
+fn tariffs() -> Vec<Vec<u8>> {
+    [
+        include_str!("../../../examples/E.txt"),
+        include_str!("../../../examples/airport.txt"),
+        include_str!("../../../examples/cap.txt"),
+        include_str!("../../../examples/luggage.txt"),
+        include_str!("../../../examples/night.txt"),
+        include_str!("../../../examples/zones.txt"),
+    ]
+    .into_iter()
+    .map(|source| {
+        let (img, queries) = text::parse(source).expect("an example");
+        img.frame(&queries[0])
+    })
+    .collect()
+}
+
+pub struct Family {
+    pub name: &'static str,
+    pub frames: Vec<Vec<u8>>,
+}
+
+/// What the bench asks.
+pub fn families() -> Vec<Family> {
+    let family = |name, frames| Family { name, frames };
+    let chains = many_terms(30);
+    let n = chains.classes.len();
+    let full = pairs(4_096);
+    vec![
+        family("quote page: the examples' tariffs", tariffs()),
+        family("drawn, family mixed", draw(7, 300, Some("mixed"))),
+        family("drawn, all families", draw(7, 300, None)),
+        family("transport of 65 × 60", vec![transport(60)]),
+        family("graph of 4,096 pairs", vec![frame(full, 127, 128)]),
+        family("terms: 30 × 30 chains", vec![frame(chains, n - 2, n - 1)]),
+        family("rounds: cycles of 31 and 32", vec![cycles(31, 32)]),
+    ]
+}

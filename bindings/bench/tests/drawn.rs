@@ -1,0 +1,54 @@
+// SPDX-License-Identifier: Apache-2.0
+//! Drawn and damaged frames through the safe interface, against the model.
+
+use harness::judge::Judge;
+use harness::{damage, draw, limits};
+use tariff_merge::Merger;
+
+fn compare(frames: &[Vec<u8>]) {
+    let answers = Judge::parse("model").unwrap().answers(frames).unwrap();
+    let mut merger = Merger::new();
+    for (at, (frame, answer)) in frames.iter().zip(answers).enumerate() {
+        // Without a query, or over 65,536 bytes, it is the program's refusal and not the call's.
+        let Some((image, &[a, b, c, d, e, f, g, h])) = frame.split_last_chunk::<8>() else {
+            continue;
+        };
+        if frame.len() > 65_536 {
+            continue;
+        }
+        let left = u16::from_be_bytes([a, b]);
+        let right = u16::from_be_bytes([c, d]);
+        let budget = u32::from_be_bytes([e, f, g, h]);
+        let printed = match merger.merge(image, left, right, budget) {
+            Ok(listing) => listing.bytes().to_vec(),
+            Err(refusal) => format!("refused {}\n", refusal.number()).into_bytes(),
+        };
+        assert!(printed == answer, "frame {at}");
+    }
+}
+
+#[test]
+fn drawn_frames() {
+    compare(&draw(5, 2_000, None));
+}
+
+#[test]
+fn damaged_images() {
+    compare(&draw(6, 1_000, Some("damaged")));
+    compare(
+        &damage::small()
+            .into_iter()
+            .map(|case| case.1)
+            .collect::<Vec<_>>(),
+    );
+}
+
+#[test]
+fn limits_of_every_table() {
+    compare(
+        &limits::cases()
+            .into_iter()
+            .map(|case| case.1)
+            .collect::<Vec<_>>(),
+    );
+}

@@ -1,0 +1,136 @@
+/* SPDX-License-Identifier: Apache-2.0 */
+/*
+ * The tariff merge with a C interface: libtariff.a, made by `rt staticlib tariff`, for x86-64 Linux.
+ *
+ * A call merges two classes of an image into a listing. The same arguments give the same answer: the
+ * library keeps nothing between calls, and calls with buffers of their own may run at the same time.
+ *
+ * The contract of `tariff_merge` is proved for every call with pointers as C asks them: not null (also
+ * where the length is 0), aligned for their type, with as many elements behind them as the length says,
+ * and no lent buffer overlapping another or the image.
+ *
+ * Stack: a call needs up to TARIFF_STACK_BYTES of the calling thread's stack, since the listing is written
+ * by recursion. The library does not test it: on a thread with less, an overflow ends the process.
+ */
+#ifndef TARIFF_MERGE_H
+#define TARIFF_MERGE_H
+
+#include <stddef.h>
+#include <stdint.h>
+
+#ifdef __cplusplus
+extern "C" {
+#endif
+
+/* How many elements each work buffer has at least; `tariff_lengths` answers the same. */
+#define TARIFF_LEFTS 4096
+#define TARIFF_RIGHTS 4096
+#define TARIFF_INDEX 65536
+#define TARIFF_PAIRS 24576
+#define TARIFF_TERMS 69634
+#define TARIFF_RUNS 65536
+
+/* An output buffer of the length that program `merge` has. Any length is allowed. */
+#define TARIFF_OUTPUT_BYTES 65536
+
+#define TARIFF_STACK_BYTES 4194304
+
+/* What `number` says. */
+enum tariff_number {
+    /* a listing: the first `bytes` bytes of the output buffer */
+    TARIFF_LISTING = 0,
+    /* a work buffer below its constant length: lend buffers of the lengths above */
+    TARIFF_WORK_SHORT = 1,
+    /* the image has fewer than 13 bytes, or its length field is wrong: it counts what follows it */
+    TARIFF_LENGTH = 2,
+    /* the version byte is not 1 */
+    TARIFF_VERSION = 3,
+    /* a count outside its range: operations 1 to 64, classes 1 to 256, members 1 to 1,024, children 0 to 4,096 */
+    TARIFF_COUNT = 4,
+    /* counts and length disagree */
+    TARIFF_TABLES = 5,
+    /* an operation entry: kind above 9, wrong commutative flag, or an identity that it may not have */
+    TARIFF_OPERATION = 6,
+    /* a span, operation number, member order or literal field */
+    TARIFF_MEMBER = 7,
+    /* a child entry or an arity */
+    TARIFF_CHILD = 8,
+    /* a best member outside its class, or a best size that is wrong or outside its range */
+    TARIFF_BEST = 9,
+    /* a literal stands in two classes; `class_number` is a class that holds it */
+    TARIFF_LITERAL = 10,
+    /* a queried class is not in the image */
+    TARIFF_QUERY = 11,
+    /* a pair of classes beyond 4,096 would be entered: ask smaller classes, or a smaller budget */
+    TARIFF_PAIRS_FULL = 12,
+    /* a term beyond 16,384 or a run beyond 65,536 would be entered: the same */
+    TARIFF_TERMS_FULL = 13,
+    /* the listing exceeds the output buffer: lend a longer one */
+    TARIFF_OUTPUT_SHORT = 14
+};
+
+struct tariff_returned {
+    uint32_t number;
+    /* the listing's length; 0 with a refusal */
+    size_t bytes;
+    /* with TARIFF_LITERAL; else 0 */
+    size_t class_number;
+};
+
+struct tariff_lengths {
+    size_t lefts;
+    size_t rights;
+    size_t index;
+    size_t pairs;
+    size_t terms;
+    size_t runs;
+};
+
+struct tariff_lengths tariff_lengths(void);
+
+/*
+ * The merge of class `left` with class `right` of the image, with a budget of checks.
+ *
+ * With TARIFF_WORK_SHORT every buffer is as it was. With any other number the work buffers are zero in
+ * full. The output buffer changes only with a listing, and past the listing not at all.
+ */
+struct tariff_returned tariff_merge(
+    const uint8_t *image, size_t image_bytes,
+    uint16_t left, uint16_t right, uint32_t budget,
+    uint16_t *lefts, size_t lefts_length,
+    uint16_t *rights, size_t rights_length,
+    uint16_t *index, size_t index_length,
+    uint32_t *pairs, size_t pairs_length,
+    uint32_t *terms, size_t terms_length,
+    uint64_t *runs, size_t runs_length,
+    uint8_t *out, size_t out_bytes);
+
+/* All work buffers, of their constant lengths: about 1 MB, so static or from malloc, and kept between calls. */
+struct tariff_work {
+    uint64_t runs[TARIFF_RUNS];
+    uint32_t pairs[TARIFF_PAIRS];
+    uint32_t terms[TARIFF_TERMS];
+    uint16_t lefts[TARIFF_LEFTS];
+    uint16_t rights[TARIFF_RIGHTS];
+    uint16_t index[TARIFF_INDEX];
+};
+
+/* `tariff_merge` in these buffers: never TARIFF_WORK_SHORT. */
+static inline struct tariff_returned tariff_merge_in(
+    struct tariff_work *work,
+    const uint8_t *image, size_t image_bytes,
+    uint16_t left, uint16_t right, uint32_t budget,
+    uint8_t *out, size_t out_bytes)
+{
+    return tariff_merge(
+        image, image_bytes, left, right, budget,
+        work->lefts, TARIFF_LEFTS, work->rights, TARIFF_RIGHTS, work->index, TARIFF_INDEX,
+        work->pairs, TARIFF_PAIRS, work->terms, TARIFF_TERMS, work->runs, TARIFF_RUNS,
+        out, out_bytes);
+}
+
+#ifdef __cplusplus
+}
+#endif
+
+#endif

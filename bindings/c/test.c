@@ -1,0 +1,113 @@
+/* SPDX-License-Identifier: Apache-2.0 */
+/* The C interface on image E: listings at four budgets, refusals 1, 2, 10, 11 and 14, and what each leaves in the buffers. */
+#include <stdio.h>
+#include <string.h>
+
+#include "tariff_merge.h"
+
+/* operation 0 Lit, 1 Plain2; class 0 literal 5, 1 literal 7, 2 operation 1 over (0, 1), 3 operation 1 over (0, 0) */
+static const uint8_t image[125] = {
+    0, 0, 0, 121, 1, 0, 2, 0, 4, 0, 4, 0, 4,
+    9, 0, 255, 255,
+    2, 0, 255, 255,
+    0, 0, 0, 1, 0, 0, 0, 0, 0, 1,
+    0, 1, 0, 1, 0, 1, 0, 0, 0, 1,
+    0, 2, 0, 1, 0, 2, 0, 0, 0, 3,
+    0, 3, 0, 1, 0, 3, 0, 0, 0, 3,
+    0, 0, 0, 0, 0, 5, 0, 0, 0, 0,
+    0, 0, 0, 0, 0, 7, 0, 0, 0, 0,
+    0, 1, 0, 0, 0, 0, 0, 0, 0, 2,
+    0, 1, 0, 0, 0, 0, 0, 2, 0, 2,
+    0, 0, 0, 0, 0, 1,
+    0, 1, 0, 0, 0, 1,
+    0, 0, 0, 0, 0, 1,
+    0, 0, 0, 0, 0, 1,
+};
+
+#define MERGED "0 lit 0 5\n1 lit 0 7\n2 variants 1:1 0:1\n3 op 1 0:1 2:1\n"
+#define APART "0 lit 0 5\n1 lit 0 7\n2 op 1 0:1 1:1\n3 op 1 0:2\n4 variants 2:1 3:1\n"
+
+static struct tariff_work work;
+static uint8_t out[TARIFF_OUTPUT_BYTES];
+static int failed;
+
+static void expect(int holds, const char *what)
+{
+    if (!holds) {
+        printf("FAILED: %s\n", what);
+        failed = 1;
+    }
+}
+
+static int all(const void *bytes, size_t length, uint8_t value)
+{
+    const uint8_t *at = bytes;
+    for (size_t i = 0; i < length; i++)
+        if (at[i] != value)
+            return 0;
+    return 1;
+}
+
+static void soil(void)
+{
+    memset(&work, 0xa5, sizeof work);
+    memset(out, 0x5a, sizeof out);
+}
+
+static void listed(uint32_t budget, const char *text)
+{
+    char what[64];
+    size_t length = strlen(text);
+    snprintf(what, sizeof what, "image E with budget %u", (unsigned)budget);
+    soil();
+    struct tariff_returned r = tariff_merge_in(&work, image, sizeof image, 2, 3, budget, out, sizeof out);
+    expect(r.number == TARIFF_LISTING && r.bytes == length && r.class_number == 0, what);
+    expect(memcmp(out, text, length) == 0, what);
+    expect(all(out + length, sizeof out - length, 0x5a), "output past the listing untouched");
+    expect(all(&work, sizeof work, 0), "work buffers cleared");
+}
+
+static void refused(struct tariff_returned r, uint32_t number, const char *what)
+{
+    expect(r.number == number && r.bytes == 0, what);
+    expect(all(out, sizeof out, 0x5a), "output untouched by a refusal");
+    expect(all(&work, sizeof work, number == TARIFF_WORK_SHORT ? 0xa5 : 0), "work buffers after a refusal");
+}
+
+int main(void)
+{
+    struct tariff_lengths lengths = tariff_lengths();
+    expect(lengths.lefts == TARIFF_LEFTS && lengths.rights == TARIFF_RIGHTS && lengths.index == TARIFF_INDEX
+            && lengths.pairs == TARIFF_PAIRS && lengths.terms == TARIFF_TERMS && lengths.runs == TARIFF_RUNS,
+        "the header's lengths are the library's");
+
+    listed(14, "complete pairs 3 rounds 1 size 4 mass 2\n" MERGED);
+    listed(13, "partial pairs 3 rounds 1 size 4 mass 2\n" MERGED);
+    listed(9, "partial pairs 3 rounds 0 size 6 mass 6\n" APART);
+    listed(2, "partial pairs 1 rounds 0 size 6 mass 6\n" APART);
+
+    soil();
+    refused(tariff_merge(image, sizeof image, 2, 3, 14,
+                work.lefts, TARIFF_LEFTS, work.rights, TARIFF_RIGHTS, work.index, TARIFF_INDEX,
+                work.pairs, TARIFF_PAIRS, work.terms, TARIFF_TERMS, work.runs, TARIFF_RUNS - 1,
+                out, sizeof out),
+        TARIFF_WORK_SHORT, "refusal 1: a work buffer one short");
+    soil();
+    refused(tariff_merge_in(&work, image, sizeof image - 1, 2, 3, 14, out, sizeof out), TARIFF_LENGTH, "refusal 2: a cut image");
+    soil();
+    refused(tariff_merge_in(&work, image, sizeof image, 2, 4, 14, out, sizeof out), TARIFF_QUERY, "refusal 11: class 4");
+    soil();
+    refused(tariff_merge_in(&work, image, sizeof image, 2, 3, 14, out, 93), TARIFF_OUTPUT_SHORT, "refusal 14: one byte too few");
+
+    uint8_t doubled[sizeof image];
+    memcpy(doubled, image, sizeof image);
+    doubled[76] = 5;
+    soil();
+    struct tariff_returned r = tariff_merge_in(&work, doubled, sizeof doubled, 2, 3, 14, out, sizeof out);
+    refused(r, TARIFF_LITERAL, "refusal 10: literal 5 in classes 0 and 1");
+    expect(r.class_number < 2, "refusal 10 with a class that holds the literal");
+
+    if (!failed)
+        puts("C interface: ok");
+    return failed;
+}

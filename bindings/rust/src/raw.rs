@@ -1,0 +1,125 @@
+// SPDX-License-Identifier: Apache-2.0
+//! The C interface as it is, and one set of buffers for it.
+
+/// How many numbers each work buffer has at least.
+pub const LEFTS: usize = 4_096;
+pub const RIGHTS: usize = 4_096;
+pub const INDEX: usize = 65_536;
+pub const PAIRS: usize = 24_576;
+pub const TERMS: usize = 69_634;
+pub const RUNS: usize = 65_536;
+
+/// What a call may need of its thread's stack: the listing is written by recursion.
+pub const STACK: usize = 4 << 20;
+
+/// 0 with the listing's length, or a refusal's number; with 10 a class.
+#[repr(C)]
+#[derive(Clone, Copy, Debug, PartialEq, Eq)]
+pub struct Returned {
+    pub number: u32,
+    pub bytes: usize,
+    pub class: usize,
+}
+
+#[repr(C)]
+#[derive(Clone, Copy, Debug, PartialEq, Eq)]
+pub struct Lengths {
+    pub lefts: usize,
+    pub rights: usize,
+    pub index: usize,
+    pub pairs: usize,
+    pub terms: usize,
+    pub runs: usize,
+}
+
+unsafe extern "C" {
+    /// The lengths above, as the library has them.
+    pub safe fn tariff_lengths() -> Lengths;
+
+    /// Each pointer is valid for as many elements as the length after it says, no two
+    /// overlap, and the thread has [`STACK`] bytes of stack left.
+    pub fn tariff_merge(
+        image: *const u8,
+        image_bytes: usize,
+        left: u16,
+        right: u16,
+        budget: u32,
+        lefts: *mut u16,
+        lefts_length: usize,
+        rights: *mut u16,
+        rights_length: usize,
+        index: *mut u16,
+        index_length: usize,
+        pairs: *mut u32,
+        pairs_length: usize,
+        terms: *mut u32,
+        terms_length: usize,
+        runs: *mut u64,
+        runs_length: usize,
+        out: *mut u8,
+        out_bytes: usize,
+    ) -> Returned;
+}
+
+/// The buffers of one call after another.
+pub struct Work {
+    lefts: Box<[u16]>,
+    rights: Box<[u16]>,
+    index: Box<[u16]>,
+    pairs: Box<[u32]>,
+    terms: Box<[u32]>,
+    runs: Box<[u64]>,
+    out: Box<[u8]>,
+}
+
+impl Work {
+    pub fn new(output: usize) -> Work {
+        Work {
+            lefts: vec![0; LEFTS].into(),
+            rights: vec![0; RIGHTS].into(),
+            index: vec![0; INDEX].into(),
+            pairs: vec![0; PAIRS].into(),
+            terms: vec![0; TERMS].into(),
+            runs: vec![0; RUNS].into(),
+            out: vec![0; output].into(),
+        }
+    }
+
+    /// The output buffer: after a call that returned 0, the listing is its first bytes.
+    pub fn output(&self) -> &[u8] {
+        &self.out
+    }
+
+    /// One call in these buffers.
+    ///
+    /// # Safety
+    ///
+    /// The calling thread has [`STACK`] bytes of stack left.
+    pub unsafe fn merge(&mut self, image: &[u8], left: u16, right: u16, budget: u32) -> Returned {
+        // SAFETY: each pointer and length is a slice's own; the mutable ones are seven boxes
+        // of `self`, so that none overlaps another or `image`; the stack is the caller's promise.
+        unsafe {
+            tariff_merge(
+                image.as_ptr(),
+                image.len(),
+                left,
+                right,
+                budget,
+                self.lefts.as_mut_ptr(),
+                self.lefts.len(),
+                self.rights.as_mut_ptr(),
+                self.rights.len(),
+                self.index.as_mut_ptr(),
+                self.index.len(),
+                self.pairs.as_mut_ptr(),
+                self.pairs.len(),
+                self.terms.as_mut_ptr(),
+                self.terms.len(),
+                self.runs.as_mut_ptr(),
+                self.runs.len(),
+                self.out.as_mut_ptr(),
+                self.out.len(),
+            )
+        }
+    }
+}

@@ -1,0 +1,80 @@
+-- From the contract of `merge` to that of the C interface, case by case.
+use mathlib.Core.Path.{_≡_, refl, sym, _∙_}
+use mathlib.Core.Logic.{inl, inr}
+use mathlib.Core.Bool.{Bool, true}
+use mathlib.Core.List.{List}
+use Prim.Native.Nat.{ℕ, _≤_}
+use native.Mathlib.Omega.{arith}
+use lib.ListN.{length}
+use borrow.Author.Tests.{ne-eqb}
+use Rattle.spec.specs.Bytes.{refused}
+use Rattle.spec.specs.Image.{tablesOf}
+use Rattle.spec.specs.Merge.{mergeOf}
+use Rattle.laws.specs.Accepted as A
+use Rattle.lgg.specs.Results.{refused-ok, refused-inj}
+use Rattle.lgg.specs.Demand3 as D
+use Rattle.au.specs.declared.Answer.{Answer}
+use Rattle.au.specs.declared.Answer.the-variants.{Listing, Refused, Doubled}
+use Rattle.au.specs.Merges.{fitOf, Merges}
+use Rattle.demands.specs.Calls.{Way, short, unsound, outside, stopped, over, listed, way}
+use Rattle.tariff.specs.declared.Returned.{Returned}
+use Rattle.tariff.specs.Returns.{returnedOf, Returns, lengths}
+
+-- a refusal's number is 1 to 14
+pub number : (fit : Bool) (image : List ℕ) (left right budget room k : ℕ) → mergeOf fit image left right budget room ≡ refused k → (1 ≤ k) × (k ≤ 14)
+number fit image left right budget room k q = go (way fit image left right budget room)
+  where
+    same : (j : ℕ) → mergeOf fit image left right budget room ≡ refused j → j ≡ k
+    same j e = refused-inj (sym e ∙ q)
+
+    from : (j : ℕ) → mergeOf fit image left right budget room ≡ refused j → 1 ≤ j → j ≤ 14 → (1 ≤ k) × (k ≤ 14)
+    from j e a b = let z = same j e in (omega arith, omega arith)
+
+    go : Way fit image left right budget room (mergeOf fit image left right budget room) → (1 ≤ k) × (k ≤ 14)
+    go (short e f) = from 1 e (omega arith) (omega arith)
+    go (unsound j e f g) = let z = A.refused-in-its-case image j .0 g in from j e (omega (arith, z .0)) (omega (arith, z .1))
+    go (outside e f g h) = from 11 e (omega arith) (omega arith)
+    go (stopped j e T f) =
+        let (n, c, _) = D.pair-count (tablesOf image) (left, right) in
+        elim (D.refused-by (tablesOf image) (left, right) n c budget j f) [ inl x ↦ let z = x .0 in from j e (omega arith) (omega arith) | inr x ↦ from j e (omega arith) (omega arith) ]
+    go (over o e T f h) = from 14 e (omega arith) (omega arith)
+    go (listed o e T f h) = absurd (refused-ok (sym q ∙ e))
+
+-- each case's numbers say what the case says
+pub returns-of : (image : List ℕ) (left right budget : ℕ) (fit : Bool) (out out′ : List ℕ) (a : Answer) → Merges image left right budget fit out out′ a → Returns image left right budget fit out out′ (returnedOf a)
+returns-of image left right budget fit out out′ (Listing n) m = record {
+  result = m .answer;
+  output = m .output;
+  room = m .carries;
+  table = omega arith;
+  doubled = λ e. absurd (omega arith);
+  no-listing = λ e. absurd (e refl);
+  no-class = λ e. refl;
+}
+returns-of image left right budget fit out out′ (Refused k) m =
+    let (a, b) = number fit image left right budget (length out) k (sym (m .answer)) in
+    record {
+      result = rw (ne-eqb k 0 (λ e. absurd (omega arith))) (m .answer);
+      output = m .output;
+      room = omega arith;
+      table = b;
+      doubled = λ e. absurd (m .carries e);
+      no-listing = λ e. refl;
+      no-class = λ e. refl;
+    }
+returns-of image left right budget fit out out′ (Doubled c) m = record {
+  result = m .answer;
+  output = m .output;
+  room = omega arith;
+  table = omega arith;
+  doubled = λ e. m .carries;
+  no-listing = λ e. refl;
+  no-class = λ e. absurd (e refl);
+}
+
+pub returns-as : (image : List ℕ) (left right budget : ℕ) (fit : Bool) (out out′ : List ℕ) (a : Answer) (r : Returned) → r ≡ returnedOf a → Merges image left right budget fit out out′ a → Returns image left right budget fit out out′ r
+returns-as image left right budget fit out out′ a r e m = rw e (returns-of image left right budget fit out out′ a m)
+
+-- buffers of these lengths are never refused
+pub lengths-fit : fitOf 4096 (lengths .lefts) (lengths .rights) (lengths .index) (lengths .pairs) (lengths .terms) (lengths .runs) ≡ true
+lengths-fit = refl

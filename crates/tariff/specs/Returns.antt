@@ -1,0 +1,44 @@
+-- What a call with the C interface returns: each case of the answer as numbers.
+use mathlib.Core.Path.{_≡_}
+use mathlib.Core.Logic.{_≢_}
+use mathlib.Core.Bool.{Bool}
+use mathlib.Core.List.{List}
+use Prim.Native.Nat.{ℕ, _≤_}
+use lib.Dec.{eqb}
+use lib.ListN.{length, take}
+use Rattle.spec.specs.Bytes.{pick, Res, ok, refused}
+use Rattle.spec.specs.Image.{tablesOf}
+use Rattle.spec.specs.Merge.{mergeOf, outputAfter}
+use Rattle.spec.specs.Meaning.{HoldsDoubled}
+use Rattle.au.specs.declared.Answer.{Answer}
+use Rattle.au.specs.declared.Answer.the-variants.{Listing, Refused, Doubled}
+use Rattle.tariff.specs.declared.Returned.{Returned}
+use Rattle.tariff.specs.declared.Lengths.{Lengths}
+
+-- "When an answer is an enum, a definition provides this paper's number and values for each of the enum's cases": 0 for a listing.
+abbrev pub returnedOf : Answer → Returned
+returnedOf (Listing n) = record { number = 0; bytes = n; class = 0 }
+returnedOf (Refused k) = record { number = k; bytes = 0; class = 0 }
+returnedOf (Doubled c) = record { number = 10; bytes = 0; class = c }
+
+-- What the numbers say: the listing, that is the first bytes of the output buffer afterwards, or the refusal.
+abbrev pub resultOf : List ℕ → Returned → Res (List ℕ)
+resultOf out r = pick (eqb (r .number) 0) (ok (take (r .bytes) out)) (refused (r .number))
+
+-- `fit`: no work buffer is below its constant length; `out`, `out′`: the output buffer before and after the call.
+pub record Returns (image : List ℕ) (left right budget : ℕ) (fit : Bool) (out out′ : List ℕ) (r : Returned) : Type 0 where
+  pub result : resultOf out′ r ≡ mergeOf fit image left right budget (length out)
+  pub output : out′ ≡ outputAfter out (mergeOf fit image left right budget (length out))
+  -- the listing's bytes are all in the output buffer
+  pub room : r .bytes ≤ length out′
+  -- the table of refusals, without those of the transport alone
+  pub table : r .number ≤ 14
+  -- "10, with a class": "the class is one that holds it". Which one is open.
+  pub doubled : r .number ≡ 10 → HoldsDoubled (tablesOf image) (r .class)
+  -- what says nothing is 0
+  pub no-listing : r .number ≢ 0 → r .bytes ≡ 0
+  pub no-class : r .number ≢ 10 → r .class ≡ 0
+
+-- The constant lengths of the work buffers (docs/BUFFERS.md).
+abbrev pub lengths : Lengths
+lengths = record { lefts = 4096; rights = 4096; index = 65536; pairs = 24576; terms = 69634; runs = 65536 }
