@@ -16,7 +16,7 @@ use Rattle.lgg.specs.Results.{refused-inj, refused-ok, bind-refused}
 use Rattle.lgg.specs.Graph.{Some, build-refused}
 
 -- where it is refused, it is by 13
-abbrev Only13 : {A : Type 0} → Res A → Type 0
+abbrev pub Only13 : {A : Type 0} → Res A → Type 0
 Only13 r = (k : ℕ) → r ≡ refused k → k ≡ 13
 
 only-ok : {A : Type 0} (a : A) → Only13 (ok a)
@@ -53,7 +53,7 @@ best-only (suc f) t p c = go (eqb (kindOf t (m .op)) Lit) (λ q d. best-only f t
     go true ih = intern-only p (litNode (m .op) (m .value))
     go false ih = only-bind (childTerms (bestTermIn f t) p (childrenOf t m)) _ (child-only (bestTermIn f t) ih p (childrenOf t m)) (λ k. intern-only (k .pool) (opNode (m .op) (k .runs)))
 
-start-only : (t : Tables) (p : Pool) (c : Two) → Only13 (startingTerm t p c)
+pub start-only : (t : Tables) (p : Pool) (c : Two) → Only13 (startingTerm t p c)
 unfolding startingTerm
 start-only t p c = go (eqb (c .0) (c .1))
   where
@@ -63,7 +63,7 @@ start-only t p c = go (eqb (c .0) (c .1))
         only-bind (bestTerm t p (c .0)) _ (best-only (bestSize t (c .0)) t p (c .0))
         (λ a. only-bind (bestTerm t (a .pool) (c .1)) _ (best-only (bestSize t (c .1)) t (a .pool) (c .1)) (λ b. intern-only (b .pool) (variantsNode (a .term) (b .term))))
 
-starting-only : (t : Tables) (cs : List Two) (b : ℕ) (p : Pool) → Only13 (startingTerms t cs b p)
+pub starting-only : (t : Tables) (cs : List Two) (b : ℕ) (p : Pool) → Only13 (startingTerms t cs b p)
 unfolding startingTerms
 starting-only t [] b p = only-ok (passed (record { pool = p; terms = [] }) b)
 starting-only t (c ∷ cs) zero p = only-ok cutShort
@@ -71,12 +71,12 @@ starting-only t (c ∷ cs) (suc b) p =
     only-bind (startingTerm t p c) _ (start-only t p c) (λ a. only-bind (startingTerms t cs b (a .pool)) _ (starting-only t cs b (a .pool)) (λ r. only-ok (prepend (a .term) r)))
 
 -- ---- rounds
-choice-only : (t : Tables) (of : Two → ℕ) (p : Pool) (old : ℕ) (c : Choice) → Only13 (choiceTerm t of p old c)
+pub choice-only : (t : Tables) (of : Two → ℕ) (p : Pool) (old : ℕ) (c : Choice) → Only13 (choiceTerm t of p old c)
 unfolding choiceTerm actionTerm
 choice-only t of p old stay = only-ok (interned p old)
 choice-only t of p old (act o ps x) = intern-only p (opNode o (pick (isCommutative (kindOf t o)) (sortRuns p (planRuns of ps x)) (planRuns of ps x)))
 
-turns-only : (t : Tables) (of : Two → ℕ) (ps : List Two) (ws : List Turn) (b : ℕ) (p : Pool) → Only13 (turnsTerms t of ps ws b p)
+pub turns-only : (t : Tables) (of : Two → ℕ) (ps : List Two) (ws : List Turn) (b : ℕ) (p : Pool) → Only13 (turnsTerms t of ps ws b p)
 unfolding turnsTerms
 turns-only t of [] ws b p = only-ok (passed (record { pool = p; terms = [] }) b)
 turns-only t of (c ∷ ps) [] b p = only-ok (passed (record { pool = p; terms = [] }) b)
@@ -89,7 +89,7 @@ unfolding roundTerms
 round-only t ps s ws zero = only-ok cutShort
 round-only t ps s ws (suc b) = turns-only t (lookUp 0 ps (s .terms)) ps ws b (s .pool)
 
-rounds-only : (f : ℕ) (t : Tables) (ps : List Two) (s : State) → Only13 (roundsFrom f t ps s)
+pub rounds-only : (f : ℕ) (t : Tables) (ps : List Two) (s : State) → Only13 (roundsFrom f t ps s)
 unfolding roundsFrom afterRound
 rounds-only zero t ps s = only-ok (outcome false ps s)
 rounds-only (suc f) t ps s = only-bind (roundTerms t ps s ws (s .budget)) _ (round-only t ps s ws (s .budget)) (λ r. go r (λ u. rounds-only f t ps u))

@@ -1,21 +1,19 @@
 -- Each way out of the public solver.
 use mathlib.Core.Path.{_≡_, refl, sym, ap, _∙_}
 use mathlib.Core.Bool.{Bool, true, false}
-use mathlib.Core.List.{List, [], _∷_, _++_}
+use mathlib.Core.List.{List}
 use mathlib.Core.Option.{Option, none, some}
-use Prim.Native.Nat.{ℕ, zero, suc, _+_, _-_, _*_, _^_, _≤_, _<_}
+use Prim.Native.Nat.{ℕ, _+_, _-_, _*_, _^_, _≤_, _<_}
 use native.Mathlib.Nat.{zero-add}
 use native.Mathlib.Decide.{ℕ-discrete}
 use native.Mathlib.Omega.{arith}
-use native.Mathlib.Numerals.{add-one}
-use borrow.Author.Tests.{le-leb, lt-leb, eq-eqb, ne-eqb}
+use borrow.Author.Tests.{le-leb, lt-leb}
 use lib.Dec.{T, leb, eqb, leb→le, eqb→eq}
-use lib.ListN.{length, getD, set, take, drop, replicate, length-replicate}
+use lib.ListN.{length, getD, set, take, replicate, length-replicate}
 use lib.Seq.{getD-take, length-take-le, getD-set-same, getD-set-other, ext-getD}
-use Rattle.spec.specs.Bytes.{both, Res, ok, refused, sumTo, workAfter}
+use Rattle.spec.specs.Bytes.{both, ok, sumTo, workAfter}
 use Rattle.spec.specs.Meaning.{Plan}
-use Rattle.spec.specs.Transport.{Problem, Solution, rowsOf, colsOf, supplyAt, moved, rowFlow, solveCells, solvedBy, planSize, planMass, planAfter, solveTransport, shapeRight}
-use Rattle.wide.specs.declared.Wide.{Wide}
+use Rattle.spec.specs.Transport.{solveCells, solvedBy, planSize, planMass, planAfter}
 use Rattle.wide.specs.Value.{unsigned}
 use Rattle.wide.specs.Wrap.{Natural}
 use Rattle.flow.specs.Sums.{sum-term}
@@ -30,7 +28,7 @@ use Rattle.transport.specs.Cells.{cellsFrom, problemOf, totalFrom}
 use Rattle.transport.specs.Solved.{Shaped, PlanIn, isPlan, Emptied}
 use Rattle.transport.specs.Public.{told, totalsOf, shapeOf, shapedOf, transportOf, Told}
 use Rattle.transport.proofs.CellLaws.{size-total, mass-total}
-use Rattle.transport.proofs.Augments.{place-of}
+use Rattle.transport.specs.SolvedLaws.{place-of}
 
 module _ (supply demand sizes masses flags plan : List ℕ) where
   abbrev shape : Bool

@@ -5,31 +5,32 @@ use mathlib.Core.Bool.{Bool, true, false}
 use mathlib.Core.List.{List, [], _∷_}
 use mathlib.Core.Option.{Option, none, some}
 use Prim.Native.Nat.{ℕ, zero, suc, _+_, _-_, _*_, _^_, _≤_, _<_, min}
-use native.Mathlib.Nat.{zero-add}
-use native.Mathlib.Decide.{ℕ-discrete, decLt}
+use native.Mathlib.Decide.{ℕ-discrete}
 use native.Mathlib.Omega.{arith}
-use borrow.Author.Tests.{eq-eqb, ne-eqb}
-use lib.Dec.{eqb}
+use borrow.Author.Tests.{ne-eqb}
 use lib.IntN.{ℤ, pos}
 use lib.Arith.{digits-lt}
 use lib.ListN.{length, getD, set, length-set}
 use lib.Seq.{getD-set-same, getD-set-other}
-use Rattle.spec.specs.Bytes.{pick, sumTo, sum, Two}
-use Rattle.spec.specs.Transport.{Problem, Search, weight, rowsOf, colsOf, nodeCount, sink, nodeOf, source, row, column, target, residual, capacity, moved, rowFlow, colFlow, supplyAt, demandAt, allowed, cellAt, searched, found, walkBack, bottleneck, shift, push}
+use Rattle.spec.specs.Bytes.{pick, Two}
+use Rattle.spec.specs.Transport.{Problem, weight, rowsOf, colsOf, nodeCount, sink, nodeOf, source, row, column, target, residual, capacity, moved, rowFlow, colFlow, supplyAt, demandAt, allowed, cellAt, searched, found, walkBack, bottleneck, shift, push}
 use Rattle.flow.specs.Sums.{sum-cong}
 use Rattle.flow.specs.Network.{NodeIs, isSource, isRow, isColumn, isSink, view, node-row, node-column, node-sink, rowFlow-is, colFlow-is}
 use Rattle.flow.specs.Search.{labelAt, predAt, residualOf, AtRest, none-some, true-false, status}
 use Rattle.flow.specs.SearchEnds.{dearest, dear, searched-rests}
-use Rattle.flow.specs.AugmentingPath.{TightPath, end, step, next, Before, before, hops-lt, path, bottleneck-le}
+use Rattle.flow.specs.AugmentingPath.{TightPath, end, step, next, before, hops-lt, path, bottleneck-le}
 use Rattle.flow.specs.Augmentation.{Partial}
-use Rattle.flow.specs.Magnitude.{Small, total-lt}
+use Rattle.flow.specs.Magnitude.{Small}
 use Rattle.flow.specs.Solver.{pathOf, leastLeft, one-path}
-use Rattle.transport.specs.Net.{stateOf, predOf, capOf}
-use Rattle.transport.specs.Holds.{NetHolds, CostsHold, FlowHolds, MarginsHold, Ready, Found, Midway, Sent, stuck, along}
-use Rattle.transport.specs.Path.{walkNet, Leads, arrived, onward, Step, Steps, noStep, andStep, leftOn, leastOn, sentOn, sent, Low, Balanced, rowSum, columnSum}
-use Rattle.transport.proofs.Laws.{cells-fit}
+use Rattle.search.specs.Net.{predOf}
+use Rattle.search.specs.Holds.{NetHolds, CostsHold, FlowHolds, MarginsHold, Ready, Found}
+use Rattle.transport.specs.Sending.{Midway, Sent, stuck, along}
+use Rattle.transport.specs.SolvedLaws.{place-of}
+use Rattle.search.specs.Walk.{walkNet, Leads, arrived, onward}
+use Rattle.transport.specs.Path.{Step, Steps, noStep, andStep, leftOn, leastOn, sentOn, sent, Low, Balanced, rowSum, columnSum}
+use Rattle.search.specs.Fits.{cells-fit}
 use Rattle.transport.proofs.PathLaws.{left-source, left-row, left-sink, left-back, sent-source, sent-row, sent-sink, sent-back}
-use Rattle.transport.proofs.Visits.{few}
+use Rattle.search.specs.Fits.{few}
 
 -- ---- the four kinds of steps on a path
 pub data Kind (p : Problem) (a b : ℕ) : Type 0 where
@@ -187,14 +188,6 @@ module _ (p : Problem) (few′ : nodeCount p ≤ 132) (x : List ℕ) (I : Partia
     tight = path p (weight p) x (I .π) (I .pot) (searched p (weight p) x) rest k L
 
 -- ---- a plan so far: its cells are 32-bit numbers, and what is left at its margins
-pub place-of : (r c k : ℕ) → k < r * c → (i : ℕ) × (j : ℕ) × (i < r) × (j < c) × (k ≡ i * c + j)
-place-of zero c k h = absurd (omega arith)
-place-of (suc r) c k h = go (decLt k (r * c)) (λ l. place-of r c k l)
-  where
-    go : Dec (k < r * c) → (k < r * c → (i : ℕ) × (j : ℕ) × (i < r) × (j < c) × (k ≡ i * c + j)) → (i : ℕ) × (j : ℕ) × (i < suc r) × (j < c) × (k ≡ i * c + j)
-    go (yes l) ih = let (i, j, hi, hj, e) = ih l in (i, j, omega arith, hj, e)
-    go (no l) ih = (r, k - r * c, omega arith, omega (arith, l), omega (arith, l))
-
 module _ (p : Problem) (S : Small p) (x f : List ℕ) (I : Partial p (weight p) x) (F : FlowHolds p x f) where
   cap-low : (i j : ℕ) → capacity p i j ≤ supplyAt p i
   cap-low i j = go (allowed (cellAt p i j))

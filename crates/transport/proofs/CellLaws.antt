@@ -1,30 +1,30 @@
 -- The slices' problem read by cells, and one turn of each loop over cells.
 use mathlib.Core.Path.{_≡_, refl, sym, ap, _∙_}
-use mathlib.Core.Logic.{_≢_, _⊎_, inl, inr}
+use mathlib.Core.Logic.{_≢_}
 use mathlib.Core.Bool.{Bool, true, false}
-use mathlib.Core.List.{List, [], _∷_, map}
+use mathlib.Core.List.{List, map}
 use Prim.Native.Nat.{ℕ, zero, suc, _+_, _-_, _*_, _/_, _%_, _^_, _≤_, _<_, min, max}
-use native.Mathlib.Nat.{add-zero, zero-add, sub-zero, mul-le-mul}
+use native.Mathlib.Nat.{zero-add, sub-zero, mul-le-mul}
 use native.Mathlib.Decide.{ℕ-discrete}
 use native.Mathlib.Omega.{arith}
 use native.Mathlib.Numerals.{add-one}
 use lib.Dec.{eqb}
 use lib.Arith.{digits-lt, digits-div, digits-mod}
-use lib.IntN.{ℤ, pos, natAbs}
+use lib.IntN.{pos, natAbs}
 use lib.ListN.{length, getD, set, drop, length-set, drop-of-length-le}
-use lib.Seq.{getD-set-same, getD-set-other, drop-cons, ext-getD}
+use lib.Seq.{getD-set-same, getD-set-other, drop-cons}
 use Rattle.spec.specs.Bytes.{pick, sum}
-use Rattle.spec.specs.Transport.{Cell, cost, forbidden, Problem, sizeOf, massOf, allowed, cellCost, largest, weight, rowsOf, colsOf, cellAt, capacity, supplyAt, demandAt, planSize, planMass}
+use Rattle.spec.specs.Transport.{cost, forbidden, sizeOf, massOf, allowed, cellCost, largest, weight, planSize, planMass}
 use Rattle.wide.specs.declared.Wide.{Wide}
 use borrow.Author.Tests.{eq-eqb, ne-eqb}
 use Rattle.wide.specs.Value.{val, unsigned, weighOf}
 use Rattle.wide.specs.Bounds.{within-pos, weigh-pos, cost-lt}
-use Rattle.transport.proofs.Augments.{place-of}
+use Rattle.transport.specs.SolvedLaws.{place-of}
 use Rattle.wide.specs.Sign.{words-of, val-unsigned}
 use Rattle.wide.specs.Wrap.{Natural, addWords, add-natural}
-use Rattle.transport.specs.Net.{costOf, capOf}
-use Rattle.transport.specs.Holds.{CostsHold}
-use Rattle.transport.specs.Cells.{cellOf, cellsFrom, problemOf, ifAllowed, LaidTo, celled, totalFrom}
+use Rattle.search.specs.Net.{costOf, capOf}
+use Rattle.search.specs.Holds.{CostsHold}
+use Rattle.transport.specs.Cells.{cellOf, cellsFrom, cells-at, problemOf, ifAllowed, LaidTo, laidFrom, wordsOf, celled, totalFrom}
 
 -- ---- the sum of a list
 pub sum-start : (s : List ℕ) → 0 + sum (drop 0 s) ≡ sum s
@@ -39,17 +39,6 @@ unfolding sum
 sum-end s i t h e = let q : sum (drop i s) ≡ 0 = rw (drop-of-length-le s h) refl in omega arith
 
 module _ (sizes masses flags : List ℕ) where
-  pub cells-length : (n k : ℕ) → length (cellsFrom sizes masses flags n k) ≡ n
-  unfolding cellsFrom
-  cells-length zero k = refl
-  cells-length (suc n) k = ap suc (cells-length n (k + 1))
-
-  pub cells-at : (n k i : ℕ) → i < n → getD (cellsFrom sizes masses flags n k) i forbidden ≡ cellOf sizes masses flags (k + i)
-  unfolding cellsFrom
-  cells-at zero k i h = absurd (omega arith)
-  cells-at (suc n) k zero h = rw (add-zero k) refl
-  cells-at (suc n) k (suc i) h = let e : k + suc i ≡ k + 1 + i = omega arith in cells-at n (k + 1) i (omega arith) ∙ ap (cellOf sizes masses flags) (sym e)
-
   -- the largest mass
   pub largest-start : (n : ℕ) → max 0 (largest (map massOf (cellsFrom sizes masses flags (n - 0) 0))) ≡ largest (map massOf (cellsFrom sizes masses flags n 0))
   largest-start n = rw (sub-zero n) (omega arith)
@@ -170,6 +159,30 @@ laid-turn supply demand sizes masses flags c w g n d h L D = record {
     caps : (k : ℕ) → k < n + 1 → Dec (k ≡ n) → capOf (celled g n d (ifAllowed flags n (min (getD supply (n / c) 0) (getD demand (n % c) 0)))) k ≡ ifAllowed flags k (min (getD supply (k / c) 0) (getD demand (k % c) 0))
     caps k hk (yes e) = rw e (celled-cap g (L .size) n h d cap)
     caps k hk (no e) = celled-cap-off g (L .size) n h d cap k (omega arith) e ∙ L .caps k (omega arith)
+
+natural-words : (d : Wide) (x : ℕ) → Natural d x → d ≡ wordsOf x
+natural-words d x N = λ i. record { lo = low (d .lo) (d .hi) x (N .low) (N .is) i; hi = high (d .lo) (d .hi) x (N .low) (N .is) i }
+  where
+    low : (l h x : ℕ) → l < 2 ^ 64 → l + 2 ^ 64 * h ≡ x → l ≡ x % 2 ^ 64
+    low l h x a e = omega arith
+
+    high : (l h x : ℕ) → l < 2 ^ 64 → l + 2 ^ 64 * h ≡ x → h ≡ x / 2 ^ 64
+    high l h x a e = omega arith
+
+pub laid-first : (supply demand sizes masses flags : List ℕ) (c w n : ℕ) (g : List ℕ) → laidFrom supply demand sizes masses flags c w (n - 0) 0 g ≡ laidFrom supply demand sizes masses flags c w n 0 g
+laid-first supply demand sizes masses flags c w n g = ap (λ (m : ℕ). laidFrom supply demand sizes masses flags c w m 0 g) (sub-zero n)
+
+module _ (supply demand sizes masses flags : List ℕ) (c w n k : ℕ) (g : List ℕ) where
+  pub laid-go : k < n → (d : Wide) (cap : ℕ) → Natural d (ifAllowed flags k (getD sizes k 0 * w + getD masses k 0)) → cap ≡ ifAllowed flags k (min (getD supply (k / c) 0) (getD demand (k % c) 0))
+      → laidFrom supply demand sizes masses flags c w (n - k) k g ≡ laidFrom supply demand sizes masses flags c w (n - (k + 1)) (k + 1) (celled g k d cap)
+  unfolding laidFrom
+  laid-go h d cap N e =
+      let q : n - k ≡ suc (n - (k + 1)) = omega arith in
+      rw (q, e, natural-words d (ifAllowed flags k (getD sizes k 0 * w + getD masses k 0)) N) refl
+
+  pub laid-stop : n ≤ k → laidFrom supply demand sizes masses flags c w (n - k) k g ≡ g
+  unfolding laidFrom
+  laid-stop h = let q : n - k ≡ 0 = omega arith in rw q refl
 
 -- the costs of the slices' problem
 pub costs-hold : (supply demand sizes masses flags g : List ℕ) → length sizes ≡ length supply * length demand

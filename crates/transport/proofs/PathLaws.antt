@@ -1,21 +1,21 @@
 -- What the definitions of Path say in each case of the code, and one turn of each loop.
 use mathlib.Core.Path.{_≡_, refl, sym, ap, _∙_}
-use mathlib.Core.Logic.{_≢_, _⊎_, inl, inr}
 use mathlib.Core.List.{List, [], _∷_}
-use Prim.Native.Nat.{ℕ, zero, suc, _+_, _-_, _*_, _^_, _≤_, _<_, min}
+use Prim.Native.Nat.{ℕ, suc, _+_, _-_, _*_, _^_, _≤_, _<_, min}
 use native.Mathlib.Nat.{mul-le-mul}
-use native.Mathlib.Decide.{ℕ-discrete, decLt}
+use native.Mathlib.Decide.{ℕ-discrete, decLt, decLe}
 use mathlib.Core.Bool.{Bool, true, false}
 use lib.Dec.{eqb, leb}
 use native.Mathlib.Omega.{arith}
 use native.Mathlib.Numerals.{add-one}
 use borrow.Author.Tests.{le-leb, lt-leb, eq-eqb, ne-eqb}
-use lib.ListN.{length, getD, set, length-set}
-use lib.Seq.{getD-set-same, getD-set-other, set-out}
+use lib.ListN.{length, getD, set, drop, length-set}
+use lib.Seq.{getD-set-same, getD-set-other, set-out, drop-set-lt}
 use Rattle.spec.specs.Bytes.{pick, sumTo, Two}
 use lib.Arith.{digits-lt}
-use Rattle.transport.specs.Net.{predOf, capOf}
-use Rattle.transport.specs.Path.{stepsFrom, walkNet, Leads, arrived, onward, Step, Steps, noStep, andStep, leftOn, leastOn, sentOn, sent, Low, RowsLeft, ColumnsLeft, Balanced, rowSum, columnSum}
+use Rattle.search.specs.Net.{capOf}
+use Rattle.search.specs.Walk.{here, here-turn, here-end}
+use Rattle.transport.specs.Path.{Step, Steps, andStep, leftOn, leastOn, sentOn, sent, Low, RowsLeft, ColumnsLeft, Balanced, rowSum, columnSum}
 
 pub place-fits : (i j c : ℕ) → i < 65 → j < c → c ≤ 65 → i * c + j < 4225
 place-fits i j c a b d = omega (arith, mul-le-mul {n₁ = suc i} {m₁ = c} {n₂ = 65} {m₂ = 65} a d)
@@ -54,18 +54,7 @@ module _ (r c n u v : ℕ) (f : List ℕ) where
   unfolding sentOn
   sent-back a b e = rw (ne-eqb u 0 a, lt-leb u r b, ne-eqb v (1 + r + c) e) refl
 
--- ---- a loop along the path from place a on
-abbrev pub here : List ℕ → ℕ → List Two
-here path a = stepsFrom path (131 - a) a
-
-pub here-turn : (path : List ℕ) (a : ℕ) → a < 131 → here path a ≡ (getD path a 0, getD path (a + 1) 0) ∷ here path (a + 1)
-unfolding stepsFrom
-here-turn path a h = let e : 131 - a ≡ suc (131 - (a + 1)) = omega arith in rw e refl
-
-pub here-end : (path : List ℕ) (a : ℕ) → 131 ≤ a → here path a ≡ []
-unfolding stepsFrom
-here-end path a h = let e : 131 - a ≡ 0 = omega arith in rw e refl
-
+-- ---- a loop along the path
 pub steps-first : (r c : ℕ) (s : Two) (l : List Two) → Steps r c (s ∷ l) → Step r c (s .0) (s .1) × Steps r c l
 steps-first r c s l (andStep a b) = (a, b)
 
@@ -114,6 +103,26 @@ sent-more r c n u v f k = go (eqb u 0) (leb u r) (eqb v (1 + r + c))
     go false false true = omega arith
     go false false false = set-more f ((v - 1) * c + (u - 1 - r)) (getD f ((v - 1) * c + (u - 1 - r)) 0 - n) n k (omega arith)
 
+-- sending leaves what stands behind the plan's cells
+kept-on : (r c n u v : ℕ) (f : List ℕ) → Step r c u v → drop (r * c) (sentOn r c n u v f) ≡ drop (r * c) f
+kept-on r c n u v f S = go (ℕ-discrete u 0) (decLe u r) (ℕ-discrete v (1 + r + c))
+  where
+    go : Dec (u ≡ 0) → Dec (u ≤ r) → Dec (v ≡ 1 + r + c) → drop (r * c) (sentOn r c n u v f) ≡ drop (r * c) f
+    go (yes e) b d = ap (λ (l : List ℕ). drop (r * c) l) (sym (sent-source r c n u v f e))
+    go (no a) (yes b) d =
+        let t = S .fromRow (omega arith) b in
+        ap (λ (l : List ℕ). drop (r * c) l) (sym (sent-row r c n u v f a b)) ∙ drop-set-lt (r * c) f ((u - 1) * c + (v - 1 - r)) (getD f ((u - 1) * c + (v - 1 - r)) 0 + n) (digits-lt {q = u - 1} (omega arith) (omega arith))
+    go (no a) (no b) (yes d) = ap (λ (l : List ℕ). drop (r * c) l) (sym (sent-sink r c n u v f a (omega arith) d))
+    go (no a) (no b) (no d) =
+        let t = S .toRow (omega arith) d in
+        let h = S .fromColumn (omega arith) in
+        ap (λ (l : List ℕ). drop (r * c) l) (sym (sent-back r c n u v f a (omega arith) d)) ∙ drop-set-lt (r * c) f ((v - 1) * c + (u - 1 - r)) (getD f ((v - 1) * c + (u - 1 - r)) 0 - n) (digits-lt {q = v - 1} (omega arith) (omega arith))
+
+pub sent-kept : (r c n : ℕ) (l : List Two) (f : List ℕ) → Steps r c l → drop (r * c) (sent r c n l f) ≡ drop (r * c) f
+unfolding sent
+sent-kept r c n [] f S = refl
+sent-kept r c n (s ∷ l) f (andStep a b) = sent-kept r c n l (sentOn r c n (s .0) (s .1) f) b ∙ kept-on r c n (s .0) (s .1) f a
+
 pub room-next : (x y a n : ℕ) → a < 131 → y ≤ x + n → x + (131 - a) * n < 2 ^ 64 → y + (131 - (a + 1)) * n < 2 ^ 64
 room-next x y a n h l b = let e : 131 - a ≡ suc (131 - (a + 1)) = omega arith in let q : (131 - a) * n ≡ n + (131 - (a + 1)) * n = ap (λ (z : ℕ). z * n) e ∙ suc-times (131 - (a + 1)) n in omega arith
   where
@@ -125,63 +134,6 @@ room-here x a n h b = omega (arith, mul-le-mul {n₁ = 1} {m₁ = n} {n₂ = 131
 
 pub room-first : (x a n : ℕ) → x + 131 * n < 2 ^ 64 → x + (131 - a) * n < 2 ^ 64
 room-first x a n b = omega (arith, mul-le-mul {n₁ = 131 - a} {m₁ = n} {n₂ = 131} {m₂ = n} (omega arith) (omega arith))
-
--- ---- the walk back
-steps-off : (path : List ℕ) (i x : ℕ) → (n a : ℕ) → i < a → stepsFrom (set path i x) n a ≡ stepsFrom path n a
-unfolding stepsFrom
-steps-off path i x zero a h = refl
-steps-off path i x (suc n) a h = rw (getD-set-other path i a x 0 (omega arith), getD-set-other path i (a + 1) x 0 (omega arith), steps-off path i x n (a + 1) (omega arith)) refl
-
-pub leads-on : {m : List ℕ} {n v : ℕ} → Leads m n v → (v ≡ 0 → ⊥) → (v < 132) × ((k : ℕ) × (n ≡ suc k) × Leads m k (predOf m v))
-leads-on (arrived e) z = absurd (z e)
-leads-on (onward {n = k} a b l) z = (b, (k, refl, l))
-
-pub record Walking (m : List ℕ) (t : ℕ) (path : List ℕ) (at v : ℕ) : Type 0 where
-  pub low : at ≤ 131
-  pub size : length path ≡ 132
-  pub node : getD path at 0 ≡ v
-  pub leads : Leads m at v
-  pub rest : walkNet m at v (here path at) ≡ walkNet m 131 t []
-
-pub walk-start : (m path : List ℕ) (t : ℕ) → Leads m 131 t → length path ≡ 132 → Walking m t (set path 131 t) 131 t
-unfolding stepsFrom
-walk-start m path t l e = record { low = omega arith; size = length-set path 131 t ∙ e; node = getD-set-same path 131 t 0 (omega arith); leads = l; rest = refl }
-
-pub walk-facts : {m : List ℕ} {t : ℕ} {path : List ℕ} {at v : ℕ} → Walking m t path at v → (v ≡ 0 → ⊥) → (v < 132) × (0 < at)
-walk-facts W z = let (a, (k, e, l)) = leads-on (W .leads) z in (a, omega arith)
-
-pub walk-turn : (m : List ℕ) (t : ℕ) (path : List ℕ) (at v : ℕ) → Walking m t path at v → (v ≡ 0 → ⊥) → Walking m t (set path (at - 1) (predOf m v)) (at - 1) (predOf m v)
-unfolding walkNet
-walk-turn m t path at v W z = go (leads-on (W .leads) z)
-  where
-    go : (v < 132) × ((k : ℕ) × (at ≡ suc k) × Leads m k (predOf m v)) → Walking m t (set path (at - 1) (predOf m v)) (at - 1) (predOf m v)
-    go (a, (k, e, l)) =
-        let q : at - 1 ≡ k = omega arith in
-        rw q (record {
-          low = omega (arith, W .low);
-          size = length-set path k (predOf m v) ∙ W .size;
-          node = getD-set-same path k (predOf m v) 0 (omega (arith, W .low, W .size));
-          leads = l;
-          rest = rw (here-turn (set path k (predOf m v)) k (omega (arith, W .low)), getD-set-same path k (predOf m v) 0 (omega (arith, W .low, W .size)), getD-set-other path k (k + 1) (predOf m v) 0 (omega arith), steps-off path k (predOf m v) (131 - (k + 1)) (k + 1) (omega arith))
-              (tail k e);
-        })
-      where
-        tail : (k : ℕ) → at ≡ suc k → walkNet m k (predOf m v) ((predOf m v, getD path (k + 1) 0) ∷ here path (k + 1)) ≡ walkNet m 131 t []
-        tail k e =
-            let n : k + 1 ≡ at = omega arith in
-            let s : walkNet m (suc k) v (here path at) ≡ walkNet m k (predOf m v) ((predOf m v, v) ∷ here path at) = step (ne-eqb v 0 z) in
-            rw (n, W .node) (sym s ∙ ap (λ (o : ℕ). walkNet m o v (here path at)) (sym e) ∙ W .rest)
-          where
-            step : eqb v 0 ≡ false → walkNet m (suc k) v (here path at) ≡ walkNet m k (predOf m v) ((predOf m v, v) ∷ here path at)
-            step o = rw o refl
-
-pub walk-end : (m : List ℕ) (t : ℕ) (path : List ℕ) (at v : ℕ) → Walking m t path at v → v ≡ 0 → here path at ≡ walkNet m 131 t []
-unfolding walkNet
-walk-end m t path at v W z = sym (stop at) ∙ W .rest
-  where
-    stop : (n : ℕ) → walkNet m n v (here path at) ≡ here path at
-    stop zero = refl
-    stop (suc n) = rw (eq-eqb v 0 z) refl
 
 -- ---- the sums at the margins
 pub sum-turn : (f : List ℕ) (k d i : ℕ) → sumTo (i + 1) (λ j. getD f (k + j * d) 0) ≡ sumTo i (λ j. getD f (k + j * d) 0) + getD f (k + i * d) 0

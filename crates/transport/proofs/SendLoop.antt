@@ -1,20 +1,18 @@
 -- The loop over augmentations: what holds at its head, and the definition's answer at its end.
 use mathlib.Core.Path.{_≡_, refl, sym, ap, _∙_}
-use mathlib.Core.Bool.{Bool, true, false}
+use mathlib.Core.Bool.{true, false}
 use mathlib.Core.List.{List}
 use mathlib.Core.Option.{Option, none, some}
-use Prim.Native.Nat.{ℕ, zero, suc, _+_, _-_, _*_, _^_, _≤_, _<_}
-use native.Mathlib.Nat.{le-refl}
+use Prim.Native.Nat.{ℕ, zero, suc, _+_, _-_, _^_, _≤_, _<_}
 use native.Mathlib.Omega.{arith}
-use lib.IntN.{pos}
 use Rattle.spec.specs.Bytes.{sum}
-use Rattle.spec.specs.Transport.{Problem, weight, augment, searched, sink, push}
+use Rattle.spec.specs.Transport.{weight, augment, push}
 use Rattle.flow.specs.Sums.{listSum-is}
-use Rattle.flow.specs.Search.{labelAt}
 use Rattle.flow.specs.Augmentation.{Partial}
 use Rattle.flow.specs.Magnitude.{total-lt}
 use Rattle.flow.specs.Solver.{total-of, placed, pathOf, leastLeft, one-path, empty, start, start-placed, augment-zero, augment-done, augment-stuck, augment-more}
-use Rattle.transport.specs.Holds.{FlowHolds, Midway, Sent, stuck, along, Start, Answered, noPlan, plan}
+use Rattle.search.specs.Holds.{FlowHolds}
+use Rattle.transport.specs.Sending.{Midway, Sent, stuck, along, Start, Answered, noPlan, plan}
 
 module _ {r c : ℕ} {supply demand g f₀ : List ℕ} (S : Start r c supply demand g f₀) where
   abbrev answer : Option (List ℕ)

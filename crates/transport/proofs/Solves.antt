@@ -1,32 +1,38 @@
 -- The slices' problem is in place for the solver, and what the solver leaves is the definition's plan.
 use mathlib.Core.Path.{_≡_, refl, sym, ap, _∙_}
 use mathlib.Core.Bool.{Bool, true, false, not}
-use mathlib.Core.List.{List, [], map}
-use Rattle.transport.proofs.Laws.{cells-fit}
+use mathlib.Core.List.{List, _++_, map}
+use Rattle.search.specs.Fits.{cells-fit}
 use mathlib.Core.Option.{Option, none, some}
-use Prim.Native.Nat.{ℕ, zero, suc, _+_, _-_, _*_, _^_, _≤_, _<_}
-use native.Mathlib.Nat.{zero-add}
+use Prim.Native.Nat.{ℕ, _+_, _-_, _*_, _^_, _≤_, _<_}
+use native.Mathlib.Nat.{zero-add, zero-mul, mul-zero}
 use native.Mathlib.Decide.{ℕ-discrete, decLt}
 use native.Mathlib.Omega.{arith}
 use borrow.Author.Tests.{eq-eqb, ne-eqb}
 use lib.Dec.{eqb}
 use lib.IntN.{pos}
-use lib.ListN.{length, getD, set, take, replicate, length-set, List·getD-eq-default}
-use lib.Seq.{getD-set-same, getD-set-other, getD-take, ext-getD, length-take-le}
-use Rattle.spec.specs.Bytes.{pick, either, sum}
-use Rattle.spec.specs.Transport.{Cell, cost, forbidden, Problem, sizeOf, massOf, largest, weight, rowsOf, colsOf, augment, solveCells}
+use lib.ListN.{length, getD, set, take, drop, replicate, length-replicate, take-append-drop, List·getD-eq-default}
+use lib.Seq.{getD-set-same, getD-set-other, getD-take, ext-getD, length-take-le, take-at, drop-at}
+use Rattle.spec.specs.Bytes.{pick, either, both, sum}
+use Rattle.spec.specs.Transport.{cost, forbidden, Problem, sizeOf, massOf, largest, weight, rowsOf, colsOf, augment, solveCells}
 use Rattle.wide.specs.declared.Wide.{Wide}
 use Rattle.wide.specs.Value.{val, unsigned, weightOf}
 use Rattle.wide.specs.Bounds.{weight-lt}
-use Rattle.wide.specs.Wrap.{Natural}
+use Rattle.flow.specs.Search.{true-false}
 use Rattle.flow.specs.SearchEnds.{getD-same}
-use Rattle.flow.specs.Augmentation.{Partial}
 use Rattle.flow.specs.Magnitude.{Small}
 use Rattle.flow.specs.Solver.{empty}
-use Rattle.transport.specs.Holds.{FlowHolds, Start, Answered, noPlan, plan, CostsHold}
-use Rattle.transport.specs.Cells.{cellOf, cellsFrom, problemOf, LaidTo}
-use Rattle.transport.specs.Solved.{Shaped, PlanIn, isPlan, Emptied}
-use Rattle.transport.proofs.CellLaws.{cells-length, cells-at, costs-hold, natural-of}
+use Rattle.transport.specs.Sending.{Start, Answered, noPlan, plan}
+use Rattle.transport.specs.Cells.{cellOf, cellsFrom, cells-length, cells-at, problemOf, LaidTo, laidFrom}
+use Rattle.transport.specs.Solved.{Shaped, PlanIn, isPlan, Emptied, over, planOr0, flowAfter, tried, costsAfter, Solves}
+use Rattle.transport.proofs.CellLaws.{costs-hold, natural-of}
+
+-- ---- a buffer that begins with a list
+begins : (n : ℕ) (x f y : List ℕ) → length x ≡ n → take n y ≡ x → drop n y ≡ drop n f → y ≡ over x f
+begins n x f y l t d = sym (take-append-drop n y) ∙ (λ i. t i ++ d i) ∙ ap (λ (k : ℕ). x ++ drop k f) (sym l)
+
+zeros : (n : ℕ) (y f : List ℕ) → drop n y ≡ drop n f → over (replicate n 0) y ≡ over (replicate n 0) f
+zeros n y f d = rw (length-replicate {A = ℕ} n 0) (ap (λ (l : List ℕ). replicate n 0 ++ l) d)
 
 -- ---- the definition's cases
 by-no-row : (a b c : Bool) (o : Option (List ℕ)) → a ≡ true → _≡_ {A = Option (List ℕ)} (elim (either a (either b (not c))) [ true ↦ none | false ↦ o ]) none
@@ -70,21 +76,84 @@ module _ (p : Problem) where
       clash : true ≡ false → ⊥
       clash q = let z : _≡_ {A = ℕ} 0 1 = cc in omega arith
 
+  -- ---- the plan's buffer: what stands behind the cells is as it was
+  flow-none : (n : ℕ) (f f′ y : List ℕ) → n ≡ rowsOf p * colsOf p → solveCells p ≡ none → f′ ≡ over (replicate n 0) y → drop n y ≡ drop n f → f′ ≡ flowAfter p f
+  unfolding flowAfter
+  flow-none n f f′ y en e q d = rw (e, ← en) (q ∙ zeros n y f d)
+
+  flow-kept : (f : List ℕ) → rowsOf p * colsOf p ≡ 0 → solveCells p ≡ none → f ≡ flowAfter p f
+  unfolding flowAfter
+  flow-kept f en e = rw (e, en) refl
+
+  flow-plan : (f y : List ℕ) → PlanIn p true y → rowsOf p * colsOf p ≤ length y → drop (rowsOf p * colsOf p) y ≡ drop (rowsOf p * colsOf p) f → y ≡ flowAfter p f
+  unfolding flowAfter
+  flow-plan f y P l d = go (solveCells p) refl
+    where
+      go : (o : Option (List ℕ)) → solveCells p ≡ o → y ≡ over (planOr0 (rowsOf p * colsOf p) o) f
+      go none e = absurd (true-false (P .is ∙ ap isPlan e))
+      go (some x) e = begins (rowsOf p * colsOf p) x f y (sym (ap length (P .plan x e)) ∙ length-take-le (rowsOf p * colsOf p) y l) (P .plan x e) d
+
+-- ---- the costs' buffer
+by-no-side : (a b c : Bool) → a ≡ true → both (not a) (both (not b) c) ≡ false
+by-no-side a b c e = rw e refl
+
+by-no-other : (a b c : Bool) → b ≡ true → both (not a) (both (not b) c) ≡ false
+by-no-other true b c e = refl
+by-no-other false b c e = rw e refl
+
+by-odd : (a b c : Bool) → c ≡ false → both (not a) (both (not b) c) ≡ false
+by-odd true b c e = refl
+by-odd false true c e = refl
+by-odd false false c e = e
+
+by-both : (a b c : Bool) → a ≡ false → b ≡ false → c ≡ true → both (not a) (both (not b) c) ≡ true
+by-both a b c d e f = rw (d, e, f) refl
+
+module _ (supply demand sizes masses flags costs : List ℕ) where
+  costs-kept : tried supply demand ≡ false → costs ≡ costsAfter supply demand sizes masses flags costs
+  unfolding costsAfter
+  costs-kept e = rw e refl
+
+  costs-laid : 0 < length supply → 0 < length demand → sum supply ≡ sum demand → (w : ℕ) (g : List ℕ) → w ≡ weight (problemOf supply demand sizes masses flags)
+      → g ≡ laidFrom supply demand sizes masses flags (length demand) w (length sizes) 0 costs → g ≡ costsAfter supply demand sizes masses flags costs
+  unfolding costsAfter
+  costs-laid a b e w g ew q =
+      rw (by-both (eqb (length supply) 0) (eqb (length demand) 0) (eqb (sum supply) (sum demand)) (ne-eqb (length supply) 0 (λ z. absurd (omega arith))) (ne-eqb (length demand) 0 (λ z. absurd (omega arith))) (eq-eqb (sum supply) (sum demand) e), ← ew) q
+
 module _ (supply demand sizes masses flags costs flow : List ℕ) where
   abbrev problem : Problem
   problem = problemOf supply demand sizes masses flags
 
-  pub none-row : length supply ≡ 0 → (f : List ℕ) → PlanIn (problemOf supply demand sizes masses flags) false f
+  -- no search is tried
+  pub none-row : length supply ≡ 0 → Solves supply demand sizes masses flags costs flow costs flow false
   unfolding problemOf
-  none-row e f = none-in (problemOf supply demand sizes masses flags) f (no-row (problemOf supply demand sizes masses flags) e)
+  none-row e =
+      let q = no-row (problemOf supply demand sizes masses flags) e in
+      record {
+        is = sym (ap isPlan q);
+        flow = flow-kept (problemOf supply demand sizes masses flags) flow (ap (λ (n : ℕ). n * length demand) e ∙ zero-mul (length demand)) q;
+        costs = costs-kept supply demand sizes masses flags costs (by-no-side (eqb (length supply) 0) (eqb (length demand) 0) (eqb (sum supply) (sum demand)) (eq-eqb (length supply) 0 e));
+      }
 
-  pub none-column : length demand ≡ 0 → (f : List ℕ) → PlanIn (problemOf supply demand sizes masses flags) false f
+  pub none-column : length demand ≡ 0 → Solves supply demand sizes masses flags costs flow costs flow false
   unfolding problemOf
-  none-column e f = none-in (problemOf supply demand sizes masses flags) f (no-column (problemOf supply demand sizes masses flags) e)
+  none-column e =
+      let q = no-column (problemOf supply demand sizes masses flags) e in
+      record {
+        is = sym (ap isPlan q);
+        flow = flow-kept (problemOf supply demand sizes masses flags) flow (ap (λ (n : ℕ). length supply * n) e ∙ mul-zero (length supply)) q;
+        costs = costs-kept supply demand sizes masses flags costs (by-no-other (eqb (length supply) 0) (eqb (length demand) 0) (eqb (sum supply) (sum demand)) (eq-eqb (length demand) 0 e));
+      }
 
-  pub none-uneven : (sum supply ≡ sum demand → ⊥) → (f : List ℕ) → PlanIn (problemOf supply demand sizes masses flags) false f
+  pub none-uneven : length sizes ≡ length supply * length demand → (sum supply ≡ sum demand → ⊥) → (f : List ℕ) → f ≡ over (replicate (length sizes) 0) flow → Solves supply demand sizes masses flags costs flow costs f false
   unfolding problemOf
-  none-uneven e f = none-in (problemOf supply demand sizes masses flags) f (uneven (problemOf supply demand sizes masses flags) e)
+  none-uneven l e f ef =
+      let q = uneven (problemOf supply demand sizes masses flags) e in
+      record {
+        is = sym (ap isPlan q);
+        flow = flow-none (problemOf supply demand sizes masses flags) (length sizes) flow f flow l q ef refl;
+        costs = costs-kept supply demand sizes masses flags costs (by-odd (eqb (length supply) 0) (eqb (length demand) 0) (eqb (sum supply) (sum demand)) (ne-eqb (sum supply) (sum demand) e));
+      }
 
   module _ (Z : Shaped supply demand sizes masses flags costs flow) where
     pub small : ((i : ℕ) → getD supply i 0 < 2 ^ 32) → ((i : ℕ) → getD sizes i 0 < 2 ^ 32) → ((i : ℕ) → getD masses i 0 < 2 ^ 32) → Small (problemOf supply demand sizes masses flags)
@@ -133,6 +202,11 @@ module _ (supply demand sizes masses flags costs flow : List ℕ) where
         weighs : w ≡ sum supply * largest (map massOf (cellsFrom sizes masses flags (length sizes) 0)) + 1
         weighs = u ∙ (λ i. e i * (q ∙ ap (λ (n : ℕ). largest (map massOf (cellsFrom sizes masses flags n 0))) same) i + 1)
 
+    -- the weight that the code works out is the definition's
+    pub weight-same : (f v w : ℕ) → f ≡ sum supply → v ≡ largest (map massOf (cellsFrom sizes masses flags (length masses) 0)) → w ≡ f * v + 1 → w ≡ weight (problemOf supply demand sizes masses flags)
+    unfolding problemOf weight
+    weight-same f v w e q u = u ∙ (λ i. e i * (q ∙ ap (λ (n : ℕ). largest (map massOf (cellsFrom sizes masses flags n 0))) (Z .massesLong ∙ sym (Z .sizesLong))) i + 1)
+
     pub start-problem : (S : Small (problemOf supply demand sizes masses flags)) (f w : ℕ) (g y : List ℕ) (e : f ≡ sum supply) (v : ℕ) (q : v ≡ largest (map massOf (cellsFrom sizes masses flags (length masses) 0))) (u : w ≡ f * v + 1)
         (L : LaidTo supply demand sizes masses flags (length demand) w g (length supply * length demand)) (E : Emptied y (length sizes)) → start-of S f w g y e v q u L E .p ≡ problemOf supply demand sizes masses flags
     unfolding start-of
@@ -165,7 +239,43 @@ module _ (supply demand sizes masses flags costs flow : List ℕ) where
                 cell : (k : ℕ) → k < rowsOf (S .p) * colsOf (S .p) → getD (take (rowsOf (S .p) * colsOf (S .p)) y) k 0 ≡ getD x k 0
                 cell k hk = getD-take (rowsOf (S .p) * colsOf (S .p)) y k 0 hk ∙ F k hk
 
+-- ---- the two ends of a search that is tried
+module _ (supply demand sizes masses flags costs flow : List ℕ) (Z : Shaped supply demand sizes masses flags costs flow) (hr : 0 < length supply) (hc : 0 < length demand) (ev : sum supply ≡ sum demand)
+    (w : ℕ) (g : List ℕ) (ew : w ≡ weight (problemOf supply demand sizes masses flags)) (eg : g ≡ laidFrom supply demand sizes masses flags (length demand) w (length sizes) 0 costs)
+    (y : List ℕ) (rest : drop (length supply * length demand) y ≡ drop (length supply * length demand) flow) where
+  pub solved-plan : 4225 ≤ length y → PlanIn (problemOf supply demand sizes masses flags) true y → Solves supply demand sizes masses flags costs flow g y true
+  unfolding problemOf
+  solved-plan l P = record {
+    is = P .is;
+    flow = flow-plan (problemOf supply demand sizes masses flags) flow y P (omega (arith, l, cells-fit (length supply) (length demand) (Z .rows) (Z .columns))) rest;
+    costs = costs-laid supply demand sizes masses flags costs hr hc ev w g ew eg;
+  }
+
+  pub solved-none : (f : List ℕ) → f ≡ over (replicate (length sizes) 0) y → PlanIn (problemOf supply demand sizes masses flags) false y → Solves supply demand sizes masses flags costs flow g f false
+  unfolding problemOf
+  solved-none f ef P = record {
+    is = P .is;
+    flow = flow-none (problemOf supply demand sizes masses flags) (length sizes) flow f y (Z .sizesLong) (none-of (solveCells (problemOf supply demand sizes masses flags)) (P .is)) ef (rw (Z .sizesLong) rest);
+    costs = costs-laid supply demand sizes masses flags costs hr hc ev w g ew eg;
+  }
+    where
+      none-of : (o : Option (List ℕ)) → false ≡ isPlan o → o ≡ none
+      none-of none e = refl
+      none-of (some x) e = absurd (true-false (sym e))
+
 -- ---- the small loops
+pub emptied-over : (f f′ : List ℕ) (n : ℕ) → n ≤ length f′ → Emptied f′ n → drop n f′ ≡ drop n f → f′ ≡ over (replicate n 0) f
+emptied-over f f′ n l E d = begins n (replicate n 0) f f′ (length-replicate {A = ℕ} n 0) (ext-getD 0 (take n f′) (replicate n 0) (length-take-le n f′ l ∙ sym (length-replicate {A = ℕ} n 0)) (λ k hk. cell k (rw (length-take-le n f′ l) at hk))) d
+  where
+    cell : (k : ℕ) → k < n → getD (take n f′) k 0 ≡ getD (replicate n 0) k 0
+    cell k hk = getD-take n f′ k 0 hk ∙ E k hk ∙ sym (getD-same n k 0)
+
+pub over-emptied : (f f′ : List ℕ) (n : ℕ) → f′ ≡ over (replicate n 0) f → Emptied f′ n
+over-emptied f f′ n e k hk = rw e (sym (getD-take n (over (replicate n 0) f) k 0 hk) ∙ ap (λ (l : List ℕ). getD l k 0) (take-at (replicate n 0) (drop (length (replicate n 0)) f) n (length-replicate {A = ℕ} n 0)) ∙ getD-same n k 0)
+
+pub over-rest : (f f′ : List ℕ) (n : ℕ) → f′ ≡ over (replicate n 0) f → drop n f′ ≡ drop n f
+over-rest f f′ n e = ap (λ (l : List ℕ). drop n l) e ∙ drop-at (replicate n 0) (drop (length (replicate n 0)) f) n (length-replicate {A = ℕ} n 0) ∙ ap (λ (k : ℕ). drop k f) (length-replicate {A = ℕ} n 0)
+
 pub emptied-next : (f : List ℕ) (n : ℕ) → n < length f → Emptied f n → Emptied (set f n 0) (n + 1)
 emptied-next f n h E k hk = go (ℕ-discrete k n)
   where

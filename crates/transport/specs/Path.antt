@@ -1,27 +1,11 @@
--- The path found by a search: the walk back, what is left along it, and the units sent; on plain lists in the code's shape.
--- The path: up to 132 nodes at the end of a list of 132, the sink last.
+-- The path found by a search: what is left along it, and the units sent; on plain lists in the code's shape.
 use mathlib.Core.Path.{_≡_}
 use mathlib.Core.List.{List, [], _∷_}
-use Prim.Native.Nat.{ℕ, zero, suc, _+_, _-_, _*_, _^_, _≤_, _<_, min}
+use Prim.Native.Nat.{ℕ, _+_, _-_, _*_, _^_, _≤_, _<_, min}
 use lib.Dec.{leb, eqb}
 use lib.ListN.{length, getD, set}
 use Rattle.spec.specs.Bytes.{pick, sumTo, Two}
-use Rattle.transport.specs.Net.{predOf, capOf}
-
--- n steps (from, to) from place a on
-unfoldable pub stepsFrom : List ℕ → ℕ → ℕ → List Two
-stepsFrom path zero a = []
-stepsFrom path (suc n) a = (getD path a 0, getD path (a + 1) 0) ∷ stepsFrom path n (a + 1)
-
--- the walk back from v by predecessors, in front of the steps that are there
-unfoldable pub walkNet : List ℕ → ℕ → ℕ → List Two → List Two
-walkNet m zero v steps = steps
-walkNet m (suc n) v steps = pick (eqb v 0) steps (walkNet m n (predOf m v) ((predOf m v, v) ∷ steps))
-
--- from v the predecessors lead to the source in at most n steps
-pub data Leads (m : List ℕ) : ℕ → ℕ → Type 0 where
-  arrived : {n v : ℕ} → v ≡ 0 → Leads m n v
-  onward : {n v : ℕ} → (v ≡ 0 → ⊥) → v < 132 → Leads m n (predOf m v) → Leads m (suc n) v
+use Rattle.search.specs.Net.{capOf}
 
 -- a step of a path for r rows and c columns: from the source to a row, from a row to a column, from a column to a row or to the sink
 pub record Step (r c u v : ℕ) : Type 0 where

@@ -1,20 +1,15 @@
 -- What the public function's answer means: it is the definition's, a plan returned meets its margins and is the least of all plans, and 16 is returned exactly where there is none.
-use mathlib.Core.Path.{_≡_, refl, sym, ap, _∙_}
+use mathlib.Core.Path.{_≡_, refl}
 use mathlib.Core.Bool.{Bool, true, false}
 use mathlib.Core.List.{List}
-use Prim.Native.Nat.{ℕ, zero, suc, _+_, _*_}
+use Prim.Native.Nat.{ℕ, _*_}
 use lib.Dec.{leb, eqb}
 use lib.ListN.{length}
-use Rattle.spec.specs.Bytes.{both, Res, ok, refused, rule, _>>=_}
-use Rattle.spec.specs.Transport.{Cell, Problem, Solution, rowsOf, colsOf, solveCells, solvedBy, shapeRight, solveTransport}
+use Rattle.spec.specs.Bytes.{both}
+use Rattle.spec.specs.Transport.{shapeRight, solveTransport}
 use Rattle.flow.specs.Theorems.{Answer, answer}
-use Rattle.transport.specs.Cells.{cellsFrom, problemOf}
+use Rattle.transport.specs.Cells.{cells-length, problemOf}
 use Rattle.transport.specs.Public.{shapeOf, shapedOf, transportOf}
-
-cells-length : (sizes masses allowed : List ℕ) (n k : ℕ) → length (cellsFrom sizes masses allowed n k) ≡ n
-unfolding cellsFrom
-cells-length sizes masses allowed zero k = refl
-cells-length sizes masses allowed (suc n) k = ap suc (cells-length sizes masses allowed n (k + 1))
 
 by-tests : (a b s p : Bool) → both a (both b (both s (both s (both s p)))) ≡ both (both a b) (both s p)
 by-tests true true true p = refl

@@ -1,327 +1,22 @@
-// Least-cost transport (transport.rs): successive shortest paths. No network is built: edges are read off the plan so far.
+// Least-cost transport (transport.rs): successive shortest paths, one after the other until all units are sent.
 ghost use mathlib.Core.Path.{_≡_};
-ghost use Prim.Native.Nat.{ℕ, _+_, _-_, _*_, _%_, _^_, _≤_, _<_};
-ghost use lib.ListN.{length, getD, set, take, replicate};
-ghost use Rattle.transport.specs.Net.{labelOf, costOf, joined, labelled, offered, improved, relaxed, alongMargin, alongCell, againstCell, spreadTo, alongRow, againstColumn, visited, left, firstOf, headOf, countOf, unseenTo, begun};
-ghost use Rattle.transport.specs.Holds.{Ready, Found, Midway, Sent, Start, Answered};
-ghost use Rattle.spec.specs.Bytes.{sumTo, sum, pick, both, workAfter};
+ghost use mathlib.Core.List.{List, map};
+ghost use Prim.Native.Nat.{ℕ, _+_, _-_, _*_, _^_, _≤_, _<_, min, max};
 ghost use lib.Dec.{eqb, leb};
-ghost use Rattle.transport.specs.Path.{stepsFrom, walkNet, Leads, Step, Steps, leftOn, leastOn, sentOn, sent, Balanced, Low, RowsLeft, ColumnsLeft};
-ghost use mathlib.Core.List.{List, [], map};
-ghost use Prim.Native.Nat.{min, max, _/_};
+ghost use lib.ListN.{length, getD, set, take, drop, replicate};
+ghost use Rattle.spec.specs.Bytes.{sumTo, sum, pick, both, workAfter};
 ghost use Rattle.spec.specs.Transport.{largest, massOf};
 ghost use Rattle.wide.specs.Value.{unsigned};
 ghost use Rattle.wide.specs.Wrap.{Natural};
-ghost use Rattle.transport.specs.Solved.{Shaped, Emptied, PlanIn};
-ghost use Rattle.transport.specs.Cells.{problemOf, cellsFrom, ifAllowed, LaidTo, celled, totalFrom};
+ghost use Rattle.search.specs.Walk.{stepsFrom};
+ghost use Rattle.transport.specs.Path.{Step, Steps, leftOn, leastOn, sentOn, sent, Balanced, Low, RowsLeft, ColumnsLeft};
+ghost use Rattle.transport.specs.Sending.{Midway, Sent, Start, Answered};
+ghost use Rattle.transport.specs.Cells.{cellsFrom, LaidTo, laidFrom, celled, totalFrom};
+ghost use Rattle.transport.specs.Solved.{Shaped, Solves, over};
 ghost use Rattle.transport.specs.Public.{shapeOf, shapedOf, transportOf, Told};
+use search::search;
+use search::trace;
 use wide::Wide;
-
-// The label of node v.
-fn label(net: &[u64; 662], v: usize) -> Wide
-    requires { ⌜ v < 132 ⌝ }
-    ensures { λ r. ⌜ r ≡ labelOf (now (net .entry)) v ⌝ }
-{
-    Wide {
-        lo: net[v],
-        hi: net[132 + v],
-    }
-}
-
-// The cost of cell k.
-fn cost(costs: &[u64], k: usize) -> Wide
-    requires { ⌜ (k < 4225) × (12675 ≤ length (now costs)) ⌝ }
-    ensures { λ r. ⌜ r ≡ costOf (now (costs .entry)) k ⌝ }
-{
-    Wide {
-        lo: costs[k],
-        hi: costs[4225 + k],
-    }
-}
-
-fn put(net: &mut [u64; 662], at: usize, x: u64)
-    requires { ⌜ at < 662 ⌝ }
-    ensures { λ _. ⌜ now (net .exit) ≡ set (now (net .entry)) at x ⌝ }
-{
-    net[at] = x;
-}
-
-// Node v joins the queue.
-fn join(net: &mut [u64; 662], v: usize)
-    requires { ⌜ v < 132 ⌝ }
-    ensures { λ _. ⌜ now (net .exit) ≡ joined (now (net .entry)) v ⌝ }
-{
-    let at = std::num::wrapping_add_u64(net[660], net[661]) % 132;
-    let n = std::num::wrapping_add_u64(net[661], 1);
-    put(net, 528 + at as usize, v as u64);
-    put(net, 396 + v, 2);
-    put(net, 661, n);
-}
-
-fn put_label(net: &mut [u64; 662], u: usize, v: usize, d: Wide)
-    requires { ⌜ v < 132 ⌝ }
-    ensures { λ _. ⌜ now (net .exit) ≡ labelled (now (net .entry)) u v d ⌝ }
-{
-    put(net, v, d.lo);
-    put(net, 132 + v, d.hi);
-    put(net, 264 + v, u as u64);
-}
-
-// Whether the label d is a strict improvement at node v.
-fn improves(net: &[u64; 662], v: usize, d: Wide) -> bool
-    requires { ⌜ v < 132 ⌝ }
-    ensures { λ r. ⌜ r ≡ offered (now (net .entry)) v d ⌝ }
-{
-    if net[396 + v] == 0 {
-        return true;
-    }
-    d.less(label(net, v))
-}
-
-// Node v takes the label d from u, and joins the queue unless it stands in it.
-fn improve(net: &mut [u64; 662], u: usize, v: usize, d: Wide)
-    requires { ⌜ v < 132 ⌝ }
-    ensures { λ _. ⌜ now (net .exit) ≡ improved (now (net .entry)) u v d ⌝ }
-{
-    put_label(net, u, v, d);
-    if net[396 + v] == 2 {
-        return;
-    }
-    join(net, v);
-}
-
-// The edge from u to v, with the label d at its end.
-fn relax(net: &mut [u64; 662], u: usize, v: usize, d: Wide)
-    requires { ⌜ v < 132 ⌝ }
-    ensures { λ _. ⌜ now (net .exit) ≡ relaxed (now (net .entry)) u v d ⌝ }
-{
-    if improves(net, v, d) {
-        improve(net, u, v, d);
-        return;
-    }
-}
-
-// An edge at a margin, on which r is left: it costs nothing.
-fn along_margin(net: &mut [u64; 662], r: u64, u: usize, v: usize, d: Wide)
-    requires { ⌜ v < 132 ⌝ }
-    ensures { λ _. ⌜ now (net .exit) ≡ alongMargin r (now (net .entry)) u v d ⌝ }
-{
-    if 0 < r {
-        relax(net, u, v, d);
-        return;
-    }
-}
-
-// From a row to a column, where cell k can take more.
-fn along_cell(
-    costs: &[u64],
-    flow: &[u64],
-    net: &mut [u64; 662],
-    k: usize,
-    u: usize,
-    v: usize,
-    d: Wide,
-)
-    requires { ⌜ (v < 132) × (k < 4225) × (12675 ≤ length (now costs)) × (4225 ≤ length (now flow)) ⌝ }
-    ensures { λ _. ⌜ now (net .exit) ≡ alongCell (now (costs .entry)) (now (flow .entry)) (now (net .entry)) k u v d ⌝ }
-{
-    if flow[k] < costs[8450 + k] {
-        relax(net, u, v, d.wrapping_add(cost(costs, k)));
-        return;
-    }
-}
-
-// From a column back to a row, where cell k has something, at the negated cost.
-fn against_cell(
-    costs: &[u64],
-    flow: &[u64],
-    net: &mut [u64; 662],
-    k: usize,
-    u: usize,
-    v: usize,
-    d: Wide,
-)
-    requires { ⌜ (v < 132) × (k < 4225) × (12675 ≤ length (now costs)) × (4225 ≤ length (now flow)) ⌝ }
-    ensures { λ _. ⌜ now (net .exit) ≡ againstCell (now (costs .entry)) (now (flow .entry)) (now (net .entry)) k u v d ⌝ }
-{
-    if 0 < flow[k] {
-        let c = cost(costs, k);
-        relax(net, u, v, d.wrapping_add(c.wrapping_neg()));
-        return;
-    }
-}
-
-// n edges at the margins from place k on, to the nodes from v on.
-fn spread(left: &[u64; 195], net: &mut [u64; 662], n: usize, k: usize, u: usize, v: usize)
-    requires { ⌜ (u < 132) × (v + n ≤ 132) × (k + n ≤ 195) ⌝ }
-    ensures { λ _. ⌜ now (net .exit) ≡ spreadTo (now (left .entry)) u (labelOf (now (net .entry)) u) n k v (now (net .entry)) ⌝ }
-{
-    let d = label(net, u);
-    let mut i = 0;
-    while i < n {
-        along_margin(net, left[k + i], u, v + i, d);
-        i += 1;
-    }
-}
-
-// The cells of a row from cell k on, to the columns from node v on.
-fn along_row(
-    costs: &[u64],
-    flow: &[u64],
-    net: &mut [u64; 662],
-    n: usize,
-    k: usize,
-    u: usize,
-    v: usize,
-)
-    requires { ⌜ (u < 132) × (v + n ≤ 132) × (k + n ≤ 4225) × (12675 ≤ length (now costs)) × (4225 ≤ length (now flow)) ⌝ }
-    ensures { λ _. ⌜ now (net .exit) ≡ alongRow (now (costs .entry)) (now (flow .entry)) u (labelOf (now (net .entry)) u) n k v (now (net .entry)) ⌝ }
-{
-    let d = label(net, u);
-    let mut i = 0;
-    while i < n {
-        along_cell(costs, flow, net, k + i, u, v + i, d);
-        i += 1;
-    }
-}
-
-// The cells of a column from cell k on, c apart, back to the rows from node v on.
-fn against_column(
-    costs: &[u64],
-    flow: &[u64],
-    net: &mut [u64; 662],
-    c: usize,
-    n: usize,
-    k: usize,
-    u: usize,
-    v: usize,
-)
-    requires { ⌜ (u < 132) × (v + n ≤ 132) × (k < c) × (n * c ≤ 4225) × (c ≤ 65) × (12675 ≤ length (now costs)) × (4225 ≤ length (now flow)) ⌝ }
-    ensures { λ _. ⌜ now (net .exit) ≡ againstColumn (now (costs .entry)) (now (flow .entry)) c u (labelOf (now (net .entry)) u) n k v (now (net .entry)) ⌝ }
-{
-    let d = label(net, u);
-    let mut at = k;
-    let mut i = 0;
-    while i < n {
-        against_cell(costs, flow, net, at, u, v + i, d);
-        at += c;
-        i += 1;
-    }
-}
-
-// All the edges of node u in insertion order, for r rows and c columns; a row's edge back to the source never improves.
-fn visit(
-    costs: &[u64],
-    flow: &[u64],
-    left: &[u64; 195],
-    net: &mut [u64; 662],
-    r: usize,
-    c: usize,
-    u: usize,
-)
-    requires { ⌜ (r ≤ 65) × (c ≤ 65) × (12675 ≤ length (now costs)) × (4225 ≤ length (now flow)) ⌝ }
-    ensures { λ _. ⌜ now (net .exit) ≡ visited (now (costs .entry)) (now (flow .entry)) (now (left .entry)) r c u (now (net .entry)) ⌝ }
-{
-    if u == 0 {
-        spread(left, net, r, 0, 0, 1);
-        return;
-    }
-    if u <= r {
-        along_row(costs, flow, net, c, (u - 1) * c, u, 1 + r);
-        return;
-    }
-    if u <= r + c {
-        let d = label(net, u);
-        along_margin(net, left[65 + (u - 1 - r)], u, 1 + r + c, d);
-        against_column(costs, flow, net, c, r, u - 1 - r, u, 1);
-        return;
-    }
-    spread(left, net, c, 130, 1 + r + c, 1 + r);
-}
-
-// n nodes are unseen.
-fn unsee(net: &mut [u64; 662], n: usize)
-    requires { ⌜ n ≤ 132 ⌝ }
-    ensures { λ _. ⌜ now (net .exit) ≡ unseenTo n 0 (now (net .entry)) ⌝ }
-{
-    let mut i = 0;
-    while i < n {
-        put(net, 396 + i, 0);
-        i += 1;
-    }
-}
-
-// The nodes up to t are unseen; then the source has the label 0 and stands in the queue.
-fn begin(net: &mut [u64; 662], t: usize)
-    requires { ⌜ t < 132 ⌝ }
-    ensures { λ _. ⌜ now (net .exit) ≡ begun t (now (net .entry)) ⌝ }
-{
-    unsee(net, t + 1);
-    put(net, 660, 0);
-    put(net, 661, 0);
-    put_label(net, 0, 0, Wide { lo: 0, hi: 0 });
-    join(net, 0);
-}
-
-// The first node leaves the queue.
-fn leave(net: &mut [u64; 662]) -> usize
-    requires { ⌜ (headOf (now net) < 132) × (firstOf (now net) < 132) × (0 < countOf (now net)) ⌝ }
-    ensures { λ r. ⌜ (r ≡ firstOf (now (net .entry))) × (now (net .exit) ≡ left (now (net .entry))) ⌝ }
-{
-    let h = net[660];
-    let n = net[661];
-    let u = net[528 + h as usize] as usize;
-    put(net, 396 + u, 1);
-    put(net, 660, (h + 1) % 132);
-    put(net, 661, n - 1);
-    u
-}
-
-// One search from the source over the plan so far: whether it reaches the sink.
-fn search(
-    costs: &[u64],
-    flow: &[u64],
-    left: &[u64; 195],
-    net: &mut [u64; 662],
-    r: usize,
-    c: usize,
-) -> bool
-    requires { ⌜ (r ≤ 65) × (c ≤ 65) × (12675 ≤ length (now costs)) × (4225 ≤ length (now flow)) × (length (now net) ≡ 662) × Ready r c (now costs) (now flow) (now left) ⌝ }
-    ensures { λ b. ⌜ ((R : Ready r c (now (costs .entry)) (now (flow .entry)) (now (left .entry))) → Found R (now (net .exit)) b) ⌝ }
-{
-    begin(net, 1 + r + c);
-    while 0 < net[661] {
-        let u = leave(net);
-        visit(costs, flow, left, net, r, c, u);
-    }
-    if net[396 + (1 + r + c)] == 0 {
-        return false;
-    }
-    true
-}
-
-fn put_node(path: &mut [u64; 132], at: usize, v: usize)
-    requires { ⌜ at < 132 ⌝ }
-    ensures { λ _. ⌜ now (path .exit) ≡ set (now (path .entry)) at v ⌝ }
-{
-    path[at] = v as u64;
-}
-
-// The walk back from the sink t: the place in the path of its first node.
-fn trace(net: &[u64; 662], path: &mut [u64; 132], t: usize) -> usize
-    requires { ⌜ Leads (now net) 131 t × (length (now path) ≡ 132) ⌝ }
-    ensures { λ a. ⌜ (a ≤ 131) × (length (now (path .exit)) ≡ 132) × (stepsFrom (now (path .exit)) (131 - a) a ≡ walkNet (now (net .entry)) 131 t []) ⌝ }
-{
-    put_node(path, 131, t);
-    let mut at = 131;
-    let mut v = t;
-    while v != 0 {
-        v = net[264 + v] as usize;
-        at -= 1;
-        put_node(path, at, v);
-    }
-    at
-}
 
 fn least(a: u64, b: u64) -> u64
     ensures { λ r. ⌜ r ≡ min a b ⌝ }
@@ -523,7 +218,8 @@ fn augment(
     requires { ⌜ (length (now supply) ≤ 65) × (length (now demand) ≤ 65) × (12675 ≤ length (now costs)) × (4225 ≤ length (now flow)) × (length (now left) ≡ 195) × (length (now net) ≡ 662) × (length (now path) ≡ 132) × (rest < 2 ^ 39)
         × Midway (length (now supply)) (length (now demand)) (now supply) (now demand) (now costs) (now flow) ⌝ }
     ensures { λ n. ⌜ (length (now (left .exit)) ≡ 195) × (length (now (net .exit)) ≡ 662) × (length (now (path .exit)) ≡ 132)
-        × ((M : Midway (length (now (supply .entry))) (length (now (demand .entry))) (now (supply .entry)) (now (demand .entry)) (now (costs .entry)) (now (flow .entry))) → Sent M rest n (now (flow .exit))) ⌝ }
+        × ((M : Midway (length (now (supply .entry))) (length (now (demand .entry))) (now (supply .entry)) (now (demand .entry)) (now (costs .entry)) (now (flow .entry))) → Sent M rest n (now (flow .exit)))
+        × (drop (length (now (supply .entry)) * length (now (demand .entry))) (now (flow .exit)) ≡ drop (length (now (supply .entry)) * length (now (demand .entry))) (now (flow .entry))) ⌝ }
 {
     let r = supply.len();
     let c = demand.len();
@@ -541,7 +237,8 @@ fn augment(
 fn send_all(supply: &[u32], demand: &[u32], costs: &[u64], flow: &mut [u64], total: u64) -> bool
     requires { ⌜ (length (now supply) ≤ 65) × (length (now demand) ≤ 65) × (12675 ≤ length (now costs)) × (4225 ≤ length (now flow)) × (total ≡ sum (now supply))
         × Start (length (now supply)) (length (now demand)) (now supply) (now demand) (now costs) (now flow) ⌝ }
-    ensures { λ b. ⌜ ((S : Start (length (now (supply .entry))) (length (now (demand .entry))) (now (supply .entry)) (now (demand .entry)) (now (costs .entry)) (now (flow .entry))) → Answered S b (now (flow .exit))) ⌝ }
+    ensures { λ b. ⌜ ((S : Start (length (now (supply .entry))) (length (now (demand .entry))) (now (supply .entry)) (now (demand .entry)) (now (costs .entry)) (now (flow .entry))) → Answered S b (now (flow .exit)))
+        × (drop (length (now (supply .entry)) * length (now (demand .entry))) (now (flow .exit)) ≡ drop (length (now (supply .entry)) * length (now (demand .entry))) (now (flow .entry))) ⌝ }
 {
     let mut left = [0u64; 195];
     let mut net = [0u64; 662];
@@ -655,7 +352,8 @@ fn lay(
 )
     requires { ⌜ (length (now supply) ≤ 65) × (length (now demand) ≤ 65) × (length (now sizes) ≡ length (now supply) * length (now demand)) × (length (now masses) ≡ length (now supply) * length (now demand))
         × (length (now allowed) ≡ length (now supply) * length (now demand)) × (12675 ≤ length (now costs)) × (unsigned w < 2 ^ 71) × (0 < length (now demand)) ⌝ }
-    ensures { λ _. ⌜ LaidTo (now (supply .entry)) (now (demand .entry)) (now (sizes .entry)) (now (masses .entry)) (now (allowed .entry)) (length (now (demand .entry))) (unsigned w) (now (costs .exit)) (length (now (supply .entry)) * length (now (demand .entry))) ⌝ }
+    ensures { λ _. ⌜ LaidTo (now (supply .entry)) (now (demand .entry)) (now (sizes .entry)) (now (masses .entry)) (now (allowed .entry)) (length (now (demand .entry))) (unsigned w) (now (costs .exit)) (length (now (supply .entry)) * length (now (demand .entry)))
+        × (now (costs .exit) ≡ laidFrom (now (supply .entry)) (now (demand .entry)) (now (sizes .entry)) (now (masses .entry)) (now (allowed .entry)) (length (now (demand .entry))) (unsigned w) (length (now (sizes .entry))) 0 (now (costs .entry))) ⌝ }
 {
     let c = demand.len();
     let mut k = 0;
@@ -688,7 +386,7 @@ fn plan_total(plan: &[u32], per: &[u32], allowed: &[u8]) -> Wide
 // n cells of the plan are 0.
 fn empty_plan(flow: &mut [u64], n: usize)
     requires { ⌜ n ≤ length (now flow) ⌝ }
-    ensures { λ _. ⌜ Emptied (now (flow .exit)) n ⌝ }
+    ensures { λ _. ⌜ now (flow .exit) ≡ over (replicate n 0) (now (flow .entry)) ⌝ }
 {
     let mut k = 0;
     while k < n {
@@ -717,16 +415,20 @@ fn solve_even(
     f: u64,
 ) -> bool
     requires { ⌜ Shaped (now supply) (now demand) (now sizes) (now masses) (now allowed) (now costs) (now flow) × (f ≡ sum (now supply)) × (f < 2 ^ 39) × (f ≡ sum (now demand)) × (0 < length (now supply)) × (0 < length (now demand)) ⌝ }
-    ensures { λ b. ⌜ PlanIn (problemOf (now (supply .entry)) (now (demand .entry)) (now (sizes .entry)) (now (masses .entry)) (now (allowed .entry))) b (now (flow .exit)) ⌝ }
+    ensures { λ b. ⌜ Solves (now (supply .entry)) (now (demand .entry)) (now (sizes .entry)) (now (masses .entry)) (now (allowed .entry)) (now (costs .entry)) (now (flow .entry)) (now (costs .exit)) (now (flow .exit)) b ⌝ }
 {
     let w = weight(f, largest_mass(masses, allowed));
     lay(supply, demand, sizes, masses, allowed, w, costs);
     empty_plan(flow, sizes.len());
-    send_all(supply, demand, costs, flow, f)
+    if send_all(supply, demand, costs, flow, f) {
+        return true;
+    }
+    empty_plan(flow, sizes.len());
+    false
 }
 
-// The least plan, in the first rows * columns numbers of `flow`: whether there is one. Costs and flow are work buffers.
-fn solve_cells(
+// The least plan, in the first rows * columns numbers of `flow`: whether there is one; zeros where there is none. Costs and flow are work buffers.
+pub fn solve_cells(
     supply: &[u32],
     demand: &[u32],
     sizes: &[u32],
@@ -736,7 +438,7 @@ fn solve_cells(
     flow: &mut [u64],
 ) -> bool
     requires { ⌜ Shaped (now supply) (now demand) (now sizes) (now masses) (now allowed) (now costs) (now flow) ⌝ }
-    ensures { λ b. ⌜ PlanIn (problemOf (now (supply .entry)) (now (demand .entry)) (now (sizes .entry)) (now (masses .entry)) (now (allowed .entry))) b (now (flow .exit)) ⌝ }
+    ensures { λ b. ⌜ Solves (now (supply .entry)) (now (demand .entry)) (now (sizes .entry)) (now (masses .entry)) (now (allowed .entry)) (now (costs .entry)) (now (flow .entry)) (now (costs .exit)) (now (flow .exit)) b ⌝ }
 {
     let f = total(supply);
     let g = total(demand);
@@ -749,6 +451,7 @@ fn solve_cells(
     if f == g {
         return solve_even(supply, demand, sizes, masses, allowed, costs, flow, f);
     }
+    empty_plan(flow, sizes.len());
     false
 }
 

@@ -113,6 +113,13 @@ fn run(words: &[&str]) -> Result<(), String> {
             );
             Ok(())
         }
+        ["plans-with", command, seed, count] => {
+            print!(
+                "{}",
+                plans::program(command, number(seed)?, number(count)? as usize)?
+            );
+            Ok(())
+        }
         ["plans-slips", seed, count] => {
             print!(
                 "{}",

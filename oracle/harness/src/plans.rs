@@ -2,6 +2,10 @@
 //! The transport solver alone: random problems, oracle against model, and on tiny
 //! problems against every plan there is.
 
+use std::collections::BTreeMap;
+use std::io::Write;
+use std::process::{Command, Stdio};
+
 use model::image::Refusal;
 use model::slip::Slip;
 use model::transport::{Problem, solve};
@@ -255,6 +259,93 @@ pub fn compare(seed: u64, count: usize) -> Result<String, String> {
     Ok(format!(
         "{solved} solved, {refused} refused 16, {forced} of them against every plan, most cells {largest}\n"
     ))
+}
+
+/// A drawn problem; once in twelve with 66 rows or columns, or a wrong number of cells.
+fn draw_any(rng: &mut Rng) -> Drawn {
+    let mut drawn = draw(rng);
+    if !rng.once_in(12) {
+        return drawn;
+    }
+    match rng.below(5) {
+        0 => drawn.supply = vec![1; 66],
+        1 => drawn.demand = vec![1; 66],
+        2 => drawn.cells.push(Some((1, 1))),
+        3 => {
+            drawn.cells.pop();
+        }
+        _ => drawn.cells.clear(),
+    }
+    if rng.once_in(2) {
+        let count = drawn.supply.len() * drawn.demand.len();
+        drawn.cells.resize(count, Some((2, 3)));
+    }
+    drawn
+}
+
+/// Compares the program (a line of input a problem, a line of output an answer) with the
+/// oracle, and where the shape is wrong with the model, on drawn problems; what was met,
+/// or the first difference.
+pub fn program(command: &str, seed: u64, count: usize) -> Result<String, String> {
+    // What the program reads at once.
+    const ROOM: usize = 262_144;
+    let mut rng = Rng::new(seed);
+    let mut met: BTreeMap<String, u64> = BTreeMap::new();
+    let (mut lines, mut answers) = (String::new(), Vec::new());
+    let (mut sent, mut largest, mut cells) = (0, 0, 0u64);
+    loop {
+        let drawn = (sent < count).then(|| draw_any(&mut rng));
+        let next = drawn.as_ref().map_or(String::new(), line);
+        if drawn.is_none() || lines.len() + next.len() + 1 > ROOM {
+            compare_lines(command, &lines, &answers)?;
+            lines.clear();
+            answers.clear();
+        }
+        let Some(drawn) = drawn else { break };
+        sent += 1;
+        largest = largest.max(drawn.cells.len());
+        let answer = by_oracle(&drawn).unwrap_or_else(|| by_model(&drawn, Slip::None));
+        let kind = match answer.strip_prefix("refused ") {
+            Some(number) => format!("refused {number}"),
+            None => {
+                cells += drawn.cells.len() as u64;
+                "solved".to_string()
+            }
+        };
+        *met.entry(kind).or_insert(0) += 1;
+        lines += &next;
+        lines.push('\n');
+        answers.push(answer);
+    }
+    let mut text: String = met.iter().map(|(k, n)| format!("{n:>9}  {k}\n")).collect();
+    text += &format!("{cells:>9}  cells of plans, most {largest}\n");
+    Ok(text)
+}
+
+fn compare_lines(command: &str, lines: &str, answers: &[String]) -> Result<(), String> {
+    let wrong = |error: std::io::Error| format!("{command}: {error}");
+    let mut child = Command::new(command)
+        .stdin(Stdio::piped())
+        .stdout(Stdio::piped())
+        .spawn()
+        .map_err(wrong)?;
+    let mut input = child.stdin.take().ok_or("no standard input")?;
+    let text = lines.to_string();
+    let writer = std::thread::spawn(move || input.write_all(text.as_bytes()));
+    let output = child.wait_with_output().map_err(wrong)?;
+    writer.join().map_err(|_| "no writer")?.map_err(wrong)?;
+    let output = String::from_utf8_lossy(&output.stdout).into_owned();
+    let mut told = output.lines();
+    for (asked, answer) in lines.lines().zip(answers) {
+        let told = told.next().unwrap_or("nothing");
+        if told != answer {
+            return Err(format!("{asked}\noracle: {answer}\nprogram: {told}"));
+        }
+    }
+    match told.next() {
+        None => Ok(()),
+        Some(more) => Err(format!("the program goes on: {more}")),
+    }
 }
 
 /// How many of the drawn problems each slip of the solver changes.

@@ -1,14 +1,10 @@
-use Rattle.transport.proofs.Augments.{low-of, ready-of, not-sent, Way, way, units-fit, path-steps, sent-along}
-use Rattle.transport.specs.Path.{stepsFrom, Balanced}
-use Rattle.transport.specs.Holds.{Ready, Found, Midway, Sent}
-use borrow.Author.Tests.{lt-ltb, le-ltb, le-leb, lt-leb, eq-eqb, ne-eqb}
-use Prim.Native.Nat.{ℕ, zero, suc, _≤_, _<_, _-_, _+_, _*_, _^_}
-use native.Mathlib.Omega.{arith}
-use native.Mathlib.Numerals.{add-one}
-use mathlib.Core.Path.{_≡_, refl, ap, sym, _∙_}
-use mathlib.Core.Logic.{⊎-elim}
-use mathlib.Core.List.{List, [], _∷_, _++_, append-nil}
-use lib.ListN.{length, take, drop, getD, set, length-set, length-take, length-drop, length-append, drop-of-length-le}
+use Rattle.transport.proofs.PathLaws.{sent-kept}
+use Rattle.transport.proofs.Augments.{low-of, ready-of, not-sent, way, units-fit, path-steps, sent-along}
+use Rattle.search.specs.Walk.{stepsFrom}
+use Prim.Native.Nat.{ℕ, _-_, _*_}
+use mathlib.Core.Path.{refl, ap, _∙_}
+use mathlib.Core.List.{List}
+use lib.ListN.{length, drop}
 use borrow.Author.Needs.{needs}
 use Rattle.transport.proofs.augment.Statement.{statement}
 use Rattle.transport.proofs.augment.Tie as tie
@@ -16,9 +12,9 @@ use Rattle.transport.proofs.augment.Reads as reads
 use Rattle.transport.proofs.augment.Lts as lts
 use Rattle.transport.proofs.balance.Reads as balance-reads
 use Rattle.transport.proofs.bottleneck.Reads as bottleneck-reads
-use Rattle.transport.proofs.search.Reads as search-reads
+use Rattle.search.proofs.search.Reads as search-reads
 use Rattle.transport.proofs.send.Reads as send-reads
-use Rattle.transport.proofs.trace.Reads as trace-reads
+use Rattle.search.proofs.trace.Reads as trace-reads
 
 -- src/lib.rt:523:5
 balance-requires : tie.Need-balance-requires
@@ -38,15 +34,15 @@ add-trace-2 c = search needs
 
 -- src/lib.rt:525:13
 trace-requires : tie.Need-trace-requires
-trace-requires c κs = let a = c .before .before .before .before .before .before .before .before .before .before .before .before .before .before .args in let M = c .before .before .before .before .before .before .before .before .before .before .before .before .before .before .pre .8 in let y = c .before .before .before .before .before .before .before .balance .last .1 .1 .1 .0 in let B = c .before .before .before .before .before .before .before .balance .ensures in let m = c .before .before .before .search .last .1 .1 .1 .0 in let w = way M y B m (rw (c .before .before .if1 .taken) at (c .before .before .before .search .ensures (ready-of M y B))) in (w .leads, c .before .before .before .before .before .before .before .before .before .before .before .before .before .before .pre .6)
+trace-requires c κs = let a = c .before .before .before .before .before .before .before .before .before .before .before .before .before .before .args in let M = c .before .before .before .before .before .before .before .before .before .before .before .before .before .before .pre .8 in let y = c .before .before .before .before .before .before .before .balance .last .1 .1 .1 .0 in let B = c .before .before .before .before .before .before .before .balance .ensures in let m = c .before .before .before .search .last .1 .1 .1 .0 in let w = way M y B m (rw (c .before .before .if1 .taken) at (c .before .before .before .search .ensures .2 (ready-of M y B))) in (w .leads, c .before .before .before .before .before .before .before .before .before .before .before .before .before .before .pre .6)
 
 -- src/lib.rt:526:13
 bottleneck-requires : tie.Need-bottleneck-requires
-bottleneck-requires c κs = let a = c .before .before .before .before .before .before .before .before .before .before .before .before .before .before .before .before .before .before .args in let M = c .before .before .before .before .before .before .before .before .before .before .before .before .before .before .before .before .before .before .pre .8 in let y = c .before .before .before .before .before .before .before .before .before .before .before .balance .last .1 .1 .1 .0 in let B = c .before .before .before .before .before .before .before .before .before .before .before .balance .ensures in let m = c .before .before .before .before .before .before .before .search .last .1 .1 .1 .0 in let w = way M y B m (rw (c .before .before .before .before .before .before .if1 .taken) at (c .before .before .before .before .before .before .before .search .ensures (ready-of M y B))) in let l = stepsFrom (c .before .before .before .trace .last .1 .0) (131 - c .before .before .before .trace .result) (c .before .before .before .trace .result) in (c .before .before .before .before .before .before .before .before .before .before .before .before .before .before .before .before .before .before .pre .0, c .before .before .before .before .before .before .before .before .before .before .before .before .before .before .before .before .before .before .pre .1, c .before .before .before .before .before .before .before .before .before .before .before .before .before .before .before .before .before .before .pre .2, c .before .before .before .before .before .before .before .before .before .before .before .before .before .before .before .before .before .before .pre .3, c .before .before .before .trace .ensures .0, path-steps M y m w l (c .before .before .before .trace .ensures .2))
+bottleneck-requires c κs = let a = c .before .before .before .before .before .before .before .before .before .before .before .before .before .before .before .before .before .before .args in let M = c .before .before .before .before .before .before .before .before .before .before .before .before .before .before .before .before .before .before .pre .8 in let y = c .before .before .before .before .before .before .before .before .before .before .before .balance .last .1 .1 .1 .0 in let B = c .before .before .before .before .before .before .before .before .before .before .before .balance .ensures in let m = c .before .before .before .before .before .before .before .search .last .1 .1 .1 .0 in let w = way M y B m (rw (c .before .before .before .before .before .before .if1 .taken) at (c .before .before .before .before .before .before .before .search .ensures .2 (ready-of M y B))) in let l = stepsFrom (c .before .before .before .trace .last .1 .0) (131 - c .before .before .before .trace .result) (c .before .before .before .trace .result) in (c .before .before .before .before .before .before .before .before .before .before .before .before .before .before .before .before .before .before .pre .0, c .before .before .before .before .before .before .before .before .before .before .before .before .before .before .before .before .before .before .pre .1, c .before .before .before .before .before .before .before .before .before .before .before .before .before .before .before .before .before .before .pre .2, c .before .before .before .before .before .before .before .before .before .before .before .before .before .before .before .before .before .before .pre .3, c .before .before .before .trace .ensures .0, path-steps M y m w l (c .before .before .before .trace .ensures .2))
 
 -- src/lib.rt:527:9
 send-requires : tie.Need-send-requires
-send-requires c κs = let a = c .before .before .before .before .before .before .before .before .before .before .before .before .before .before .before .before .before .before .before .before .before .args in let M = c .before .before .before .before .before .before .before .before .before .before .before .before .before .before .before .before .before .before .before .before .before .pre .8 in let y = c .before .before .before .before .before .before .before .before .before .before .before .before .before .before .balance .last .1 .1 .1 .0 in let B = c .before .before .before .before .before .before .before .before .before .before .before .before .before .before .balance .ensures in let m = c .before .before .before .before .before .before .before .before .before .before .search .last .1 .1 .1 .0 in let w = way M y B m (rw (c .before .before .before .before .before .before .before .before .before .if1 .taken) at (c .before .before .before .before .before .before .before .before .before .before .search .ensures (ready-of M y B))) in let l = stepsFrom (c .before .before .before .before .before .before .trace .last .1 .0) (131 - c .before .before .before .before .before .before .trace .result) (c .before .before .before .before .before .before .trace .result) in (c .before .before .before .before .before .before .before .before .before .before .before .before .before .before .before .before .before .before .before .before .before .pre .0, c .before .before .before .before .before .before .before .before .before .before .before .before .before .before .before .before .before .before .before .before .before .pre .1, c .before .before .before .before .before .before .before .before .before .before .before .before .before .before .before .before .before .before .before .before .before .pre .3, c .before .before .before .before .before .before .trace .ensures .0, path-steps M y m w l (c .before .before .before .before .before .before .trace .ensures .2), units-fit M y m w (a .rest) (c .before .before .bottleneck .result) l (c .before .before .before .before .before .before .before .before .before .before .before .before .before .before .before .before .before .before .before .before .before .pre .7) (c .before .before .before .before .before .before .trace .ensures .2) (c .before .before .bottleneck .ensures) (c .before .before .before .before .before .before .before .before .before .before .before .before .before .before .before .before .before .before .before .before .before .pre .3))
+send-requires c κs = let a = c .before .before .before .before .before .before .before .before .before .before .before .before .before .before .before .before .before .before .before .before .before .args in let M = c .before .before .before .before .before .before .before .before .before .before .before .before .before .before .before .before .before .before .before .before .before .pre .8 in let y = c .before .before .before .before .before .before .before .before .before .before .before .before .before .before .balance .last .1 .1 .1 .0 in let B = c .before .before .before .before .before .before .before .before .before .before .before .before .before .before .balance .ensures in let m = c .before .before .before .before .before .before .before .before .before .before .search .last .1 .1 .1 .0 in let w = way M y B m (rw (c .before .before .before .before .before .before .before .before .before .if1 .taken) at (c .before .before .before .before .before .before .before .before .before .before .search .ensures .2 (ready-of M y B))) in let l = stepsFrom (c .before .before .before .before .before .before .trace .last .1 .0) (131 - c .before .before .before .before .before .before .trace .result) (c .before .before .before .before .before .before .trace .result) in (c .before .before .before .before .before .before .before .before .before .before .before .before .before .before .before .before .before .before .before .before .before .pre .0, c .before .before .before .before .before .before .before .before .before .before .before .before .before .before .before .before .before .before .before .before .before .pre .1, c .before .before .before .before .before .before .before .before .before .before .before .before .before .before .before .before .before .before .before .before .before .pre .3, c .before .before .before .before .before .before .trace .ensures .0, path-steps M y m w l (c .before .before .before .before .before .before .trace .ensures .2), units-fit M y m w (a .rest) (c .before .before .bottleneck .result) l (c .before .before .before .before .before .before .before .before .before .before .before .before .before .before .before .before .before .before .before .before .before .pre .7) (c .before .before .before .before .before .before .trace .ensures .2) (c .before .before .bottleneck .ensures) (c .before .before .before .before .before .before .before .before .before .before .before .before .before .before .before .before .before .before .before .before .before .pre .3))
 
 -- src/lib.rt:528:9
 same-length : tie.Need-same-length
@@ -54,11 +50,12 @@ same-length c = search needs
 
 -- src/lib.rt:528:9
 returns : tie.Need-returns
-returns c = let a = c .before .before .before .before .before .before .before .before .before .before .before .before .before .before .before .before .before .before .before .before .before .before .before .before .args in let M = c .before .before .before .before .before .before .before .before .before .before .before .before .before .before .before .before .before .before .before .before .before .before .before .before .pre .8 in let y = c .before .before .before .before .before .before .before .before .before .before .before .before .before .before .before .before .before .balance .last .1 .1 .1 .0 in let B = c .before .before .before .before .before .before .before .before .before .before .before .before .before .before .before .before .before .balance .ensures in let m = c .before .before .before .before .before .before .before .before .before .before .before .before .before .search .last .1 .1 .1 .0 in let w = way M y B m (rw (c .before .before .before .before .before .before .before .before .before .before .before .before .if1 .taken) at (c .before .before .before .before .before .before .before .before .before .before .before .before .before .search .ensures (ready-of M y B))) in let l = stepsFrom (c .before .before .before .before .before .before .before .before .before .trace .last .1 .0) (131 - c .before .before .before .before .before .before .before .before .before .trace .result) (c .before .before .before .before .before .before .before .before .before .trace .result) in (
+returns c = let a = c .before .before .before .before .before .before .before .before .before .before .before .before .before .before .before .before .before .before .before .before .before .before .before .before .args in let M = c .before .before .before .before .before .before .before .before .before .before .before .before .before .before .before .before .before .before .before .before .before .before .before .before .pre .8 in let y = c .before .before .before .before .before .before .before .before .before .before .before .before .before .before .before .before .before .balance .last .1 .1 .1 .0 in let B = c .before .before .before .before .before .before .before .before .before .before .before .before .before .before .before .before .before .balance .ensures in let m = c .before .before .before .before .before .before .before .before .before .before .before .before .before .search .last .1 .1 .1 .0 in let w = way M y B m (rw (c .before .before .before .before .before .before .before .before .before .before .before .before .if1 .taken) at (c .before .before .before .before .before .before .before .before .before .before .before .before .before .search .ensures .2 (ready-of M y B))) in let l = stepsFrom (c .before .before .before .before .before .before .before .before .before .trace .last .1 .0) (131 - c .before .before .before .before .before .before .before .before .before .trace .result) (c .before .before .before .before .before .before .before .before .before .trace .result) in (
   B .size,
-  c .before .before .before .before .before .before .before .before .before .before .before .before .before .search .ensures (ready-of M y B) .net .size,
+  c .before .before .before .before .before .before .before .before .before .before .before .before .before .search .ensures .2 (ready-of M y B) .net .size,
   c .before .before .before .before .before .before .before .before .before .trace .ensures .1,
-  λ M′. sent-along M′ y m (way M′ y B m (rw (c .before .before .before .before .before .before .before .before .before .before .before .before .if1 .taken) at (c .before .before .before .before .before .before .before .before .before .before .before .before .before .search .ensures (ready-of M′ y B)))) (a .rest) (c .before .before .before .before .before .bottleneck .result) l (c .before .before .send .last .0) (c .before .before .before .before .before .before .before .before .before .trace .ensures .2) (c .before .before .before .before .before .bottleneck .ensures) (c .before .before .send .ensures) (c .before .before .before .before .before .before .before .before .before .before .before .before .before .before .before .before .before .before .before .before .before .before .before .before .pre .3),
+  λ M′. sent-along M′ y m (way M′ y B m (rw (c .before .before .before .before .before .before .before .before .before .before .before .before .if1 .taken) at (c .before .before .before .before .before .before .before .before .before .before .before .before .before .search .ensures .2 (ready-of M′ y B)))) (a .rest) (c .before .before .before .before .before .bottleneck .result) l (c .before .before .send .last .0) (c .before .before .before .before .before .before .before .before .before .trace .ensures .2) (c .before .before .before .before .before .bottleneck .ensures) (c .before .before .send .ensures) (c .before .before .before .before .before .before .before .before .before .before .before .before .before .before .before .before .before .before .before .before .before .before .before .before .pre .3),
+  ap (λ (f : List ℕ). drop (length (a .supply .now) * length (a .demand .now)) f) (c .before .before .send .ensures) ∙ sent-kept (length (a .supply .now)) (length (a .demand .now)) (c .before .before .before .before .before .bottleneck .result) l (a .flow .now) (path-steps M y m w l (c .before .before .before .before .before .before .before .before .before .trace .ensures .2)),
 )
 
 -- src/lib.rt:506:1
@@ -68,7 +65,7 @@ same-length-2 c = search needs
 -- src/lib.rt:506:1
 returns-2 : tie.Need-returns-2
 returns-2 c = let a = c .before .before .before .before .before .before .before .before .before .before .before .before .args in let y = c .before .before .before .before .before .balance .last .1 .1 .1 .0 in let B = c .before .before .before .before .before .balance .ensures in let m = c .before .search .last .1 .1 .1 .0 in
-    (B .size, c .before .search .ensures (ready-of (c .before .before .before .before .before .before .before .before .before .before .before .before .pre .8) y B) .net .size, c .before .before .before .before .before .before .before .before .before .before .before .before .pre .6, λ M′. not-sent M′ y B m (a .rest) (a .flow .now) (rw (c .if1 .left) at (c .before .search .ensures (ready-of M′ y B))))
+    (B .size, c .before .search .ensures .2 (ready-of (c .before .before .before .before .before .before .before .before .before .before .before .before .pre .8) y B) .net .size, c .before .before .before .before .before .before .before .before .before .before .before .before .pre .6, λ M′. not-sent M′ y B m (a .rest) (a .flow .now) (rw (c .if1 .left) at (c .before .search .ensures .2 (ready-of M′ y B))), refl)
 
 pub augment-spec : {M : Type 1} → statement M
 augment-spec =

@@ -1,17 +1,9 @@
-use Rattle.transport.proofs.Answers.{Copied, copied-next, copied-end, cleared}
-use Rattle.transport.proofs.Solves.{emptied-next}
-use Rattle.transport.proofs.Laws.{cells-fit}
-use Rattle.transport.specs.Solved.{Emptied}
-use lib.ListN.{take, replicate}
+use Rattle.transport.proofs.Answers.{Copied, copied-next, copied-end}
 use borrow.Author.Needs.{needs}
-use borrow.Author.Tests.{lt-ltb, le-ltb, le-leb, lt-leb, eq-eqb, ne-eqb}
-use Prim.Native.Nat.{ℕ, zero, suc, _≤_, _<_, _-_, _+_, _*_, _^_}
+use Prim.Native.Nat.{_≤_, _-_}
 use native.Mathlib.Omega.{arith}
-use native.Mathlib.Numerals.{add-one}
-use mathlib.Core.Path.{_≡_, refl, ap, sym, _∙_}
-use mathlib.Core.Logic.{⊎-elim}
-use mathlib.Core.List.{List, [], _∷_, _++_, append-nil}
-use lib.ListN.{length, take, drop, getD, set, length-set, length-take, length-drop, length-append, drop-of-length-le}
+use mathlib.Core.Path.{_≡_, refl}
+use lib.ListN.{length, length-set}
 use Rattle.transport.proofs.copy_plan.Statement.{statement}
 use Rattle.transport.proofs.copy_plan.Tie as tie
 use Rattle.transport.proofs.copy_plan.Reads as reads

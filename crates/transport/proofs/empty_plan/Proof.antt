@@ -1,14 +1,11 @@
-use Rattle.transport.proofs.Solves.{none-row, none-column, none-uneven, small, start-of, start-problem, plan-in, emptied-next, weight-is}
-use Rattle.transport.specs.Solved.{Shaped, PlanIn, Emptied}
+use Rattle.transport.proofs.Solves.{emptied-next, emptied-over}
+use Rattle.transport.specs.Solved.{Emptied}
 use borrow.Author.Needs.{needs}
-use borrow.Author.Tests.{lt-ltb, le-ltb, le-leb, lt-leb, eq-eqb, ne-eqb}
-use Prim.Native.Nat.{ℕ, zero, suc, _≤_, _<_, _-_, _+_, _*_, _^_}
+use lib.Seq.{drop-set-lt}
+use Prim.Native.Nat.{_≤_, _-_}
 use native.Mathlib.Omega.{arith}
-use native.Mathlib.Numerals.{add-one}
-use mathlib.Core.Path.{_≡_, refl, ap, sym, _∙_}
-use mathlib.Core.Logic.{⊎-elim}
-use mathlib.Core.List.{List, [], _∷_, _++_, append-nil}
-use lib.ListN.{length, take, drop, getD, set, length-set, length-take, length-drop, length-append, drop-of-length-le}
+use mathlib.Core.Path.{_≡_, refl, _∙_}
+use lib.ListN.{length, drop}
 use Rattle.transport.proofs.empty_plan.Statement.{statement}
 use Rattle.transport.proofs.empty_plan.Tie as tie
 use Rattle.transport.proofs.empty_plan.Reads as reads
@@ -16,14 +13,14 @@ use Rattle.transport.proofs.empty_plan.Lts as lts
 use Rattle.transport.proofs.put_flow.Reads as put-flow-reads
 
 abbrev Inv-loop : tie.InvT-loop
-Inv-loop flow₀ n k₀ flow k = (k ≤ n) × (length flow ≡ length flow₀) × Emptied flow k
+Inv-loop flow₀ n k₀ flow k = (k ≤ n) × (length flow ≡ length flow₀) × Emptied flow k × (drop n flow ≡ drop n flow₀)
 
 abbrev μ-loop : tie.MeasureT-loop
 μ-loop flow₀ n k₀ flow k = n - k
 
 -- src/lib.rt:674:5
 loop-holds : tie.Need-loop-holds Inv-loop μ-loop
-loop-holds c = (omega arith, refl, λ k h. absurd (omega arith))
+loop-holds c = (omega arith, refl, λ k h. absurd (omega arith), refl)
 
 -- src/lib.rt:675:9
 put-flow-requires : tie.Need-put-flow-requires Inv-loop μ-loop
@@ -39,7 +36,7 @@ loop-less c = search needs
 
 -- src/lib.rt:674:5
 loop-again : tie.Need-loop-again Inv-loop μ-loop
-loop-again c = let l = c .before .before .before .before .before .loop in (omega arith, omega arith, rw (c .before .before .put-flow .ensures) (emptied-next (l .flow) (l .k) (omega arith) (l .inv .2)))
+loop-again c = let b = c .before .before .before .before .before .before .before in let l = c .before .before .before .before .before .loop in (omega arith, omega arith, rw (c .before .before .put-flow .ensures) (emptied-next (l .flow) (l .k) (omega arith) (l .inv .2)), rw (c .before .before .put-flow .ensures) (drop-set-lt (b .args .n) (l .flow) (l .k) 0 (omega arith)) ∙ l .inv .3)
 
 -- src/lib.rt:669:1
 same-length : tie.Need-same-length Inv-loop μ-loop
@@ -47,7 +44,7 @@ same-length c = let h = c .before .loop .inv .1 in search needs
 
 -- src/lib.rt:669:1
 returns : tie.Need-returns Inv-loop μ-loop
-returns c = let l = c .before .loop in λ k h. l .inv .2 k (omega arith)
+returns c = let l = c .before .loop in let b = c .before .before .before in emptied-over (b .args .flow .now) (l .flow) (b .args .n) (omega arith) (λ k h. l .inv .2 k (omega arith)) (l .inv .3)
 
 pub empty-plan-spec : {M : Type 1} → statement M
 empty-plan-spec =

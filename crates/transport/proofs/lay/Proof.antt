@@ -1,23 +1,14 @@
-use Rattle.transport.proofs.Laws.{cells-fit}
-use Rattle.transport.proofs.CellLaws.{sum-start, sum-next, sum-end, largest-start, largest-next, largest-end, total-turn, total-end, laid-turn, nothing-costs, w-within, weighed, min-allowed, div-in, product-fits, Summed, summed-start, summed-turn, summed-end}
-use Rattle.transport.specs.Cells.{cellsFrom, ifAllowed, LaidTo, celled, totalFrom}
+use Rattle.search.specs.Fits.{cells-fit}
+use Rattle.transport.proofs.CellLaws.{laid-turn, laid-first, laid-go, laid-stop, min-allowed, div-in}
+use Rattle.transport.specs.Cells.{ifAllowed, LaidTo, laidFrom}
 use Rattle.wide.specs.Value.{unsigned}
-use Rattle.wide.specs.declared.Wide.{Wide}
-use Rattle.spec.specs.Transport.{largest, massOf}
-use mathlib.Core.List.{map}
-use Rattle.spec.specs.Bytes.{pick, sum}
 use lib.Dec.{eqb}
-use lib.ListN.{drop}
-use Prim.Native.Nat.{min, max, _/_, _%_}
+use Prim.Native.Nat.{min, _/_, _%_}
 use borrow.Author.Needs.{needs}
-use borrow.Author.Tests.{lt-ltb, le-ltb, le-leb, lt-leb, eq-eqb, ne-eqb}
-use Prim.Native.Nat.{ℕ, zero, suc, _≤_, _<_, _-_, _+_, _*_, _^_}
+use Prim.Native.Nat.{_≤_, _-_, _*_}
 use native.Mathlib.Omega.{arith}
-use native.Mathlib.Numerals.{add-one}
-use mathlib.Core.Path.{_≡_, refl, ap, sym, _∙_}
-use mathlib.Core.Logic.{⊎-elim}
-use mathlib.Core.List.{List, [], _∷_, _++_, append-nil}
-use lib.ListN.{length, take, drop, getD, set, length-set, length-take, length-drop, length-append, drop-of-length-le}
+use mathlib.Core.Path.{_≡_, refl, sym, _∙_}
+use lib.ListN.{length, getD}
 use Rattle.transport.proofs.lay.Statement.{statement}
 use Rattle.transport.proofs.lay.Tie as tie
 use Rattle.transport.proofs.lay.Reads as reads
@@ -28,14 +19,14 @@ use Rattle.transport.proofs.least.Reads as least-reads
 use Rattle.transport.proofs.put_cell.Reads as put-cell-reads
 
 abbrev Inv-loop : tie.InvT-loop
-Inv-loop supply demand sizes masses allowed w costs₀ c k₀ costs k = (k ≤ length sizes) × LaidTo supply demand sizes masses allowed (length demand) (unsigned w) costs k × (length costs ≡ length costs₀)
+Inv-loop supply demand sizes masses allowed w costs₀ c k₀ costs k = (k ≤ length sizes) × LaidTo supply demand sizes masses allowed (length demand) (unsigned w) costs k × (length costs ≡ length costs₀) × (laidFrom supply demand sizes masses allowed (length demand) (unsigned w) (length sizes - k) k costs ≡ laidFrom supply demand sizes masses allowed (length demand) (unsigned w) (length sizes) 0 costs₀)
 
 abbrev μ-loop : tie.MeasureT-loop
 μ-loop supply demand sizes masses allowed w costs₀ c k₀ costs k = length sizes - k
 
 -- src/lib.rt:644:5
 loop-holds : tie.Need-loop-holds Inv-loop μ-loop
-loop-holds c = (omega arith, record { size = c .before .before .before .before .before .before .pre .5; costs = λ k h. absurd (omega arith); caps = λ k h. absurd (omega arith) }, refl)
+loop-holds c = let a = c .before .before .before .before .before .before .args in (omega arith, record { size = c .before .before .before .before .before .before .pre .5; costs = λ k h. absurd (omega arith); caps = λ k h. absurd (omega arith) }, refl, laid-first (a .supply .now) (a .demand .now) (a .sizes .now) (a .masses .now) (a .allowed .now) (length (a .demand .now)) (unsigned (a .w)) (length (a .sizes .now)) (a .costs .now))
 
 -- src/lib.rt:645:27
 shared-slice-read-cell-cost : tie.Need-shared-slice-read-cell-cost Inv-loop μ-loop
@@ -122,7 +113,7 @@ loop-again : tie.Need-loop-again Inv-loop μ-loop
 loop-again c = let a = c .before .before .before .before .before .before .before .before .before .before .before .before .before .before .before .before .before .before .before .before .before .before .before .args in let l = c .before .before .before .before .before .before .before .before .before .before .before .before .before .before .before .before .loop in let q = cells-fit (length (a .supply .now)) (length (a .demand .now)) (c .before .before .before .before .before .before .before .before .before .before .before .before .before .before .before .before .before .before .before .before .before .before .before .pre .0) (c .before .before .before .before .before .before .before .before .before .before .before .before .before .before .before .before .before .before .before .before .before .before .before .pre .1) in
     let e : c .before .before .before .before .least .result ≡ ifAllowed (a .allowed .now) (l .k) (min (getD (a .supply .now) (l .k / length (a .demand .now)) 0) (getD (a .demand .now) (l .k % length (a .demand .now)) 0))
     = c .before .before .before .before .least .ensures ∙ (λ i. min (c .before .before .before .before .before .before .before .before .if-allowed .ensures .0 i) (c .before .before .before .before .before .if-allowed2 .ensures .0 i)) ∙ min-allowed (eqb (getD (a .allowed .now) (l .k) 0) 0) (getD (a .supply .now) (l .k / length (a .demand .now)) 0) (getD (a .demand .now) (l .k % length (a .demand .now)) 0) in
-    (omega arith, rw (c .before .before .put-cell .ensures, e) (laid-turn (a .supply .now) (a .demand .now) (a .sizes .now) (a .masses .now) (a .allowed .now) (length (a .demand .now)) (unsigned (a .w)) (l .costs) (l .k) (c .before .before .before .before .before .before .before .before .before .before .before .cell-cost .result) (omega arith) (l .inv .1) (c .before .before .before .before .before .before .before .before .before .before .before .cell-cost .ensures)), omega arith)
+    (omega arith, rw (c .before .before .put-cell .ensures, e) (laid-turn (a .supply .now) (a .demand .now) (a .sizes .now) (a .masses .now) (a .allowed .now) (length (a .demand .now)) (unsigned (a .w)) (l .costs) (l .k) (c .before .before .before .before .before .before .before .before .before .before .before .cell-cost .result) (omega arith) (l .inv .1) (c .before .before .before .before .before .before .before .before .before .before .before .cell-cost .ensures)), omega arith, rw (c .before .before .put-cell .ensures) (sym (laid-go (a .supply .now) (a .demand .now) (a .sizes .now) (a .masses .now) (a .allowed .now) (length (a .demand .now)) (unsigned (a .w)) (length (a .sizes .now)) (l .k) (l .costs) (omega arith) (c .before .before .before .before .before .before .before .before .before .before .before .cell-cost .result) (c .before .before .before .before .least .result) (c .before .before .before .before .before .before .before .before .before .before .before .cell-cost .ensures) e) ∙ l .inv .3))
 
 -- src/lib.rt:637:1
 same-length : tie.Need-same-length Inv-loop μ-loop
@@ -130,7 +121,7 @@ same-length c = let h = c .before .loop .inv .2 in search needs
 
 -- src/lib.rt:637:1
 returns : tie.Need-returns Inv-loop μ-loop
-returns c = let a = c .before .before .before .before .before .before .before .before .args in let l = c .before .loop in let e : l .k ≡ length (a .supply .now) * length (a .demand .now) = omega arith in rw e at (l .inv .1)
+returns c = let a = c .before .before .before .before .before .before .before .before .args in let l = c .before .loop in let e : l .k ≡ length (a .supply .now) * length (a .demand .now) = omega arith in (rw e at (l .inv .1), sym (laid-stop (a .supply .now) (a .demand .now) (a .sizes .now) (a .masses .now) (a .allowed .now) (length (a .demand .now)) (unsigned (a .w)) (length (a .sizes .now)) (l .k) (l .costs) (omega arith)) ∙ l .inv .3)
 
 pub lay-spec : {M : Type 1} → statement M
 lay-spec =

@@ -1,15 +1,9 @@
-use lib.Arith.{digits-lt}
-use Rattle.transport.proofs.PathLaws.{place-fits, left-source, left-row, left-sink, left-back, sent-source, sent-row, sent-sink, sent-back, here, step-here, steps-next, least-turn, least-end, sent-turn, sent-end, sent-more, room-next, room-here, room-first, Walking, walk-start, walk-facts, walk-turn, walk-end}
-use Rattle.transport.specs.Path.{stepsFrom, walkNet, Leads, Step, Steps, leftOn, leastOn, sentOn, sent}
-use Rattle.transport.specs.Net.{predOf, capOf}
-use borrow.Author.Tests.{lt-ltb, le-ltb, le-leb, lt-leb, eq-eqb, ne-eqb}
-use Prim.Native.Nat.{ℕ, zero, suc, _≤_, _<_, _-_, _+_, _*_, _^_}
+use Rattle.transport.proofs.PathLaws.{left-source, left-row, left-sink, left-back}
+use Rattle.search.specs.Net.{capOf}
+use Prim.Native.Nat.{ℕ, _-_}
 use native.Mathlib.Omega.{arith}
-use native.Mathlib.Numerals.{add-one}
-use mathlib.Core.Path.{_≡_, refl, ap, sym, _∙_}
-use mathlib.Core.Logic.{⊎-elim}
-use mathlib.Core.List.{List, [], _∷_, _++_, append-nil}
-use lib.ListN.{length, take, drop, getD, set, length-set, length-take, length-drop, length-append, drop-of-length-le}
+use mathlib.Core.Path.{ap, _∙_}
+use lib.ListN.{getD}
 use borrow.Author.Needs.{needs}
 use Rattle.transport.proofs.left_on.Statement.{statement}
 use Rattle.transport.proofs.left_on.Tie as tie

@@ -1,23 +1,9 @@
 use Rattle.transport.proofs.CellLaws.{next-lt}
-use Rattle.transport.proofs.CellLaws.{sum-start, sum-next, sum-end, largest-start, largest-next, largest-end, total-turn, total-end, laid-turn, nothing-costs, w-within, weighed, min-allowed, div-in, product-fits, Summed, summed-start, summed-turn, summed-end}
-use Rattle.transport.specs.Cells.{cellsFrom, ifAllowed, LaidTo, celled, totalFrom}
-use Rattle.wide.specs.Value.{unsigned}
-use Rattle.wide.specs.declared.Wide.{Wide}
-use Rattle.spec.specs.Transport.{largest, massOf}
-use mathlib.Core.List.{map}
-use Rattle.spec.specs.Bytes.{pick, sum}
-use lib.Dec.{eqb}
-use lib.ListN.{drop}
-use Prim.Native.Nat.{min, max, _/_, _%_}
+use Rattle.transport.proofs.CellLaws.{product-fits, Summed, summed-start, summed-turn, summed-end}
 use borrow.Author.Needs.{needs}
-use borrow.Author.Tests.{lt-ltb, le-ltb, le-leb, lt-leb, eq-eqb, ne-eqb}
-use Prim.Native.Nat.{ℕ, zero, suc, _≤_, _<_, _-_, _+_, _*_, _^_}
+use Prim.Native.Nat.{_≤_, _-_, _*_}
 use native.Mathlib.Omega.{arith}
-use native.Mathlib.Numerals.{add-one}
-use mathlib.Core.Path.{_≡_, refl, ap, sym, _∙_}
-use mathlib.Core.Logic.{⊎-elim}
-use mathlib.Core.List.{List, [], _∷_, _++_, append-nil}
-use lib.ListN.{length, take, drop, getD, set, length-set, length-take, length-drop, length-append, drop-of-length-le}
+use lib.ListN.{length}
 use Rattle.transport.proofs.plan_total.Statement.{statement}
 use Rattle.transport.proofs.plan_total.Tie as tie
 use Rattle.transport.proofs.plan_total.Reads as reads

@@ -1,17 +1,12 @@
-use Rattle.transport.proofs.SearchLoop.{none-left}
+use Rattle.search.specs.Fits.{none-left}
 use Rattle.transport.proofs.SendLoop.{Sending, begin-sending, midway-of, rest-lt, send-none, send-fits, send-some, send-end}
-use Rattle.transport.specs.Holds.{Start, Answered, Midway, Sent}
+use Rattle.transport.specs.Sending.{Start}
 use lib.ListN.{length-replicate}
-use mathlib.Core.Bool.{true, false}
 use borrow.Author.Needs.{needs}
-use borrow.Author.Tests.{lt-ltb, le-ltb, le-leb, lt-leb, eq-eqb, ne-eqb}
-use Prim.Native.Nat.{ℕ, zero, suc, _≤_, _<_, _-_, _+_, _*_, _^_}
+use Prim.Native.Nat.{ℕ, _-_, _*_}
 use native.Mathlib.Omega.{arith}
-use native.Mathlib.Numerals.{add-one}
-use mathlib.Core.Path.{_≡_, refl, ap, sym, _∙_}
-use mathlib.Core.Logic.{⊎-elim}
-use mathlib.Core.List.{List, [], _∷_, _++_, append-nil}
-use lib.ListN.{length, take, drop, getD, set, length-set, length-take, length-drop, length-append, drop-of-length-le}
+use mathlib.Core.Path.{_≡_, refl, _∙_}
+use lib.ListN.{length, drop}
 use Rattle.transport.proofs.send_all.Statement.{statement}
 use Rattle.transport.proofs.send_all.Tie as tie
 use Rattle.transport.proofs.send_all.Reads as reads
@@ -19,14 +14,14 @@ use Rattle.transport.proofs.send_all.Lts as lts
 use Rattle.transport.proofs.augment.Reads as augment-reads
 
 abbrev Inv-loop : tie.InvT-loop
-Inv-loop supply demand costs flow₀ total left₀ net₀ path₀ rest₀ flow left net path rest = (length flow ≡ length flow₀) × (length left ≡ 195) × (length net ≡ 662) × (length path ≡ 132) × ((S : Start (length supply) (length demand) supply demand costs flow₀) → Sending S rest flow)
+Inv-loop supply demand costs flow₀ total left₀ net₀ path₀ rest₀ flow left net path rest = (length flow ≡ length flow₀) × (length left ≡ 195) × (length net ≡ 662) × (length path ≡ 132) × ((S : Start (length supply) (length demand) supply demand costs flow₀) → Sending S rest flow) × (drop (length supply * length demand) flow ≡ drop (length supply * length demand) flow₀)
 
 abbrev μ-loop : tie.MeasureT-loop
 μ-loop supply demand costs flow₀ total left₀ net₀ path₀ rest₀ flow left net path rest = rest
 
 -- src/lib.rt:543:5
 loop-holds : tie.Need-loop-holds Inv-loop μ-loop
-loop-holds c = (refl, length-replicate {A = ℕ} 195 0, length-replicate {A = ℕ} 662 0, length-replicate {A = ℕ} 132 0, λ S. begin-sending S (c .before .before .before .before .args .total) (c .before .before .before .before .pre .4))
+loop-holds c = (refl, length-replicate {A = ℕ} 195 0, length-replicate {A = ℕ} 662 0, length-replicate {A = ℕ} 132 0, λ S. begin-sending S (c .before .before .before .before .args .total) (c .before .before .before .before .pre .4), refl)
 
 -- src/lib.rt:544:13
 augment-requires : tie.Need-augment-requires Inv-loop μ-loop
@@ -38,7 +33,7 @@ same-length c = let h = c .before .before .before .before .before .before .befor
 
 -- src/lib.rt:546:13
 returns : tie.Need-returns Inv-loop μ-loop
-returns c = let l = c .before .before .before .before .before .before .before .before .before .loop in λ S. let A = l .inv .4 S in send-none S (l .rest) (c .before .before .before .augment .result) (l .flow) (c .before .before .before .augment .last .1 .1 .1 .0) A (c .before .before .before .before .before .before .before .before .loop-test .taken) (c .if1 .taken) (c .before .before .before .augment .ensures .3 (midway-of S (l .rest) (l .flow) A))
+returns c = let l = c .before .before .before .before .before .before .before .before .before .loop in (λ S. let A = l .inv .4 S in send-none S (l .rest) (c .before .before .before .augment .result) (l .flow) (c .before .before .before .augment .last .1 .1 .1 .0) A (c .before .before .before .before .before .before .before .before .loop-test .taken) (c .if1 .taken) (c .before .before .before .augment .ensures .3 (midway-of S (l .rest) (l .flow) A)), c .before .before .before .augment .ensures .4 ∙ l .inv .5)
 
 -- src/lib.rt:548:16
 sub-rest : tie.Need-sub-rest Inv-loop μ-loop
@@ -50,7 +45,7 @@ loop-less c = let l = c .before .before .before .before .before .before .before 
 
 -- src/lib.rt:543:5
 loop-again : tie.Need-loop-again Inv-loop μ-loop
-loop-again c = let l = c .before .before .before .before .before .before .before .before .before .loop in (omega arith, c .before .before .before .augment .ensures .0, c .before .before .before .augment .ensures .1, c .before .before .before .augment .ensures .2, λ S. let A = l .inv .4 S in send-some S (l .rest) (c .before .before .before .augment .result) (l .flow) (c .before .before .before .augment .last .1 .1 .1 .0) A (c .before .before .before .before .before .before .before .before .loop-test .taken) (c .if1 .left) (c .before .before .before .augment .ensures .3 (midway-of S (l .rest) (l .flow) A)))
+loop-again c = let l = c .before .before .before .before .before .before .before .before .before .loop in (omega arith, c .before .before .before .augment .ensures .0, c .before .before .before .augment .ensures .1, c .before .before .before .augment .ensures .2, λ S. let A = l .inv .4 S in send-some S (l .rest) (c .before .before .before .augment .result) (l .flow) (c .before .before .before .augment .last .1 .1 .1 .0) A (c .before .before .before .before .before .before .before .before .loop-test .taken) (c .if1 .left) (c .before .before .before .augment .ensures .3 (midway-of S (l .rest) (l .flow) A)), c .before .before .before .augment .ensures .4 ∙ l .inv .5)
 
 -- src/lib.rt:534:1
 same-length-2 : tie.Need-same-length-2 Inv-loop μ-loop
@@ -58,7 +53,7 @@ same-length-2 c = let h = c .before .loop .inv .0 in search needs
 
 -- src/lib.rt:534:1
 returns-2 : tie.Need-returns-2 Inv-loop μ-loop
-returns-2 c = let l = c .before .loop in λ S. send-end S (l .rest) (l .flow) (l .inv .4 S) (λ h. none-left (c .loop-test .left) h)
+returns-2 c = let l = c .before .loop in (λ S. send-end S (l .rest) (l .flow) (l .inv .4 S) (λ h. none-left (c .loop-test .left) h), l .inv .5)
 
 pub send-all-spec : {M : Type 1} → statement M
 send-all-spec =

@@ -1,17 +1,9 @@
-use Rattle.transport.proofs.Answers.{Copied, copied-next, copied-end, cleared}
-use Rattle.transport.proofs.Solves.{emptied-next}
-use Rattle.transport.proofs.Laws.{cells-fit}
-use Rattle.transport.specs.Solved.{Emptied}
-use lib.ListN.{take, replicate}
+use Rattle.search.specs.Fits.{cells-fit}
 use borrow.Author.Needs.{needs}
-use borrow.Author.Tests.{lt-ltb, le-ltb, le-leb, lt-leb, eq-eqb, ne-eqb}
-use Prim.Native.Nat.{ℕ, zero, suc, _≤_, _<_, _-_, _+_, _*_, _^_}
+use borrow.Author.Tests.{le-leb, lt-leb, eq-eqb, ne-eqb}
+use Prim.Native.Nat.{_-_, _*_}
 use native.Mathlib.Omega.{arith}
-use native.Mathlib.Numerals.{add-one}
-use mathlib.Core.Path.{_≡_, refl, ap, sym, _∙_}
-use mathlib.Core.Logic.{⊎-elim}
-use mathlib.Core.List.{List, [], _∷_, _++_, append-nil}
-use lib.ListN.{length, take, drop, getD, set, length-set, length-take, length-drop, length-append, drop-of-length-le}
+use mathlib.Core.Path.{refl}
 use Rattle.transport.proofs.shaped.Statement.{statement}
 use Rattle.transport.proofs.shaped.Tie as tie
 use Rattle.transport.proofs.shaped.Reads as reads

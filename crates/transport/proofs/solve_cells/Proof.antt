@@ -1,59 +1,72 @@
-use Rattle.transport.proofs.Solves.{none-row, none-column, none-uneven, small, start-of, start-problem, plan-in, emptied-next, weight-is}
-use Rattle.transport.proofs.Laws.{cells-fit}
-use Rattle.transport.specs.Solved.{Shaped, PlanIn, Emptied}
-use Rattle.wide.specs.Value.{unsigned}
-use Rattle.spec.specs.Bytes.{sum}
-use borrow.Author.Tests.{lt-ltb, le-ltb, le-leb, lt-leb, eq-eqb, ne-eqb}
-use Prim.Native.Nat.{ℕ, zero, suc, _≤_, _<_, _-_, _+_, _*_, _^_}
+use Rattle.transport.proofs.Solves.{none-row, none-column, none-uneven}
+use Rattle.search.specs.Fits.{cells-fit}
+use Prim.Native.Nat.{_-_}
 use native.Mathlib.Omega.{arith}
-use native.Mathlib.Numerals.{add-one}
-use mathlib.Core.Path.{_≡_, refl, ap, sym, _∙_}
-use mathlib.Core.Logic.{⊎-elim}
-use mathlib.Core.List.{List, [], _∷_, _++_, append-nil}
-use lib.ListN.{length, take, drop, getD, set, length-set, length-take, length-drop, length-append, drop-of-length-le}
+use mathlib.Core.Path.{sym, _∙_}
+use lib.ListN.{length}
 use borrow.Author.Needs.{needs}
 use Rattle.transport.proofs.solve_cells.Statement.{statement}
 use Rattle.transport.proofs.solve_cells.Tie as tie
 use Rattle.transport.proofs.solve_cells.Reads as reads
 use Rattle.transport.proofs.solve_cells.Lts as lts
+use Rattle.transport.proofs.empty_plan.Reads as empty-plan-reads
 use Rattle.transport.proofs.solve_even.Reads as solve-even-reads
 use Rattle.transport.proofs.total.Reads as total-reads
 
--- src/lib.rt:704:9
+-- src/lib.rt:748:9
 total-requires : tie.Need-total-requires
 total-requires c κs = search needs
 
--- src/lib.rt:705:9
+-- src/lib.rt:749:9
 total-requires-2 : tie.Need-total-requires-2
 total-requires-2 c κs = search needs
 
--- src/lib.rt:707:9
+-- src/lib.rt:751:9
 returns : tie.Need-returns
-returns c = let a = c .before .before .before .before .before .before .before .before .before .before .args in none-row (a .supply .now) (a .demand .now) (a .sizes .now) (a .masses .now) (a .allowed .now) (a .costs .now) (a .flow .now) (c .if1 .taken) (a .flow .now)
+returns c =
+    let a = c .before .before .before .before .before .before .before .before .before .before .args in
+    none-row (a .supply .now) (a .demand .now) (a .sizes .now) (a .masses .now) (a .allowed .now) (a .costs .now) (a .flow .now) (c .if1 .taken)
 
--- src/lib.rt:710:9
+-- src/lib.rt:754:9
 returns-2 : tie.Need-returns-2
-returns-2 c = let a = c .before .before .before .before .before .before .before .before .before .before .before .args in none-column (a .supply .now) (a .demand .now) (a .sizes .now) (a .masses .now) (a .allowed .now) (a .costs .now) (a .flow .now) (c .if2 .taken) (a .flow .now)
+returns-2 c =
+    let a = c .before .before .before .before .before .before .before .before .before .before .before .args in
+    none-column (a .supply .now) (a .demand .now) (a .sizes .now) (a .masses .now) (a .allowed .now) (a .costs .now) (a .flow .now) (c .if2 .taken)
 
--- src/lib.rt:713:9
+-- src/lib.rt:757:9
 solve-even-requires : tie.Need-solve-even-requires
 solve-even-requires c κs = search needs
 
--- src/lib.rt:713:9
+-- src/lib.rt:757:9
 same-length : tie.Need-same-length
 same-length c = search needs
 
--- src/lib.rt:713:9
+-- src/lib.rt:757:9
 same-length-2 : tie.Need-same-length-2
 same-length-2 c = search needs
 
--- src/lib.rt:713:9
+-- src/lib.rt:757:9
 returns-3 : tie.Need-returns-3
-returns-3 c = search needs
+returns-3 c =
+    search needs
 
--- src/lib.rt:700:1
+-- src/lib.rt:759:5
+empty-plan-requires : tie.Need-empty-plan-requires
+empty-plan-requires c κs =
+    let a = c .before .before .before .before .before .before .before .before .before .before .before .before .before .args in
+    let Z = c .before .before .before .before .before .before .before .before .before .before .before .before .before .pre in
+    let q = cells-fit (length (a .supply .now)) (length (a .demand .now)) (Z .rows) (Z .columns) in
+    omega (arith, Z .sizesLong, Z .flowLong)
+
+-- src/lib.rt:736:1
+same-length-3 : tie.Need-same-length-3
+same-length-3 c = search needs
+
+-- src/lib.rt:736:1
 returns-4 : tie.Need-returns-4
-returns-4 c = let a = c .before .before .before .before .before .before .before .before .before .before .before .before .args in none-uneven (a .supply .now) (a .demand .now) (a .sizes .now) (a .masses .now) (a .allowed .now) (a .costs .now) (a .flow .now) (λ e. c .if3 .left (c .before .before .before .before .total .ensures .0 ∙ e ∙ sym (c .before .before .before .total2 .ensures .0))) (a .flow .now)
+returns-4 c =
+    let a = c .before .before .before .before .before .before .before .before .before .before .before .before .before .before .before .before .args in
+    none-uneven (a .supply .now) (a .demand .now) (a .sizes .now) (a .masses .now) (a .allowed .now) (a .costs .now) (a .flow .now) (c .before .before .before .before .before .before .before .before .before .before .before .before .before .before .before .before .pre .sizesLong) (λ e. c .before .before .before .before .if3 .left (c .before .before .before .before .before .before .before .before .total .ensures .0 ∙ e ∙ sym (c .before .before .before .before .before .before .before .total2 .ensures .0))) (c .before .before .empty-plan .last .0) (c .before .before .empty-plan .ensures)
 
 pub solve-cells-spec : {M : Type 1} → statement M
 solve-cells-spec =
@@ -67,4 +80,6 @@ solve-cells-spec =
     same-length
     same-length-2
     returns-3
+    empty-plan-requires
+    same-length-3
     returns-4)

@@ -1,10 +1,6 @@
 use native.Mathlib.Omega.{arith}
-use mathlib.Core.Path.{_≡_, refl, ap, sym, _∙_}
-use mathlib.Core.Bool.{true, false}
-use mathlib.Core.List.{List}
 use lib.ListN.{length}
-use Rattle.transport.proofs.Laws.{cells-fit}
-use Rattle.transport.proofs.Answers.{wrong-shape, no-plan, plan-low, planned, shape-right, gate-costs, gate-flow, gate-open}
+use Rattle.transport.proofs.Answers.{gate-costs, gate-flow, gate-open}
 use borrow.Author.Needs.{needs}
 use Rattle.transport.proofs.solve_transport.Statement.{statement}
 use Rattle.transport.proofs.solve_transport.Tie as tie

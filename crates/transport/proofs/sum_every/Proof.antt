@@ -1,15 +1,10 @@
-use Rattle.transport.proofs.PathLaws.{sum-turn, next-place, first-place, row-reads, column-reads, rows-turn, columns-turn, balanced}
-use Rattle.transport.specs.Path.{Low, RowsLeft, ColumnsLeft, Balanced, rowSum, columnSum}
+use Rattle.transport.proofs.PathLaws.{sum-turn, next-place, first-place}
 use Rattle.spec.specs.Bytes.{sumTo}
 use borrow.Author.Needs.{needs}
-use borrow.Author.Tests.{lt-ltb, le-ltb, le-leb, lt-leb, eq-eqb, ne-eqb}
-use Prim.Native.Nat.{ℕ, zero, suc, _≤_, _<_, _-_, _+_, _*_, _^_}
+use Prim.Native.Nat.{ℕ, _≤_, _<_, _-_, _+_, _*_, _^_}
 use native.Mathlib.Omega.{arith}
-use native.Mathlib.Numerals.{add-one}
-use mathlib.Core.Path.{_≡_, refl, ap, sym, _∙_}
-use mathlib.Core.Logic.{⊎-elim}
-use mathlib.Core.List.{List, [], _∷_, _++_, append-nil}
-use lib.ListN.{length, take, drop, getD, set, length-set, length-take, length-drop, length-append, drop-of-length-le}
+use mathlib.Core.Path.{_≡_, refl, ap}
+use lib.ListN.{getD}
 use Rattle.transport.proofs.sum_every.Statement.{statement}
 use Rattle.transport.proofs.sum_every.Tie as tie
 use Rattle.transport.proofs.sum_every.Reads as reads

@@ -1,13 +1,6 @@
-use Rattle.transport.proofs.Solves.{none-row, none-column, none-uneven, small, start-of, start-problem, plan-in, emptied-next, weight-is}
-use Rattle.transport.specs.Solved.{Shaped, PlanIn, Emptied}
-use borrow.Author.Tests.{lt-ltb, le-ltb, le-leb, lt-leb, eq-eqb, ne-eqb}
-use Prim.Native.Nat.{ℕ, zero, suc, _≤_, _<_, _-_, _+_, _*_, _^_}
+use Rattle.transport.proofs.Solves.{weight-is}
+use Prim.Native.Nat.{_-_}
 use native.Mathlib.Omega.{arith}
-use native.Mathlib.Numerals.{add-one}
-use mathlib.Core.Path.{_≡_, refl, ap, sym, _∙_}
-use mathlib.Core.Logic.{⊎-elim}
-use mathlib.Core.List.{List, [], _∷_, _++_, append-nil}
-use lib.ListN.{length, take, drop, getD, set, length-set, length-take, length-drop, length-append, drop-of-length-le}
 use borrow.Author.Needs.{needs}
 use Rattle.transport.proofs.weight.Statement.{statement}
 use Rattle.transport.proofs.weight.Tie as tie

@@ -1,0 +1,80 @@
+use Rattle.exact_fixed.specs.FinishLaws.{finishes}
+use Rattle.spec.specs.Image.{tablesOf}
+use Rattle.spec.specs.Run.{runOf}
+use Rattle.exact_fixed.specs.AnswerLaws.{ran-listable, ran-answers}
+use native.Mathlib.Omega.{arith}
+use borrow.Author.Needs.{needs}
+use Rattle.exact_fixed.proofs.finish.Statement.{statement}
+use Rattle.exact_fixed.proofs.finish.Tie as tie
+use Rattle.exact_fixed.proofs.finish.Reads as reads
+use Rattle.exact_fixed.proofs.finish.Lts as lts
+use Rattle.exact_fixed.proofs.clear_all.Reads as clear-all-reads
+use Rattle.exact_fixed.proofs.list_ran.Reads as list-ran-reads
+use Rattle.exact_fixed.proofs.run_begun.Reads as run-begun-reads
+
+-- src/lib.rt:709:9
+run-begun-requires : tie.Need-run-begun-requires
+run-begun-requires c κs = search needs
+
+-- src/lib.rt:723:9
+list-ran-requires : tie.Need-list-ran-requires
+list-ran-requires c κs =
+    let b = c .before .before .before .before .before .before .before .before .before .before .before .before .before .before .before .before .before .before .before .before .before .before .before .before .before in
+    let a = b .args in
+    (ran-listable (runOf (tablesOf (a .s .now)) (a .l, a .r) (a .budget)) (c .before .before .before .before .before .before .before .before .before .before .run-begun .last .1 .1 .1 .1 .1 .1 .1 .1 .1 .1 .0) (c .before .before .before .before .before .before .before .before .before .before .run-begun .last .1 .1 .1 .1 .1 .1 .1 .1 .1 .1 .1 .0) (c .before .before .before .before .before .before .before .before .before .before .run-begun .result) (c .before .before .before .before .before .before .before .before .before .before .run-begun .ensures), omega (arith, b .pre .6))
+
+-- src/lib.rt:724:5
+clear-all-requires : tie.Need-clear-all-requires
+clear-all-requires c κs = search needs
+
+-- src/lib.rt:691:1
+same-length : tie.Need-same-length
+same-length c = search needs
+
+-- src/lib.rt:691:1
+same-length-2 : tie.Need-same-length-2
+same-length-2 c = search needs
+
+-- src/lib.rt:691:1
+same-length-3 : tie.Need-same-length-3
+same-length-3 c = search needs
+
+-- src/lib.rt:691:1
+same-length-4 : tie.Need-same-length-4
+same-length-4 c = search needs
+
+-- src/lib.rt:691:1
+same-length-5 : tie.Need-same-length-5
+same-length-5 c = search needs
+
+-- src/lib.rt:691:1
+same-length-6 : tie.Need-same-length-6
+same-length-6 c = search needs
+
+-- src/lib.rt:691:1
+same-length-7 : tie.Need-same-length-7
+same-length-7 c = search needs
+
+-- src/lib.rt:691:1
+returns : tie.Need-returns
+returns c =
+    let b = c .before .before .before .before .before .before .before .before .before .before .before .before .before .before .before .before .before .before .before .before .before .before .before .before .before .before .before .before .before .before .before .before .before .before .before .before .before .before .before .before .before .before .before .before .before .before .before .before .before in
+    let a = b .args in
+    let x = ran-answers (runOf (tablesOf (a .s .now)) (a .l, a .r) (a .budget)) (c .before .before .before .before .before .before .before .before .before .before .before .before .before .before .before .before .before .before .before .before .before .before .before .before .before .before .before .before .before .before .before .before .before .before .run-begun .last .1 .1 .1 .1 .1 .1 .1 .1 .1 .1 .0) (c .before .before .before .before .before .before .before .before .before .before .before .before .before .before .before .before .before .before .before .before .before .before .before .before .before .before .before .before .before .before .before .before .before .before .run-begun .last .1 .1 .1 .1 .1 .1 .1 .1 .1 .1 .1 .0) (c .before .before .before .before .before .before .before .before .before .before .before .before .before .before .before .before .before .before .before .before .before .before .before .before .before .before .before .before .before .before .before .before .before .before .run-begun .result) (a .out .now) _ (c .before .before .before .before .before .before .before .before .before .before .before .before .before .before .before .before .before .before .before .before .before .before .before .list-ran .result) (c .before .before .before .before .before .before .before .before .before .before .before .before .before .before .before .before .before .before .before .before .before .before .before .before .before .before .before .before .before .before .before .before .before .before .run-begun .ensures) (c .before .before .before .before .before .before .before .before .before .before .before .before .before .before .before .before .before .before .before .before .before .before .before .list-ran .ensures) in
+    finishes (tablesOf (a .s .now)) (a .l, a .r) (a .budget) (a .lefts .now) (a .rights .now) (a .index .now) (a .pairs .now) (a .terms .now) (a .runs .now) (a .out .now) _ _ _ _ _ _ _ (c .before .before .before .before .before .before .before .before .before .before .before .before .before .before .before .before .before .before .before .before .before .before .before .list-ran .last .1 .1 .1 .0) (c .before .before .before .before .before .before .before .before .before .before .before .before .before .before .before .before .before .before .before .before .before .before .before .before .before .before .before .before .before .before .before .before .before .before .run-begun .last .1 .1 .1 .1 .1 .1 .1 .1 .1 .0) (c .before .before .before .before .before .before .before .before .before .before .before .before .before .before .before .before .before .before .before .before .before .before .before .before .before .before .before .before .before .before .before .before .before .before .run-begun .last .1 .1 .1 .1 .1 .1 .1 .1 .1 .1 .0) (c .before .before .before .before .before .before .before .before .before .before .before .before .before .before .before .before .before .before .before .before .before .before .before .before .before .before .before .before .before .before .before .before .before .before .run-begun .last .1 .1 .1 .1 .1 .1 .1 .1 .1 .1 .1 .0) (c .before .before .before .before .before .before .before .before .before .before .before .before .before .before .before .before .before .before .before .before .before .before .before .list-ran .result) x (omega (arith, c .before .before .before .before .before .before .before .before .before .before .before .before .before .before .before .before .before .before .before .before .before .before .before .list-ran .kept)) (omega (arith, c .before .before .before .before .before .before .before .before .before .before .before .before .before .before .before .before .before .before .before .before .before .before .before .before .before .before .before .before .before .before .before .before .before .before .run-begun .kept)) (omega (arith, c .before .before .before .before .before .before .before .before .before .before .before .before .before .before .before .before .before .before .before .before .before .before .before .before .before .before .before .before .before .before .before .before .before .before .run-begun .kept)) (omega (arith, c .before .before .before .before .before .before .before .before .before .before .before .before .before .before .before .before .before .before .before .before .before .before .before .before .before .before .before .before .before .before .before .before .before .before .run-begun .kept)) (c .before .before .before .before .before .before .before .before .before .before .before .before .clear-all .ensures)
+
+pub finish-spec : {M : Type 1} → statement M
+finish-spec =
+    tie.close
+    (tie.spec
+    run-begun-requires
+    list-ran-requires
+    clear-all-requires
+    same-length
+    same-length-2
+    same-length-3
+    same-length-4
+    same-length-5
+    same-length-6
+    same-length-7
+    returns)

@@ -1,0 +1,53 @@
+-- What a run leaves and what is answered: a listing at the output's front, or a refusal.
+use mathlib.Core.Path.{_≡_}
+use mathlib.Core.List.{List}
+use Prim.Native.Nat.{ℕ, _<_}
+use lib.Dec.{leb}
+use lib.ListN.{length, take}
+use Rattle.spec.specs.Bytes.{Res, ok, refused, _>>=_, rule}
+use Rattle.spec.specs.Run as run
+use Rattle.spec.specs.Listing.{listingOf}
+use Rattle.spec.specs.Merge.{outputAfter}
+use Rattle.terms.specs.Buffers.{poolOf, countIn}
+use Rattle.terms.specs.Chains.{Holds}
+use Rattle.exact_fixed.specs.declared.Outcome.{Outcome}
+use Rattle.exact_fixed.specs.declared.Ran.{Ran}
+use Rattle.exact_fixed.specs.declared.Ran.the-variants as R
+use Rattle.exact_fixed.specs.declared.Answer.{Answer}
+use Rattle.exact_fixed.specs.declared.Answer.the-variants as A
+
+-- the outcome of a run whose pool the buffers hold
+abbrev pub outcomeIn : Outcome → List ℕ → List ℕ → run.Outcome
+outcomeIn o terms runs = record { complete = o .complete; pairs = o .pairs; rounds = o .rounds; quality = (o .size, o .mass); pool = poolOf terms runs; root = o .root }
+
+-- what is answered of a run: an outcome whose pool the buffers hold, or a refusal
+abbrev pub ranOf : Ran → List ℕ → List ℕ → Res run.Outcome
+ranOf (R.Stopped k) terms runs = refused k
+ranOf (R.Done o) terms runs = ok (outcomeIn o terms runs)
+
+abbrev pub Listable : Ran → List ℕ → List ℕ → Type 0
+Listable (R.Stopped k) terms runs = Unit
+Listable (R.Done o) terms runs = Holds terms runs × (o .root < countIn terms)
+
+-- The buffers hold the outcome of a run that came to m; a pool that is larger gives the same listing.
+abbrev pub RanTo : Res run.Outcome → List ℕ → List ℕ → Ran → Type 0
+RanTo m terms runs (R.Stopped k) = m ≡ refused k
+RanTo m terms runs (R.Done o) = (u : run.Outcome) × (m ≡ ok u) × (listingOf u ≡ listingOf (outcomeIn o terms runs)) × Holds terms runs × (o .root < countIn terms)
+
+-- "14: the listing exceeds the output buffer": the tail of `mergeOf`
+unfoldable pub listedOf : Res run.Outcome → ℕ → Res (List ℕ)
+unfolding listingOf
+listedOf m room = do
+  o ← m
+  _ ← rule 14 (leb (length (listingOf o)) room)
+  ok (listingOf o)
+
+-- the answer: the listing's length, or the refusal's number
+abbrev pub answerOf : List ℕ → Answer → Res (List ℕ)
+answerOf out (A.Listing n) = ok (take n out)
+answerOf out (A.Refused k) = refused k
+
+-- the answer and the output for a run that came to m
+pub record Answers (m : Res run.Outcome) (out out′ : List ℕ) (r : Answer) : Type 0 where
+  pub answer : answerOf out′ r ≡ listedOf m (length out)
+  pub output : out′ ≡ outputAfter out (listedOf m (length out))

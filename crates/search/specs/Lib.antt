@@ -1,0 +1,4 @@
+pub mod Net
+pub mod Holds
+pub mod Walk
+pub mod Fits

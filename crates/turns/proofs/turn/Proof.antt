@@ -1,0 +1,62 @@
+use native.Mathlib.Omega.{arith}
+use borrow.Author.Needs.{needs}
+use Rattle.spec.specs.Image.{tablesOf}
+use Rattle.quality.specs.Known.{qualityIn, termIn, numberIn}
+use Rattle.turns.specs.Offers.{workOf}
+use Rattle.turns.specs.PlanLaws.{known-low}
+use Rattle.turns.specs.Ending.{turn-done, turn-left, turn-fits}
+use Rattle.turns.proofs.turn.Statement.{statement}
+use Rattle.turns.proofs.turn.Tie as tie
+
+-- src/lib.rt:522:9
+best-aligned-requires : tie.Need-best-aligned-requires
+best-aligned-requires c κs = let b = c .before .before .before .before .before .before .before .before .before in (b .pre .0, b .pre .1, b .pre .2, b .pre .3, b .pre .4)
+
+-- src/lib.rt:523:5
+offer-transports-requires : tie.Need-offer-transports-requires
+offer-transports-requires c κs = let b = c .before .before .before .before .before .before .before .before .before .before .before .before .before .before .before in (b .pre .0, b .pre .1, b .pre .2, b .pre .3, b .pre .4, b .pre .5, b .pre .6, b .pre .7, b .pre .8, b .pre .9, b .pre .10)
+
+-- src/lib.rt:500:1
+same-length : tie.Need-same-length
+same-length c = search needs
+
+-- src/lib.rt:500:1
+same-length-2 : tie.Need-same-length-2
+same-length-2 c = search needs
+
+-- src/lib.rt:500:1
+same-length-3 : tie.Need-same-length-3
+same-length-3 c = search needs
+
+-- src/lib.rt:500:1
+same-length-4 : tie.Need-same-length-4
+same-length-4 c = search needs
+
+-- src/lib.rt:500:1
+same-length-5 : tie.Need-same-length-5
+same-length-5 c = search needs
+
+-- src/lib.rt:500:1
+returns : tie.Need-returns
+returns c =
+    let b = c .before .before .before .before .before .before .before .before .before .before .before .before .before .before .before .before .before .before .before .before .before .before .before .before .before .before in
+    let a = b .args in
+    let q = qualityIn (a .index .now) (a .pairs .now) in
+    let of = termIn (a .index .now) (a .pairs .now) in
+    let t = tablesOf (a .s .now) in
+    let f = c .before .before .before .before .before .before .before .before .before .before .before .before .before .before .before .before .before .before .before .before .before .before .before .shared-slice-known3 .given (numberIn (a .index .now) (a .l, a .r)) in
+    let z = turn-fits t q of (a .l, a .r) _ (c .before .before .before .before .before .before .before .before .before .before .offer-transports .result) (turn-done t q of (a .l, a .r) (workOf (a .sizes .now) (a .masses .now) (a .costs .now) (a .flow .now) (a .list .now) (c .before .before .before .before .before .before .before .before .before .before .before .before .before .before .before .before .best-aligned .result)) _ (c .before .before .before .before .before .before .before .before .before .before .offer-transports .ensures) (c .before .before .before .before .before .before .before .before .before .before .before .before .before .before .before .before .best-aligned .ensures)) (known-low (b .pre .4)) (omega (arith, f .fits)) in
+    (turn-done t q of (a .l, a .r) (workOf (a .sizes .now) (a .masses .now) (a .costs .now) (a .flow .now) (a .list .now) (c .before .before .before .before .before .before .before .before .before .before .before .before .before .before .before .before .best-aligned .result)) _ (c .before .before .before .before .before .before .before .before .before .before .offer-transports .ensures) (c .before .before .before .before .before .before .before .before .before .before .before .before .before .before .before .before .best-aligned .ensures), turn-left t q of (a .l, a .r) (workOf (a .sizes .now) (a .masses .now) (a .costs .now) (a .flow .now) (a .list .now) (c .before .before .before .before .before .before .before .before .before .before .before .before .before .before .before .before .best-aligned .result)) _ (c .before .before .before .before .before .before .before .before .before .before .offer-transports .ensures) (c .before .before .before .before .before .before .before .before .before .before .before .before .before .before .before .before .best-aligned .ensures), z .0, z .1)
+
+pub turn-spec : {M : Type 1} → statement M
+turn-spec =
+    tie.close
+    (tie.spec
+    best-aligned-requires
+    offer-transports-requires
+    same-length
+    same-length-2
+    same-length-3
+    same-length-4
+    same-length-5
+    returns)

@@ -1,0 +1,113 @@
+-- The turn in the buffers is the definition's turn: the best so far has the quality of its choice, and a plan that was chosen is listed.
+use mathlib.Core.Path.{_≡_, refl, sym, ap}
+use mathlib.Core.Bool.{Bool, true, false}
+use mathlib.Core.List.{List, [], _∷_}
+use mathlib.Core.Option.{Option, none, some}
+use Prim.Native.Nat.{ℕ}
+use lib.ListN.{length, take, drop, replicate}
+use lib.Seq.{take-at}
+use Rattle.spec.specs.Bytes.{Two, pick}
+use Rattle.spec.specs.Image.{Tables}
+use Rattle.spec.specs.Monomial.{counts}
+use Rattle.spec.specs.Transport.{solveCells}
+use Rattle.spec.specs.Action.{TransportAction, transports, cellPairs}
+use Rattle.spec.specs.Round.{better, Choice, stay, act, Turn, offerPlan, offerTransports, turnOf}
+use Rattle.actions.specs.Remaining.{Stands}
+use Rattle.transport.specs.Solved.{costsAfter, flowAfter}
+use Rattle.quality.specs.Known.{over}
+use Rattle.quality.specs.Aligned.{actAt, choiceAt, StandsAt, afterAligned, Aligns}
+use Rattle.quality.specs.declared.How.{How}
+use Rattle.quality.specs.declared.How.the-variants as H
+use Rattle.quality.specs.declared.Best.{Best}
+use Rattle.turns.specs.Laying.{sizesAt, massesAt}
+use Rattle.turns.specs.Listing.{runsOver, runsAt}
+use Rattle.turns.specs.Offers.{Work, workOf, problemAt, qualityAt, planned, bestAfter, listAfter, offerIn, offersIn}
+use Rattle.turns.specs.Taking.{alignedBest, turnIn}
+
+-- the choice c is a plan under operation o, and its runs are the first m of the list
+pub record Planned (of : Two → ℕ) (list : List ℕ) (o m : ℕ) (c : Choice) : Type 0 where
+  pub places : List Two
+  pub plan : List ℕ
+  pub is : c ≡ act o places plan
+  pub runs : take m list ≡ runsOver of places plan
+  pub many : m ≡ length (runsOver of places plan)
+
+abbrev pub Chosen : Tables → (Two → ℕ) → List ℕ → How → Choice → Type 0
+Chosen t of list H.Stay c = c ≡ stay
+Chosen t of list (H.Aligned v) c = Stands t v × (c ≡ actAt t v)
+Chosen t of list (H.Plan o m) c = Planned of list o m c
+
+pub record Agrees (t : Tables) (of : Two → ℕ) (list : List ℕ) (b : Best) (w : Turn) : Type 0 where
+  pub quality : (b .size, b .mass) ≡ w .quality
+  pub chosen : Chosen t of list (b .how) (w .choice)
+
+-- the five work buffers are the same
+pub record Same (v w : Work) : Type 0 where
+  pub sizes : v .sizes ≡ w .sizes
+  pub masses : v .masses ≡ w .masses
+  pub costs : v .costs ≡ w .costs
+  pub flow : v .flow ≡ w .flow
+  pub list : v .list ≡ w .list
+
+module _ (t : Tables) (q : Two → Two) (of : Two → ℕ) where
+  -- ---- one offer
+  agrees-plan : (a : TransportAction) (z : Option (List ℕ)) (list : List ℕ) (b : Best) (w : Turn) → Agrees t of list b w → Agrees t of (listAfter q of a z b list) (bestAfter q of a z b) (offerPlan q a z w)
+  unfolding offerPlan
+  agrees-plan a none list b w A = A
+  agrees-plan a (some x) list b w A =
+      let e : better (qualityAt q of a x) (b .size, b .mass) ≡ better (qualityAt q of a x) (w .quality) = ap (better (qualityAt q of a x)) (A .quality) in
+      rw (← e) (step (better (qualityAt q of a x) (b .size, b .mass)))
+    where
+      step : (y : Bool) → Agrees t of (pick y (over (runsAt of (a .sides) x) list) list) (pick y (planned q of a x) b) (pick y (record { quality = qualityAt q of a x; choice = act (a .op) (cellPairs (a .sides)) x }) w)
+      step true = record {
+        quality = refl;
+        chosen = record { places = cellPairs (a .sides); plan = x; is = refl; runs = take-at (runsAt of (a .sides) x) (drop (length (runsAt of (a .sides) x)) list) (length (runsAt of (a .sides) x)) refl; many = refl };
+      }
+      step false = A
+
+  offers-agree : (l : List TransportAction) (v : Work) (w : Turn) → Agrees t of (v .list) (v .best) w → Agrees t of (offersIn q of l v .list) (offersIn q of l v .best) (offerTransports q l w)
+  unfolding offersIn offerTransports offerIn
+  offers-agree [] v w A = A
+  offers-agree (a ∷ l) v w A =
+      offers-agree l (offerIn q of a v) (offerPlan q a (solveCells (problemAt q of a)) w) (agrees-plan a (solveCells (problemAt q of a)) (v .list) (v .best) w A)
+
+  -- ---- after the structural actions
+  aligned-agrees : (p : Two) (list : List ℕ) (b : Best) → Aligns t q p b → Agrees t of list b (afterAligned t q p)
+  aligned-agrees p list b A = record { quality = A .quality; chosen = go (b .how) (A .choice) (A .stands) }
+    where
+      go : (h : How) → choiceAt t h ≡ afterAligned t q p .choice → StandsAt t h → Chosen t of list h (afterAligned t q p .choice)
+      go H.Stay e s = sym e
+      go (H.Aligned v) e s = (s, sym e)
+      go (H.Plan o m) e s = absurd s
+
+  -- "structural actions come before transport"
+  pub turn-agrees : (p : Two) (v : Work) → Aligns t q p (v .best) → Agrees t of (offersIn q of (transports t (p .0) (p .1)) v .list) (offersIn q of (transports t (p .0) (p .1)) v .best) (turnOf t q p)
+  unfolding turnOf afterAligned
+  turn-agrees p v A = offers-agree (transports t (p .0) (p .1)) v (afterAligned t q p) (aligned-agrees p (v .list) (v .best) A)
+
+  -- ---- where the best comes from does not count
+  same-refl : (v : Work) → Same v v
+  same-refl v = record { sizes = refl; masses = refl; costs = refl; flow = refl; list = refl }
+
+  alike : (l : List TransportAction) (s m c f list : List ℕ) (b d : Best) → b .size ≡ d .size → b .mass ≡ d .mass → Same (offersIn q of l (workOf s m c f list b)) (offersIn q of l (workOf s m c f list d))
+  unfolding offersIn offerIn
+  alike [] s m c f list b d e g = record { sizes = refl; masses = refl; costs = refl; flow = refl; list = refl }
+  alike (a ∷ l) s m c f list b d e g =
+      step (solveCells (problemAt q of a))
+      (over (sizesAt q (a .sides)) s) (over (massesAt q (a .sides)) m) (costsAfter (counts (a .sides .rows)) (counts (a .sides .cols)) (sizesAt q (a .sides)) (massesAt q (a .sides)) (replicate (length (cellPairs (a .sides))) 1) c) (flowAfter (problemAt q of a) f)
+      (λ s m c f. alike l s m c f list b d e g)
+    where
+      step : (z : Option (List ℕ)) (s m c f : List ℕ) → ((s m c f : List ℕ) → Same (offersIn q of l (workOf s m c f list b)) (offersIn q of l (workOf s m c f list d)))
+          → Same (offersIn q of l (workOf s m c f (listAfter q of a z b list) (bestAfter q of a z b))) (offersIn q of l (workOf s m c f (listAfter q of a z d list) (bestAfter q of a z d)))
+      step none s m c f ih = ih s m c f
+      step (some x) s m c f ih =
+          let u : better (qualityAt q of a x) (b .size, b .mass) ≡ better (qualityAt q of a x) (d .size, d .mass) = λ i. better (qualityAt q of a x) (e i, g i) in
+          rw (← u) (pass (better (qualityAt q of a x) (b .size, b .mass)))
+        where
+          pass : (y : Bool) → Same (offersIn q of l (workOf s m c f (pick y (over (runsAt of (a .sides) x) list) list) (pick y (planned q of a x) b))) (offersIn q of l (workOf s m c f (pick y (over (runsAt of (a .sides) x) list) list) (pick y (planned q of a x) d)))
+          pass true = same-refl (offersIn q of l (workOf s m c f (over (runsAt of (a .sides) x) list) (planned q of a x)))
+          pass false = ih s m c f
+
+  pub turn-same : (p : Two) (s m c f list : List ℕ) (b : Best) → Aligns t q p b → Same (offersIn q of (transports t (p .0) (p .1)) (workOf s m c f list b)) (turnIn t q of p s m c f list)
+  unfolding turnIn
+  turn-same p s m c f list b A = alike (transports t (p .0) (p .1)) s m c f list b (alignedBest t q p) (ap (λ (z : Two). z .0) (A .quality)) (ap (λ (z : Two). z .1) (A .quality))
