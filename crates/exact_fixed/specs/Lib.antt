@@ -16,3 +16,4 @@ pub mod GraphLaws
 pub mod BeginLaws
 pub mod FinishLaws
 pub mod ReadyLaws
+pub mod MergeLaws
