@@ -3,7 +3,7 @@ use mathlib.Core.Path.{_≡_, refl, sym, ap, _∙_}
 use mathlib.Core.Bool.{Bool, true, false}
 use mathlib.Core.List.{List}
 use mathlib.Core.Option.{some}
-use Prim.Native.Nat.{ℕ, _+_, _*_, _≤_}
+use Prim.Native.Nat.{ℕ, _+_, _≤_}
 use native.Mathlib.Omega.{arith}
 use lib.ListN.{length}
 use Rattle.spec.specs.Bytes.{Two}
@@ -12,7 +12,7 @@ use Rattle.spec.specs.Round.{better}
 use Rattle.wide.specs.declared.Wide.{Wide}
 use Rattle.wide.specs.Value.{unsigned}
 use Rattle.wide.specs.Wrap.{Natural}
-use Rattle.quality.specs.Known.{Known, numberIn, qualityIn, over}
+use Rattle.quality.specs.Known.{over}
 use Rattle.quality.specs.declared.How.the-variants as H
 use Rattle.quality.specs.declared.Best.{Best}
 use Rattle.turns.specs.Sums.{dot, dot-size, dot-mass, mass-below}
@@ -20,10 +20,6 @@ use Rattle.turns.specs.Laying.{sizesAt, massesAt}
 use Rattle.turns.specs.Listing.{runsAt}
 use Rattle.turns.specs.Better.{Words}
 use Rattle.turns.specs.Offers.{qualityAt, bestAfter, listAfter}
-
--- of every pair
-pub known-low : {n : ℕ} {index pairs : List ℕ} → Known n index pairs → (p : Two) → qualityIn index pairs p .1 ≤ qualityIn index pairs p .0
-known-low {n} {index} {pairs} K p = K .low (numberIn index p) (K .below (p .0 * 256 + p .1))
 
 natural-is : {d : Wide} {n : ℕ} → Natural d n → unsigned d ≡ n
 unfolding unsigned

@@ -25,9 +25,10 @@ slice-aggregate-evaluate-generalize-action c = search needs
 -- src/lib.rt:690:9
 evaluate-generalize-action-requires : tie.Need-evaluate-generalize-action-requires
 evaluate-generalize-action-requires c κs =
+    let at-empty = c .before .before .before .before .before .empty in
     let b = c .before .before .before .before .before .before .before .before .before .before .before .before .before in
     let a = b .args in
-    let h : Holds (c .before .before .before .before .before .empty .last .0) (a .runs .now) = rw (c .before .before .before .before .before .empty .ensures) (emptied-holds (a .terms .now) (a .runs .now) (omega (arith, b .pre .7)) (omega (arith, b .pre .8))) in
+    let h : Holds (at-empty .last .0) (a .runs .now) = rw (at-empty .ensures) (emptied-holds (a .terms .now) (a .runs .now) (omega (arith, b .pre .7)) (omega (arith, b .pre .8))) in
     (h, b .pre .0, b .pre .1, b .pre .2, b .pre .3, refl, kept-none (tablesOf (a .s .now)) _ 256)
 
 -- src/lib.rt:693:13
@@ -45,8 +46,11 @@ same-length-2 c = search needs
 -- src/lib.rt:693:13
 returns : tie.Need-returns
 returns c =
-    let a = c .before .before .before .before .before .before .before .before .before .before .before .before .before .before .before .before .before .before .before .before .before .args in
-    begin-refused (tablesOf (a .s .now)) (a .l, a .r) (a .budget) (a .lefts .now) (a .rights .now) (a .index .now) (a .terms .now) (a .runs .now) _ _ _ _ (rw (c .before .before .before .before .before .before .before .before .before .before .before .before .before .empty .ensures, c .enum-told .given .1) at (c .before .before .before .before .before .before .before .evaluate-generalize-action .ensures))
+    let at-start = c .before .before .before .before .before .before .before .before .before .before .before .before .before .before .before .before .before .before .before .before .before in
+    let at-empty = c .before .before .before .before .before .before .before .before .before .before .before .before .before .empty in
+    let at-evaluate-generalize-action = c .before .before .before .before .before .before .before .evaluate-generalize-action in
+    let a = at-start .args in
+    begin-refused (tablesOf (a .s .now)) (a .l, a .r) (a .budget) (a .lefts .now) (a .rights .now) (a .index .now) (a .terms .now) (a .runs .now) _ _ _ _ (rw (at-empty .ensures, c .enum-told .given .1) at (at-evaluate-generalize-action .ensures))
 
 -- src/lib.rt:695:23
 enum-known-e : tie.Need-enum-known-e
@@ -83,8 +87,13 @@ same-length-7 c = search needs
 -- src/lib.rt:702:21
 returns-2 : tie.Need-returns-2
 returns-2 c =
-    let a = c .before .before .before .before .before .before .before .before .before .before .before .before .before .before .before .before .before .before .before .before .before .before .before .before .before .before .before .before .before .before .before .before .before .before .args in
-    begin-full (tablesOf (a .s .now)) (a .l, a .r) (a .budget) (a .lefts .now) (a .rights .now) (a .index .now) (a .terms .now) (a .runs .now) _ _ _ _ _ (rw (c .before .before .before .before .before .before .before .before .before .before .before .before .before .before .before .before .before .before .before .before .before .before .before .before .before .before .empty .ensures, c .before .before .before .before .before .before .before .before .before .before .before .before .before .e .given .1) at (c .before .before .before .before .before .before .before .before .before .before .before .before .before .before .before .before .before .before .before .before .evaluate-generalize-action .ensures)) _ _ _ (rw (c .enum-told2 .given .1) at (c .before .before .before .before .before .before .before .before .build .ensures))
+    let at-start = c .before .before .before .before .before .before .before .before .before .before .before .before .before .before .before .before .before .before .before .before .before .before .before .before .before .before .before .before .before .before .before .before .before .before in
+    let at-empty = c .before .before .before .before .before .before .before .before .before .before .before .before .before .before .before .before .before .before .before .before .before .before .before .before .before .before .empty in
+    let at-e = c .before .before .before .before .before .before .before .before .before .before .before .before .before .e in
+    let at-evaluate-generalize-action = c .before .before .before .before .before .before .before .before .before .before .before .before .before .before .before .before .before .before .before .before .evaluate-generalize-action in
+    let at-build = c .before .before .before .before .before .before .before .before .build in
+    let a = at-start .args in
+    begin-full (tablesOf (a .s .now)) (a .l, a .r) (a .budget) (a .lefts .now) (a .rights .now) (a .index .now) (a .terms .now) (a .runs .now) _ _ _ _ _ (rw (at-empty .ensures, at-e .given .1) at (at-evaluate-generalize-action .ensures)) _ _ _ (rw (c .enum-told2 .given .1) at (at-build .ensures))
 
 -- src/lib.rt:705:21
 enum-told-3 : tie.Need-enum-told-3
@@ -113,8 +122,13 @@ same-length-12 c = search needs
 -- src/lib.rt:705:21
 returns-3 : tie.Need-returns-3
 returns-3 c =
-    let a = c .before .before .before .before .before .before .before .before .before .before .before .before .before .before .before .before .before .before .before .before .before .before .before .before .before .before .before .before .before .before .before .before .before .before .args in
-    begin-cut (tablesOf (a .s .now)) (a .l, a .r) (a .budget) (a .lefts .now) (a .rights .now) (a .index .now) (a .terms .now) (a .runs .now) _ _ _ _ _ (rw (c .before .before .before .before .before .before .before .before .before .before .before .before .before .before .before .before .before .before .before .before .before .before .before .before .before .before .empty .ensures, c .before .before .before .before .before .before .before .before .before .before .before .before .before .e .given .1) at (c .before .before .before .before .before .before .before .before .before .before .before .before .before .before .before .before .before .before .before .before .evaluate-generalize-action .ensures)) _ _ _ (rw (c .enum-told3 .given .1) at (c .before .before .before .before .before .before .before .before .build .ensures))
+    let at-start = c .before .before .before .before .before .before .before .before .before .before .before .before .before .before .before .before .before .before .before .before .before .before .before .before .before .before .before .before .before .before .before .before .before .before in
+    let at-empty = c .before .before .before .before .before .before .before .before .before .before .before .before .before .before .before .before .before .before .before .before .before .before .before .before .before .before .empty in
+    let at-e = c .before .before .before .before .before .before .before .before .before .before .before .before .before .e in
+    let at-evaluate-generalize-action = c .before .before .before .before .before .before .before .before .before .before .before .before .before .before .before .before .before .before .before .before .evaluate-generalize-action in
+    let at-build = c .before .before .before .before .before .before .before .before .build in
+    let a = at-start .args in
+    begin-cut (tablesOf (a .s .now)) (a .l, a .r) (a .budget) (a .lefts .now) (a .rights .now) (a .index .now) (a .terms .now) (a .runs .now) _ _ _ _ _ (rw (at-empty .ensures, at-e .given .1) at (at-evaluate-generalize-action .ensures)) _ _ _ (rw (c .enum-told3 .given .1) at (at-build .ensures))
 
 -- src/lib.rt:707:28
 enum-known-g : tie.Need-enum-known-g
@@ -143,8 +157,13 @@ same-length-17 c = search needs
 -- src/lib.rt:708:21
 returns-4 : tie.Need-returns-4
 returns-4 c =
-    let a = c .before .before .before .before .before .before .before .before .before .before .before .before .before .before .before .before .before .before .before .before .before .before .before .before .before .before .before .before .before .before .before .before .before .before .before .args in
-    begin-all (tablesOf (a .s .now)) (a .l, a .r) (a .budget) (a .lefts .now) (a .rights .now) (a .index .now) (a .terms .now) (a .runs .now) _ _ _ _ _ (rw (c .before .before .before .before .before .before .before .before .before .before .before .before .before .before .before .before .before .before .before .before .before .before .before .before .before .before .before .empty .ensures, c .before .before .before .before .before .before .before .before .before .before .before .before .before .before .e .given .1) at (c .before .before .before .before .before .before .before .before .before .before .before .before .before .before .before .before .before .before .before .before .before .evaluate-generalize-action .ensures)) _ _ _ _ _ (rw (c .before .g .given .1) at (c .before .before .before .before .before .before .before .before .before .build .ensures))
+    let at-start = c .before .before .before .before .before .before .before .before .before .before .before .before .before .before .before .before .before .before .before .before .before .before .before .before .before .before .before .before .before .before .before .before .before .before .before in
+    let at-empty = c .before .before .before .before .before .before .before .before .before .before .before .before .before .before .before .before .before .before .before .before .before .before .before .before .before .before .before .empty in
+    let at-e = c .before .before .before .before .before .before .before .before .before .before .before .before .before .before .e in
+    let at-evaluate-generalize-action = c .before .before .before .before .before .before .before .before .before .before .before .before .before .before .before .before .before .before .before .before .before .evaluate-generalize-action in
+    let at-build = c .before .before .before .before .before .before .before .before .before .build in
+    let a = at-start .args in
+    begin-all (tablesOf (a .s .now)) (a .l, a .r) (a .budget) (a .lefts .now) (a .rights .now) (a .index .now) (a .terms .now) (a .runs .now) _ _ _ _ _ (rw (at-empty .ensures, at-e .given .1) at (at-evaluate-generalize-action .ensures)) _ _ _ _ _ (rw (c .before .g .given .1) at (at-build .ensures))
 
 pub begin-spec : {M : Type 1} → statement M
 begin-spec =

@@ -19,9 +19,10 @@ run-begun-requires c κs = search needs
 -- src/lib.rt:723:9
 list-ran-requires : tie.Need-list-ran-requires
 list-ran-requires c κs =
+    let at-run-begun = c .before .before .before .before .before .before .before .before .before .before .run-begun in
     let b = c .before .before .before .before .before .before .before .before .before .before .before .before .before .before .before .before .before .before .before .before .before .before .before .before .before in
     let a = b .args in
-    (ran-listable (runOf (tablesOf (a .s .now)) (a .l, a .r) (a .budget)) (c .before .before .before .before .before .before .before .before .before .before .run-begun .last .1 .1 .1 .1 .1 .1 .1 .1 .1 .1 .0) (c .before .before .before .before .before .before .before .before .before .before .run-begun .last .1 .1 .1 .1 .1 .1 .1 .1 .1 .1 .1 .0) (c .before .before .before .before .before .before .before .before .before .before .run-begun .result) (c .before .before .before .before .before .before .before .before .before .before .run-begun .ensures), omega (arith, b .pre .6))
+    (ran-listable (runOf (tablesOf (a .s .now)) (a .l, a .r) (a .budget)) (at-run-begun .last .1 .1 .1 .1 .1 .1 .1 .1 .1 .1 .0) (at-run-begun .last .1 .1 .1 .1 .1 .1 .1 .1 .1 .1 .1 .0) (at-run-begun .result) (at-run-begun .ensures), omega (arith, b .pre .6))
 
 -- src/lib.rt:724:5
 clear-all-requires : tie.Need-clear-all-requires
@@ -58,10 +59,13 @@ same-length-7 c = search needs
 -- src/lib.rt:691:1
 returns : tie.Need-returns
 returns c =
+    let at-run-begun = c .before .before .before .before .before .before .before .before .before .before .before .before .before .before .before .before .before .before .before .before .before .before .before .before .before .before .before .before .before .before .before .before .before .before .run-begun in
+    let at-list-ran = c .before .before .before .before .before .before .before .before .before .before .before .before .before .before .before .before .before .before .before .before .before .before .before .list-ran in
+    let at-clear-all = c .before .before .before .before .before .before .before .before .before .before .before .before .clear-all in
     let b = c .before .before .before .before .before .before .before .before .before .before .before .before .before .before .before .before .before .before .before .before .before .before .before .before .before .before .before .before .before .before .before .before .before .before .before .before .before .before .before .before .before .before .before .before .before .before .before .before .before in
     let a = b .args in
-    let x = ran-answers (runOf (tablesOf (a .s .now)) (a .l, a .r) (a .budget)) (c .before .before .before .before .before .before .before .before .before .before .before .before .before .before .before .before .before .before .before .before .before .before .before .before .before .before .before .before .before .before .before .before .before .before .run-begun .last .1 .1 .1 .1 .1 .1 .1 .1 .1 .1 .0) (c .before .before .before .before .before .before .before .before .before .before .before .before .before .before .before .before .before .before .before .before .before .before .before .before .before .before .before .before .before .before .before .before .before .before .run-begun .last .1 .1 .1 .1 .1 .1 .1 .1 .1 .1 .1 .0) (c .before .before .before .before .before .before .before .before .before .before .before .before .before .before .before .before .before .before .before .before .before .before .before .before .before .before .before .before .before .before .before .before .before .before .run-begun .result) (a .out .now) _ (c .before .before .before .before .before .before .before .before .before .before .before .before .before .before .before .before .before .before .before .before .before .before .before .list-ran .result) (c .before .before .before .before .before .before .before .before .before .before .before .before .before .before .before .before .before .before .before .before .before .before .before .before .before .before .before .before .before .before .before .before .before .before .run-begun .ensures) (c .before .before .before .before .before .before .before .before .before .before .before .before .before .before .before .before .before .before .before .before .before .before .before .list-ran .ensures) in
-    finishes (tablesOf (a .s .now)) (a .l, a .r) (a .budget) (a .lefts .now) (a .rights .now) (a .index .now) (a .pairs .now) (a .terms .now) (a .runs .now) (a .out .now) _ _ _ _ _ _ _ (c .before .before .before .before .before .before .before .before .before .before .before .before .before .before .before .before .before .before .before .before .before .before .before .list-ran .last .1 .1 .1 .0) (c .before .before .before .before .before .before .before .before .before .before .before .before .before .before .before .before .before .before .before .before .before .before .before .before .before .before .before .before .before .before .before .before .before .before .run-begun .last .1 .1 .1 .1 .1 .1 .1 .1 .1 .0) (c .before .before .before .before .before .before .before .before .before .before .before .before .before .before .before .before .before .before .before .before .before .before .before .before .before .before .before .before .before .before .before .before .before .before .run-begun .last .1 .1 .1 .1 .1 .1 .1 .1 .1 .1 .0) (c .before .before .before .before .before .before .before .before .before .before .before .before .before .before .before .before .before .before .before .before .before .before .before .before .before .before .before .before .before .before .before .before .before .before .run-begun .last .1 .1 .1 .1 .1 .1 .1 .1 .1 .1 .1 .0) (c .before .before .before .before .before .before .before .before .before .before .before .before .before .before .before .before .before .before .before .before .before .before .before .list-ran .result) x (omega (arith, c .before .before .before .before .before .before .before .before .before .before .before .before .before .before .before .before .before .before .before .before .before .before .before .list-ran .kept)) (omega (arith, c .before .before .before .before .before .before .before .before .before .before .before .before .before .before .before .before .before .before .before .before .before .before .before .before .before .before .before .before .before .before .before .before .before .before .run-begun .kept)) (omega (arith, c .before .before .before .before .before .before .before .before .before .before .before .before .before .before .before .before .before .before .before .before .before .before .before .before .before .before .before .before .before .before .before .before .before .before .run-begun .kept)) (omega (arith, c .before .before .before .before .before .before .before .before .before .before .before .before .before .before .before .before .before .before .before .before .before .before .before .before .before .before .before .before .before .before .before .before .before .before .run-begun .kept)) (c .before .before .before .before .before .before .before .before .before .before .before .before .clear-all .ensures)
+    let x = ran-answers (runOf (tablesOf (a .s .now)) (a .l, a .r) (a .budget)) (at-run-begun .last .1 .1 .1 .1 .1 .1 .1 .1 .1 .1 .0) (at-run-begun .last .1 .1 .1 .1 .1 .1 .1 .1 .1 .1 .1 .0) (at-run-begun .result) (a .out .now) _ (at-list-ran .result) (at-run-begun .ensures) (at-list-ran .ensures) in
+    finishes (tablesOf (a .s .now)) (a .l, a .r) (a .budget) (a .lefts .now) (a .rights .now) (a .index .now) (a .pairs .now) (a .terms .now) (a .runs .now) (a .out .now) _ _ _ _ _ _ _ (at-list-ran .last .1 .1 .1 .0) (at-run-begun .last .1 .1 .1 .1 .1 .1 .1 .1 .1 .0) (at-run-begun .last .1 .1 .1 .1 .1 .1 .1 .1 .1 .1 .0) (at-run-begun .last .1 .1 .1 .1 .1 .1 .1 .1 .1 .1 .1 .0) (at-list-ran .result) x (omega (arith, at-list-ran .kept)) (omega (arith, at-run-begun .kept)) (omega (arith, at-run-begun .kept)) (omega (arith, at-run-begun .kept)) (at-clear-all .ensures)
 
 pub finish-spec : {M : Type 1} → statement M
 finish-spec =

@@ -15,7 +15,8 @@ enum-known-x c = search needs
 -- src/lib.rt:589:13
 returns : tie.Need-returns
 returns c =
-    let a = c .before .before .before .before .before .before .before .args in
+    let at-start = c .before .before .before .before .before .before .before in
+    let a = at-start .args in
     rw (c .before .x .given .1) (answer-refused (refused _) _ (a .out .now) refl)
 
 -- src/lib.rt:591:19
@@ -39,7 +40,10 @@ same-length-2 c = search needs
 
 -- src/lib.rt:592:13
 returns-2 : tie.Need-returns-2
-returns-2 c = rw (c .before .before .before .before .before .before .before .before .x2 .given .1) (c .before .before .before .before .list-outcome .ensures)
+returns-2 c =
+    let at-x2 = c .before .before .before .before .before .before .before .before .x2 in
+    let at-list-outcome = c .before .before .before .before .list-outcome in
+    rw (at-x2 .given .1) (at-list-outcome .ensures)
 
 pub list-ran-spec : {M : Type 1} → statement M
 list-ran-spec =

@@ -54,11 +54,13 @@ same-length-3 c = search needs
 -- src/lib.rt:409:13
 returns : tie.Need-returns Inv-loop μ-loop
 returns c =
+    let at-loop-test = c .before .before .before .before .loop-test in
+    let at-spend = c .before .before .before .spend in
     let b = c .before .before .before .before .before .before .before .before .before .before .before .before .before in
     let a = b .args in
     let l = c .before .before .before .before .before .loop in
     let n = twos-length (a .lefts .now) (a .rights .now) 0 0 (a .n) in
-    turn-cut (tablesOf (a .s .now)) (pairsIn (a .lefts .now) (a .rights .now) (a .n)) (stateIn (a .pairs .now) (a .terms .now) (a .runs .now) (a .n) 0 0) (roundAt (tablesOf (a .s .now)) (pairsIn (a .lefts .now) (a .rights .now) (a .n)) (stateIn (a .pairs .now) (a .terms .now) (a .runs .now) (a .n) 0 0) (a .b .left)) (l .pairs) (l .terms) (l .runs) (l .k) (l .bud .left) (l .changed) (omega (arith, n, c .before .before .before .before .loop-test .taken)) (l .inv .4) (expired (l .bud) (c .before .before .before .spend .result) (c .before .before .before .spend .ensures) (c .if1 .taken))
+    turn-cut (tablesOf (a .s .now)) (pairsIn (a .lefts .now) (a .rights .now) (a .n)) (stateIn (a .pairs .now) (a .terms .now) (a .runs .now) (a .n) 0 0) (roundAt (tablesOf (a .s .now)) (pairsIn (a .lefts .now) (a .rights .now) (a .n)) (stateIn (a .pairs .now) (a .terms .now) (a .runs .now) (a .n) 0 0) (a .b .left)) (l .pairs) (l .terms) (l .runs) (l .k) (l .bud .left) (l .changed) (omega (arith, n, at-loop-test .taken)) (l .inv .4) (expired (l .bud) (at-spend .result) (at-spend .ensures) (c .if1 .taken))
 
 -- src/lib.rt:411:13
 class-at-requires : tie.Need-class-at-requires Inv-loop μ-loop
@@ -71,13 +73,16 @@ class-at-requires-2 c κs = search needs
 -- src/lib.rt:413:13
 take-one-requires : tie.Need-take-one-requires Inv-loop μ-loop
 take-one-requires c κs =
+    let at-loop-test = c .before .before .before .before .before .before .before .before .before .before .before .before .before .before .loop-test in
+    let at-class-at = c .before .before .before .before .before .before .before .before .before .class-at in
+    let at-class-at2 = c .before .before .before .before .before .before .before .before .class-at2 in
     let b = c .before .before .before .before .before .before .before .before .before .before .before .before .before .before .before .before .before .before .before .before .before .before .before in
     let a = b .args in
     let l = c .before .before .before .before .before .before .before .before .before .before .before .before .before .before .before .loop in
     let n = twos-length (a .lefts .now) (a .rights .now) 0 0 (a .n) in
     let m = classes-many (a .s .now) (a .im) (b .pre .0) in
-    let h = c .before .before .before .before .before .before .before .before .before .before .before .before .before .before .loop-test .taken in
-    let r = pair-ranged (tablesOf (a .s .now)) (a .lefts .now) (a .rights .now) (a .n) (l .k) h (b .pre .4 .pairs) (c .before .before .before .before .before .before .before .before .before .class-at .result) (c .before .before .before .before .before .before .before .before .class-at2 .result) (c .before .before .before .before .before .before .before .before .before .class-at .ensures .0) (c .before .before .before .before .before .before .before .before .class-at2 .ensures .0) in
+    let h = at-loop-test .taken in
+    let r = pair-ranged (tablesOf (a .s .now)) (a .lefts .now) (a .rights .now) (a .n) (l .k) h (b .pre .4 .pairs) (at-class-at .result) (at-class-at2 .result) (at-class-at .ensures .0) (at-class-at2 .ensures .0) in
     let R : Reads (stateIn (a .pairs .now) (a .terms .now) (a .runs .now) (a .n) 0 0) (l .pairs) (a .n) = rw n at (l .inv .4 .reads) in
     (b .pre .0, b .pre .1, omega (arith, r .0, m), omega (arith, r .1, m), omega (arith, h, b .pre .4 .few), known-here (tablesOf (a .s .now)) (pairsIn (a .lefts .now) (a .rights .now) (a .n)) (a .n) (a .index .now) (b .pre .4) (stateIn (a .pairs .now) (a .terms .now) (a .runs .now) (a .n) 0 0) (l .pairs) R (b .pre .7), l .inv .4 .holds, terms-here (tablesOf (a .s .now)) (pairsIn (a .lefts .now) (a .rights .now) (a .n)) (a .n) (a .index .now) (b .pre .4) (stateIn (a .pairs .now) (a .terms .now) (a .runs .now) (a .n) 0 0) (l .pairs) R (b .pre .7) (poolOf (a .terms .now) (a .runs .now)) (l .k) _ (l .terms) (l .runs) refl (l .inv .4 .midway))
 
@@ -100,15 +105,21 @@ same-length-6 c = search needs
 -- src/lib.rt:432:17
 returns-2 : tie.Need-returns-2 Inv-loop μ-loop
 returns-2 c =
+    let at-loop-test = c .before .before .before .before .before .before .before .before .before .before .before .before .before .before .before .before .before .before .before .before .before .before .before .loop-test in
+    let at-class-at = c .before .before .before .before .before .before .before .before .before .before .before .before .before .before .before .before .before .before .class-at in
+    let at-class-at2 = c .before .before .before .before .before .before .before .before .before .before .before .before .before .before .before .before .before .class-at2 in
+    let at-spend = c .before .before .before .before .before .before .before .before .before .before .before .before .before .before .before .before .before .before .before .before .before .before .spend in
+    let at-if1 = c .before .before .before .before .before .before .before .before .before .before .before .before .before .before .before .before .before .before .before .if1 in
+    let at-take-one = c .before .before .before .before .before .before .before .before .take-one in
     let b = c .before .before .before .before .before .before .before .before .before .before .before .before .before .before .before .before .before .before .before .before .before .before .before .before .before .before .before .before .before .before .before .before in
     let a = b .args in
     let l = c .before .before .before .before .before .before .before .before .before .before .before .before .before .before .before .before .before .before .before .before .before .before .before .before .loop in
     let n = twos-length (a .lefts .now) (a .rights .now) 0 0 (a .n) in
-    let h = c .before .before .before .before .before .before .before .before .before .before .before .before .before .before .before .before .before .before .before .before .before .before .before .loop-test .taken in
-    let p = pair-at (tablesOf (a .s .now)) (a .lefts .now) (a .rights .now) (a .n) (l .k) h (c .before .before .before .before .before .before .before .before .before .before .before .before .before .before .before .before .before .before .class-at .result) (c .before .before .before .before .before .before .before .before .before .before .before .before .before .before .before .before .before .class-at2 .result) (c .before .before .before .before .before .before .before .before .before .before .before .before .before .before .before .before .before .before .class-at .ensures .0) (c .before .before .before .before .before .before .before .before .before .before .before .before .before .before .before .before .before .class-at2 .ensures .0) in
-    let e = spent (l .bud) (c .before .before .before .before .before .before .before .before .before .before .before .before .before .before .before .before .before .before .before .before .before .before .spend .result) (c .before .before .before .before .before .before .before .before .before .before .before .before .before .before .before .before .before .before .before .before .before .before .spend .ensures) (c .before .before .before .before .before .before .before .before .before .before .before .before .before .before .before .before .before .before .before .if1 .left) in
-    let x = steps-full _ _ (l .k) (l .pairs) _ _ _ (c .before .before .before .before .before .before .before .before .take-one .result) (c .before .before .before .before .before .before .before .before .take-one .ensures) (c .enum-told .given .1) in
-    turn-refused (tablesOf (a .s .now)) (pairsIn (a .lefts .now) (a .rights .now) (a .n)) (stateIn (a .pairs .now) (a .terms .now) (a .runs .now) (a .n) 0 0) (roundAt (tablesOf (a .s .now)) (pairsIn (a .lefts .now) (a .rights .now) (a .n)) (stateIn (a .pairs .now) (a .terms .now) (a .runs .now) (a .n) 0 0) (a .b .left)) (l .pairs) (l .terms) (l .runs) (l .k) (l .bud .left) (l .changed) (omega (arith, n, h)) (l .inv .4) (a .index .now) (graphs-length (tablesOf (a .s .now)) (pairsIn (a .lefts .now) (a .rights .now) (a .n)) (a .n) (a .index .now) (b .pre .4)) (c .before .before .before .before .before .before .before .before .before .before .before .before .before .before .before .before .before .before .class-at .result, c .before .before .before .before .before .before .before .before .before .before .before .before .before .before .before .before .before .class-at2 .result) p (c .before .before .before .before .before .before .before .before .before .before .before .before .before .before .before .before .before .before .before .before .before .before .spend .result .budget .left) (x .0) e (x .1)
+    let h = at-loop-test .taken in
+    let p = pair-at (tablesOf (a .s .now)) (a .lefts .now) (a .rights .now) (a .n) (l .k) h (at-class-at .result) (at-class-at2 .result) (at-class-at .ensures .0) (at-class-at2 .ensures .0) in
+    let e = spent (l .bud) (at-spend .result) (at-spend .ensures) (at-if1 .left) in
+    let x = steps-full _ _ (l .k) (l .pairs) _ _ _ (at-take-one .result) (at-take-one .ensures) (c .enum-told .given .1) in
+    turn-refused (tablesOf (a .s .now)) (pairsIn (a .lefts .now) (a .rights .now) (a .n)) (stateIn (a .pairs .now) (a .terms .now) (a .runs .now) (a .n) 0 0) (roundAt (tablesOf (a .s .now)) (pairsIn (a .lefts .now) (a .rights .now) (a .n)) (stateIn (a .pairs .now) (a .terms .now) (a .runs .now) (a .n) 0 0) (a .b .left)) (l .pairs) (l .terms) (l .runs) (l .k) (l .bud .left) (l .changed) (omega (arith, n, h)) (l .inv .4) (a .index .now) (graphs-length (tablesOf (a .s .now)) (pairsIn (a .lefts .now) (a .rights .now) (a .n)) (a .n) (a .index .now) (b .pre .4)) (at-class-at .result, at-class-at2 .result) p (at-spend .result .budget .left) (x .0) e (x .1)
 
 -- src/lib.rt:434:22
 enum-known-w : tie.Need-enum-known-w Inv-loop μ-loop
@@ -120,7 +131,10 @@ either-requires c κs = search needs
 
 -- src/lib.rt:436:17
 add-k : tie.Need-add-k Inv-loop μ-loop
-add-k c = record { fits = omega (arith, c .before .before .before .before .before .before .before .before .before .before .before .before .before .before .before .before .before .before .before .before .before .before .before .before .before .loop-test .taken, c .before .before .before .before .before .before .before .before .before .before .before .before .before .before .before .before .before .before .before .before .before .before .before .before .before .before .before .before .before .before .before .before .before .before .pre .4 .few) }
+add-k c =
+    let at-loop-test = c .before .before .before .before .before .before .before .before .before .before .before .before .before .before .before .before .before .before .before .before .before .before .before .before .before .loop-test in
+    let at-start = c .before .before .before .before .before .before .before .before .before .before .before .before .before .before .before .before .before .before .before .before .before .before .before .before .before .before .before .before .before .before .before .before .before .before in
+    record { fits = omega (arith, at-loop-test .taken, at-start .pre .4 .few) }
 
 -- src/lib.rt:405:5
 loop-less : tie.Need-loop-less Inv-loop μ-loop
@@ -129,15 +143,22 @@ loop-less c = search needs
 -- src/lib.rt:405:5
 loop-again : tie.Need-loop-again Inv-loop μ-loop
 loop-again c =
+    let at-loop-test = c .before .before .before .before .before .before .before .before .before .before .before .before .before .before .before .before .before .before .before .before .before .before .before .before .before .loop-test in
+    let at-class-at = c .before .before .before .before .before .before .before .before .before .before .before .before .before .before .before .before .before .before .before .before .class-at in
+    let at-class-at2 = c .before .before .before .before .before .before .before .before .before .before .before .before .before .before .before .before .before .before .before .class-at2 in
+    let at-spend = c .before .before .before .before .before .before .before .before .before .before .before .before .before .before .before .before .before .before .before .before .before .before .before .before .spend in
+    let at-if1 = c .before .before .before .before .before .before .before .before .before .before .before .before .before .before .before .before .before .before .before .before .before .if1 in
+    let at-take-one = c .before .before .before .before .before .before .before .before .before .before .take-one in
+    let at-either = c .either in
     let b = c .before .before .before .before .before .before .before .before .before .before .before .before .before .before .before .before .before .before .before .before .before .before .before .before .before .before .before .before .before .before .before .before .before .before in
     let a = b .args in
     let l = c .before .before .before .before .before .before .before .before .before .before .before .before .before .before .before .before .before .before .before .before .before .before .before .before .before .before .loop in
     let n = twos-length (a .lefts .now) (a .rights .now) 0 0 (a .n) in
-    let h = c .before .before .before .before .before .before .before .before .before .before .before .before .before .before .before .before .before .before .before .before .before .before .before .before .before .loop-test .taken in
-    let p = pair-at (tablesOf (a .s .now)) (a .lefts .now) (a .rights .now) (a .n) (l .k) h (c .before .before .before .before .before .before .before .before .before .before .before .before .before .before .before .before .before .before .before .before .class-at .result) (c .before .before .before .before .before .before .before .before .before .before .before .before .before .before .before .before .before .before .before .class-at2 .result) (c .before .before .before .before .before .before .before .before .before .before .before .before .before .before .before .before .before .before .before .before .class-at .ensures .0) (c .before .before .before .before .before .before .before .before .before .before .before .before .before .before .before .before .before .before .before .class-at2 .ensures .0) in
-    let e = spent (l .bud) (c .before .before .before .before .before .before .before .before .before .before .before .before .before .before .before .before .before .before .before .before .before .before .before .before .spend .result) (c .before .before .before .before .before .before .before .before .before .before .before .before .before .before .before .before .before .before .before .before .before .before .before .before .spend .ensures) (c .before .before .before .before .before .before .before .before .before .before .before .before .before .before .before .before .before .before .before .before .before .if1 .left) in
-    let x = steps-to _ _ (l .k) (l .pairs) _ _ _ (c .before .before .before .before .before .before .before .before .before .before .take-one .result) (c .before .before .before .before .before .before .before .before .before .before .take-one .ensures) _ (c .before .before .w .given .1) in
-    (omega (arith, h), omega (arith, l .inv .1, c .before .before .before .before .before .before .before .before .before .before .take-one .kept), omega (arith, l .inv .2, c .before .before .before .before .before .before .before .before .before .before .take-one .kept), omega (arith, l .inv .3, c .before .before .before .before .before .before .before .before .before .before .take-one .kept), turn-moved (tablesOf (a .s .now)) (pairsIn (a .lefts .now) (a .rights .now) (a .n)) (stateIn (a .pairs .now) (a .terms .now) (a .runs .now) (a .n) 0 0) (roundAt (tablesOf (a .s .now)) (pairsIn (a .lefts .now) (a .rights .now) (a .n)) (stateIn (a .pairs .now) (a .terms .now) (a .runs .now) (a .n) 0 0) (a .b .left)) (l .pairs) (l .terms) (l .runs) (l .k) (l .bud .left) (l .changed) (omega (arith, n, h)) (l .inv .4) (a .index .now) (graphs-length (tablesOf (a .s .now)) (pairsIn (a .lefts .now) (a .rights .now) (a .n)) (a .n) (a .index .now) (b .pre .4)) (c .before .before .before .before .before .before .before .before .before .before .before .before .before .before .before .before .before .before .before .before .class-at .result, c .before .before .before .before .before .before .before .before .before .before .before .before .before .before .before .before .before .before .before .class-at2 .result) p (b .pre .7) (c .before .before .before .before .before .before .before .before .before .before .before .before .before .before .before .before .before .before .before .before .before .before .before .before .spend .result .budget .left) _ _ _ _ (c .either .result) e x (c .either .ensures))
+    let h = at-loop-test .taken in
+    let p = pair-at (tablesOf (a .s .now)) (a .lefts .now) (a .rights .now) (a .n) (l .k) h (at-class-at .result) (at-class-at2 .result) (at-class-at .ensures .0) (at-class-at2 .ensures .0) in
+    let e = spent (l .bud) (at-spend .result) (at-spend .ensures) (at-if1 .left) in
+    let x = steps-to _ _ (l .k) (l .pairs) _ _ _ (at-take-one .result) (at-take-one .ensures) _ (c .before .before .w .given .1) in
+    (omega (arith, h), omega (arith, l .inv .1, at-take-one .kept), omega (arith, l .inv .2, at-take-one .kept), omega (arith, l .inv .3, at-take-one .kept), turn-moved (tablesOf (a .s .now)) (pairsIn (a .lefts .now) (a .rights .now) (a .n)) (stateIn (a .pairs .now) (a .terms .now) (a .runs .now) (a .n) 0 0) (roundAt (tablesOf (a .s .now)) (pairsIn (a .lefts .now) (a .rights .now) (a .n)) (stateIn (a .pairs .now) (a .terms .now) (a .runs .now) (a .n) 0 0) (a .b .left)) (l .pairs) (l .terms) (l .runs) (l .k) (l .bud .left) (l .changed) (omega (arith, n, h)) (l .inv .4) (a .index .now) (graphs-length (tablesOf (a .s .now)) (pairsIn (a .lefts .now) (a .rights .now) (a .n)) (a .n) (a .index .now) (b .pre .4)) (at-class-at .result, at-class-at2 .result) p (b .pre .7) (at-spend .result .budget .left) _ _ _ _ (at-either .result) e x (at-either .ensures))
 
 -- src/lib.rt:382:1
 same-length-7 : tie.Need-same-length-7 Inv-loop μ-loop

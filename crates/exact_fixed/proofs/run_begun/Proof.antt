@@ -32,10 +32,11 @@ report-started-requires c κs = search needs
 -- src/lib.rt:559:13
 returns-2 : tie.Need-returns-2
 returns-2 c =
+    let at-report-started = c .report-started in
     let b = c .before .before .before .before .before .before .before .before .before .before .before in
     let a = b .args in
     let n = classes-many (a .s .now) (a .im) (b .pre .0) in
-    finish-cut (tablesOf (a .s .now)) (a .l, a .r) (a .budget) (a .lefts .now) (a .rights .now) (a .index .now) (a .terms .now) (a .runs .now) (b .pre .1) (omega (arith, n, b .pre .2), omega (arith, n, b .pre .3)) _ (a .b) (c .before .before .b2 .given .1) (b .pre .8) (c .report-started .result) (c .report-started .ensures)
+    finish-cut (tablesOf (a .s .now)) (a .l, a .r) (a .budget) (a .lefts .now) (a .rights .now) (a .index .now) (a .terms .now) (a .runs .now) (b .pre .1) (omega (arith, n, b .pre .2), omega (arith, n, b .pre .3)) _ (a .b) (c .before .before .b2 .given .1) (b .pre .8) (at-report-started .result) (at-report-started .ensures)
 
 -- src/lib.rt:561:20
 enum-known-b-3 : tie.Need-enum-known-b-3
@@ -44,11 +45,12 @@ enum-known-b-3 c = search needs
 -- src/lib.rt:562:13
 run-built-requires : tie.Need-run-built-requires
 run-built-requires c κs =
+    let at-b3 = c .before .before .before .before .b3 in
     let b = c .before .before .before .before .before .before .before .before .before .before .before .before .before in
     let a = b .args in
     let n = classes-many (a .s .now) (a .im) (b .pre .0) in
-    let g = all-graphs (tablesOf (a .s .now)) (a .l, a .r) (a .budget) (a .lefts .now) (a .rights .now) (a .index .now) (a .terms .now) (a .runs .now) (b .pre .1) (omega (arith, n, b .pre .2), omega (arith, n, b .pre .3)) (c .before .before .before .before .b3 .given .0 .0) (c .before .before .before .before .b3 .given .0 .1 .0) (c .before .before .before .before .b3 .given .0 .1 .1 .0) (a .b) (c .before .before .before .before .b3 .given .1) (b .pre .8) (b .pre .6) in
-    (b .pre .0, b .pre .1, b .pre .2, b .pre .3, all-root (tablesOf (a .s .now)) (a .l, a .r) (a .budget) (a .lefts .now) (a .rights .now) (a .index .now) (a .terms .now) (a .runs .now) (b .pre .1) (omega (arith, n, b .pre .2), omega (arith, n, b .pre .3)) (c .before .before .before .before .b3 .given .0 .0) (c .before .before .before .before .b3 .given .0 .1 .0) (c .before .before .before .before .b3 .given .0 .1 .1 .0) (a .b) (c .before .before .before .before .b3 .given .1) (b .pre .8), omega (arith, g .few, b .pre .4), omega (arith, g .few, b .pre .5), g, b .pre .7, all-holds (tablesOf (a .s .now)) (a .l, a .r) (a .budget) (a .lefts .now) (a .rights .now) (a .index .now) (a .terms .now) (a .runs .now) (b .pre .1) (omega (arith, n, b .pre .2), omega (arith, n, b .pre .3)) (c .before .before .before .before .b3 .given .0 .0) (c .before .before .before .before .b3 .given .0 .1 .0) (c .before .before .before .before .b3 .given .0 .1 .1 .0) (a .b) (c .before .before .before .before .b3 .given .1) (b .pre .8))
+    let g = all-graphs (tablesOf (a .s .now)) (a .l, a .r) (a .budget) (a .lefts .now) (a .rights .now) (a .index .now) (a .terms .now) (a .runs .now) (b .pre .1) (omega (arith, n, b .pre .2), omega (arith, n, b .pre .3)) (at-b3 .given .0 .0) (at-b3 .given .0 .1 .0) (at-b3 .given .0 .1 .1 .0) (a .b) (at-b3 .given .1) (b .pre .8) (b .pre .6) in
+    (b .pre .0, b .pre .1, b .pre .2, b .pre .3, all-root (tablesOf (a .s .now)) (a .l, a .r) (a .budget) (a .lefts .now) (a .rights .now) (a .index .now) (a .terms .now) (a .runs .now) (b .pre .1) (omega (arith, n, b .pre .2), omega (arith, n, b .pre .3)) (at-b3 .given .0 .0) (at-b3 .given .0 .1 .0) (at-b3 .given .0 .1 .1 .0) (a .b) (at-b3 .given .1) (b .pre .8), omega (arith, g .few, b .pre .4), omega (arith, g .few, b .pre .5), g, b .pre .7, all-holds (tablesOf (a .s .now)) (a .l, a .r) (a .budget) (a .lefts .now) (a .rights .now) (a .index .now) (a .terms .now) (a .runs .now) (b .pre .1) (omega (arith, n, b .pre .2), omega (arith, n, b .pre .3)) (at-b3 .given .0 .0) (at-b3 .given .0 .1 .0) (at-b3 .given .0 .1 .1 .0) (a .b) (at-b3 .given .1) (b .pre .8))
 
 -- src/lib.rt:562:13
 same-length : tie.Need-same-length
@@ -65,10 +67,12 @@ same-length-3 c = search needs
 -- src/lib.rt:562:13
 returns-3 : tie.Need-returns-3
 returns-3 c =
+    let at-b3 = c .before .before .before .before .before .before .before .before .before .before .before .b3 in
+    let at-run-built = c .before .before .before .before .before .before .run-built in
     let b = c .before .before .before .before .before .before .before .before .before .before .before .before .before .before .before .before .before .before .before .before in
     let a = b .args in
     let n = classes-many (a .s .now) (a .im) (b .pre .0) in
-    all-ran (tablesOf (a .s .now)) (a .l, a .r) (a .budget) (a .lefts .now) (a .rights .now) (a .index .now) (a .terms .now) (a .runs .now) (b .pre .1) (omega (arith, n, b .pre .2), omega (arith, n, b .pre .3)) (c .before .before .before .before .before .before .before .before .before .before .before .b3 .given .0 .0) (c .before .before .before .before .before .before .before .before .before .before .before .b3 .given .0 .1 .0) (c .before .before .before .before .before .before .before .before .before .before .before .b3 .given .0 .1 .1 .0) (a .b) (c .before .before .before .before .before .before .before .before .before .before .before .b3 .given .1) (b .pre .8) _ _ (c .before .before .before .before .before .before .run-built .result) (c .before .before .before .before .before .before .run-built .ensures)
+    all-ran (tablesOf (a .s .now)) (a .l, a .r) (a .budget) (a .lefts .now) (a .rights .now) (a .index .now) (a .terms .now) (a .runs .now) (b .pre .1) (omega (arith, n, b .pre .2), omega (arith, n, b .pre .3)) (at-b3 .given .0 .0) (at-b3 .given .0 .1 .0) (at-b3 .given .0 .1 .1 .0) (a .b) (at-b3 .given .1) (b .pre .8) _ _ (at-run-built .result) (at-run-built .ensures)
 
 pub run-begun-spec : {M : Type 1} → statement M
 run-begun-spec =

@@ -39,9 +39,10 @@ same-length-3 c = search needs
 -- src/lib.rt:525:13
 returns : tie.Need-returns
 returns c =
+    let at-start-all = c .before .before .before .before .before .before .before .before .start-all in
     let b = c .before .before .before .before .before .before .before .before .before .before .before .before .before .before .before .before .before .before .before in
     let a = b .args in
-    starts-full (tablesOf (a .s .now)) (a .l, a .r) (pairsIn (a .lefts .now) (a .rights .now) (a .n)) (a .n) (b .pre .7 .many) (a .b .left) (poolOf (a .terms .now) (a .runs .now)) (a .root) (c .before .before .before .before .before .before .before .before .start-all .last .1 .1 .1 .1 .1 .0) (c .before .before .before .before .before .before .before .before .start-all .last .1 .1 .1 .1 .1 .1 .0) (c .before .before .before .before .before .before .before .before .start-all .last .1 .1 .1 .1 .1 .1 .1 .0) (c .before .before .before .before .before .before .before .before .start-all .result) (c .before .before .before .before .before .before .before .before .start-all .ensures) (c .enum-told .given .1)
+    starts-full (tablesOf (a .s .now)) (a .l, a .r) (pairsIn (a .lefts .now) (a .rights .now) (a .n)) (a .n) (b .pre .7 .many) (a .b .left) (poolOf (a .terms .now) (a .runs .now)) (a .root) (at-start-all .last .1 .1 .1 .1 .1 .0) (at-start-all .last .1 .1 .1 .1 .1 .1 .0) (at-start-all .last .1 .1 .1 .1 .1 .1 .1 .0) (at-start-all .result) (at-start-all .ensures) (c .enum-told .given .1)
 
 -- src/lib.rt:528:30
 enum-told-2 : tie.Need-enum-told-2
@@ -66,9 +67,11 @@ same-length-6 c = search needs
 -- src/lib.rt:528:13
 returns-2 : tie.Need-returns-2
 returns-2 c =
+    let at-start-all = c .before .before .before .before .before .before .before .before .before .start-all in
+    let at-report-started = c .report-started in
     let b = c .before .before .before .before .before .before .before .before .before .before .before .before .before .before .before .before .before .before .before .before in
     let a = b .args in
-    starts-cut (tablesOf (a .s .now)) (a .l, a .r) (pairsIn (a .lefts .now) (a .rights .now) (a .n)) (a .n) (b .pre .7 .many) (a .b .left) (poolOf (a .terms .now) (a .runs .now)) (a .root) (c .before .before .before .before .before .before .before .before .before .start-all .last .1 .1 .1 .1 .1 .0) (c .before .before .before .before .before .before .before .before .before .start-all .last .1 .1 .1 .1 .1 .1 .0) (c .before .before .before .before .before .before .before .before .before .start-all .last .1 .1 .1 .1 .1 .1 .1 .0) (c .before .before .before .before .before .before .before .before .before .start-all .result) (c .before .before .before .before .before .before .before .before .before .start-all .ensures) (b .pre .9 .valid) (omega (arith, b .pre .4, pool-length (a .terms .now) (a .runs .now))) (c .before .enum-told2 .given .1) (c .report-started .result) (c .report-started .ensures)
+    starts-cut (tablesOf (a .s .now)) (a .l, a .r) (pairsIn (a .lefts .now) (a .rights .now) (a .n)) (a .n) (b .pre .7 .many) (a .b .left) (poolOf (a .terms .now) (a .runs .now)) (a .root) (at-start-all .last .1 .1 .1 .1 .1 .0) (at-start-all .last .1 .1 .1 .1 .1 .1 .0) (at-start-all .last .1 .1 .1 .1 .1 .1 .1 .0) (at-start-all .result) (at-start-all .ensures) (b .pre .9 .valid) (omega (arith, b .pre .4, pool-length (a .terms .now) (a .runs .now))) (c .before .enum-told2 .given .1) (at-report-started .result) (at-report-started .ensures)
 
 -- src/lib.rt:530:22
 enum-known-x : tie.Need-enum-known-x
@@ -77,9 +80,11 @@ enum-known-x c = search needs
 -- src/lib.rt:531:13
 run-rounds-requires : tie.Need-run-rounds-requires
 run-rounds-requires c κs =
+    let at-start-all = c .before .before .before .before .before .before .before .before .before .before .before .before .start-all in
+    let at-x = c .before .before .before .before .x in
     let b = c .before .before .before .before .before .before .before .before .before .before .before .before .before .before .before .before .before .before .before .before .before .before .before in
     let a = b .args in
-    (b .pre .0, b .pre .1, b .pre .5, b .pre .6, b .pre .7, omega (arith, b .pre .8, c .before .before .before .before .before .before .before .before .before .before .before .before .start-all .kept), starts-holds (tablesOf (a .s .now)) (a .l, a .r) (pairsIn (a .lefts .now) (a .rights .now) (a .n)) (a .n) (b .pre .7 .many) (a .b .left) (poolOf (a .terms .now) (a .runs .now)) (a .root) (c .before .before .before .before .before .before .before .before .before .before .before .before .start-all .last .1 .1 .1 .1 .1 .0) (c .before .before .before .before .before .before .before .before .before .before .before .before .start-all .last .1 .1 .1 .1 .1 .1 .0) (c .before .before .before .before .before .before .before .before .before .before .before .before .start-all .last .1 .1 .1 .1 .1 .1 .1 .0) (c .before .before .before .before .before .before .before .before .before .before .before .before .start-all .result) (c .before .before .before .before .before .before .before .before .before .before .before .before .start-all .ensures) (c .before .before .before .before .x .given .0 .0) (c .before .before .before .before .x .given .1), starts-stands (tablesOf (a .s .now)) (a .l, a .r) (pairsIn (a .lefts .now) (a .rights .now) (a .n)) (a .n) (b .pre .7 .many) (a .b .left) (poolOf (a .terms .now) (a .runs .now)) (a .root) (c .before .before .before .before .before .before .before .before .before .before .before .before .start-all .last .1 .1 .1 .1 .1 .0) (c .before .before .before .before .before .before .before .before .before .before .before .before .start-all .last .1 .1 .1 .1 .1 .1 .0) (c .before .before .before .before .before .before .before .before .before .before .before .before .start-all .last .1 .1 .1 .1 .1 .1 .1 .0) (c .before .before .before .before .before .before .before .before .before .before .before .before .start-all .result) (c .before .before .before .before .before .before .before .before .before .before .before .before .start-all .ensures) (c .before .before .before .before .x .given .0 .0) (c .before .before .before .before .x .given .1) (b .pre .1) (b .pre .7 .pairs))
+    (b .pre .0, b .pre .1, b .pre .5, b .pre .6, b .pre .7, omega (arith, b .pre .8, at-start-all .kept), starts-holds (tablesOf (a .s .now)) (a .l, a .r) (pairsIn (a .lefts .now) (a .rights .now) (a .n)) (a .n) (b .pre .7 .many) (a .b .left) (poolOf (a .terms .now) (a .runs .now)) (a .root) (at-start-all .last .1 .1 .1 .1 .1 .0) (at-start-all .last .1 .1 .1 .1 .1 .1 .0) (at-start-all .last .1 .1 .1 .1 .1 .1 .1 .0) (at-start-all .result) (at-start-all .ensures) (at-x .given .0 .0) (at-x .given .1), starts-stands (tablesOf (a .s .now)) (a .l, a .r) (pairsIn (a .lefts .now) (a .rights .now) (a .n)) (a .n) (b .pre .7 .many) (a .b .left) (poolOf (a .terms .now) (a .runs .now)) (a .root) (at-start-all .last .1 .1 .1 .1 .1 .0) (at-start-all .last .1 .1 .1 .1 .1 .1 .0) (at-start-all .last .1 .1 .1 .1 .1 .1 .1 .0) (at-start-all .result) (at-start-all .ensures) (at-x .given .0 .0) (at-x .given .1) (b .pre .1) (b .pre .7 .pairs))
 
 -- src/lib.rt:531:13
 same-length-7 : tie.Need-same-length-7
@@ -96,9 +101,12 @@ same-length-9 c = search needs
 -- src/lib.rt:531:13
 returns-3 : tie.Need-returns-3
 returns-3 c =
+    let at-start-all = c .before .before .before .before .before .before .before .before .before .before .before .before .before .before .before .before .before .before .before .start-all in
+    let at-x = c .before .before .before .before .before .before .before .before .before .before .before .x in
+    let at-run-rounds = c .before .before .before .before .before .before .run-rounds in
     let b = c .before .before .before .before .before .before .before .before .before .before .before .before .before .before .before .before .before .before .before .before .before .before .before .before .before .before .before .before .before .before in
     let a = b .args in
-    starts-rounds (tablesOf (a .s .now)) (a .l, a .r) (pairsIn (a .lefts .now) (a .rights .now) (a .n)) (a .n) (b .pre .7 .many) (a .b .left) (poolOf (a .terms .now) (a .runs .now)) (a .root) (c .before .before .before .before .before .before .before .before .before .before .before .before .before .before .before .before .before .before .before .start-all .last .1 .1 .1 .1 .1 .0) (c .before .before .before .before .before .before .before .before .before .before .before .before .before .before .before .before .before .before .before .start-all .last .1 .1 .1 .1 .1 .1 .0) (c .before .before .before .before .before .before .before .before .before .before .before .before .before .before .before .before .before .before .before .start-all .last .1 .1 .1 .1 .1 .1 .1 .0) (c .before .before .before .before .before .before .before .before .before .before .before .before .before .before .before .before .before .before .before .start-all .result) (c .before .before .before .before .before .before .before .before .before .before .before .before .before .before .before .before .before .before .before .start-all .ensures) (c .before .before .before .before .before .before .before .before .before .before .before .x .given .0 .0) (c .before .before .before .before .before .before .before .before .before .before .before .x .given .1) _ _ (c .before .before .before .before .before .before .run-rounds .result) (c .before .before .before .before .before .before .run-rounds .ensures)
+    starts-rounds (tablesOf (a .s .now)) (a .l, a .r) (pairsIn (a .lefts .now) (a .rights .now) (a .n)) (a .n) (b .pre .7 .many) (a .b .left) (poolOf (a .terms .now) (a .runs .now)) (a .root) (at-start-all .last .1 .1 .1 .1 .1 .0) (at-start-all .last .1 .1 .1 .1 .1 .1 .0) (at-start-all .last .1 .1 .1 .1 .1 .1 .1 .0) (at-start-all .result) (at-start-all .ensures) (at-x .given .0 .0) (at-x .given .1) _ _ (at-run-rounds .result) (at-run-rounds .ensures)
 
 pub run-built-spec : {M : Type 1} → statement M
 run-built-spec =

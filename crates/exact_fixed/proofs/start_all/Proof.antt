@@ -53,11 +53,12 @@ same-length-3 c = search needs
 -- src/lib.rt:226:13
 returns : tie.Need-returns Inv-loop μ-loop
 returns c =
+    let at-spend = c .before .before .before .spend in
     let b = c .before .before .before .before .before .before .before .before .before .before .before .before in
     let a = b .args in
     let l = c .before .before .before .before .before .loop in
     let n = twos-length (a .lefts .now) (a .rights .now) 0 0 (a .n) in
-    start-cut (tablesOf (a .s .now)) (pairsIn (a .lefts .now) (a .rights .now) (a .n)) (startingTerms (tablesOf (a .s .now)) (pairsIn (a .lefts .now) (a .rights .now) (a .n)) (a .b .left) (poolOf (a .terms .now) (a .runs .now))) (poolOf (a .terms .now) (a .runs .now)) (l .pairs) (l .terms) (l .runs) (l .k) (l .bud .left) (omega arith) (l .inv .8) (expired (l .bud) (c .before .before .before .spend .result) (c .before .before .before .spend .ensures) (c .if1 .taken))
+    start-cut (tablesOf (a .s .now)) (pairsIn (a .lefts .now) (a .rights .now) (a .n)) (startingTerms (tablesOf (a .s .now)) (pairsIn (a .lefts .now) (a .rights .now) (a .n)) (a .b .left) (poolOf (a .terms .now) (a .runs .now))) (poolOf (a .terms .now) (a .runs .now)) (l .pairs) (l .terms) (l .runs) (l .k) (l .bud .left) (omega arith) (l .inv .8) (expired (l .bud) (at-spend .result) (at-spend .ensures) (c .if1 .taken))
 
 -- src/lib.rt:228:13
 class-at-requires : tie.Need-class-at-requires Inv-loop μ-loop
@@ -74,12 +75,15 @@ slice-aggregate-start-one c = search needs
 -- src/lib.rt:230:13
 start-one-requires : tie.Need-start-one-requires Inv-loop μ-loop
 start-one-requires c κs =
+    let at-loop-test = c .before .before .before .before .before .before .before .before .before .before .loop-test in
+    let at-class-at = c .before .before .before .before .before .class-at in
+    let at-class-at2 = c .before .before .before .before .class-at2 in
     let b = c .before .before .before .before .before .before .before .before .before .before .before .before .before .before .before .before .before .before in
     let a = b .args in
     let l = c .before .before .before .before .before .before .before .before .before .before .before .loop in
     let m = classes-many (a .s .now) (a .im) (b .pre .0) in
-    let r = pair-ranged (tablesOf (a .s .now)) (a .lefts .now) (a .rights .now) (a .n) (l .k) (c .before .before .before .before .before .before .before .before .before .before .loop-test .taken) (b .pre .5) (c .before .before .before .before .before .class-at .result) (c .before .before .before .before .class-at2 .result) (c .before .before .before .before .before .class-at .ensures .0) (c .before .before .before .before .class-at2 .ensures .0) in
-    (b .pre .0, b .pre .1, omega (arith, r .0, m), omega (arith, r .1, m), omega (arith, c .before .before .before .before .before .before .before .before .before .before .loop-test .taken, l .inv .1), omega (arith, l .inv .2, l .inv .3), l .inv .8 .holds, l .inv .6, l .inv .7)
+    let r = pair-ranged (tablesOf (a .s .now)) (a .lefts .now) (a .rights .now) (a .n) (l .k) (at-loop-test .taken) (b .pre .5) (at-class-at .result) (at-class-at2 .result) (at-class-at .ensures .0) (at-class-at2 .ensures .0) in
+    (b .pre .0, b .pre .1, omega (arith, r .0, m), omega (arith, r .1, m), omega (arith, at-loop-test .taken, l .inv .1), omega (arith, l .inv .2, l .inv .3), l .inv .8 .holds, l .inv .6, l .inv .7)
 
 -- src/lib.rt:231:13
 same-length-4 : tie.Need-same-length-4 Inv-loop μ-loop
@@ -96,15 +100,21 @@ same-length-6 c = search needs
 -- src/lib.rt:231:13
 returns-2 : tie.Need-returns-2 Inv-loop μ-loop
 returns-2 c =
+    let at-loop-test = c .before .before .before .before .before .before .before .before .before .before .before .before .before .before .before .before .before .before .before .loop-test in
+    let at-spend = c .before .before .before .before .before .before .before .before .before .before .before .before .before .before .before .before .before .before .spend in
+    let at-if1 = c .before .before .before .before .before .before .before .before .before .before .before .before .before .before .before .if1 in
+    let at-class-at = c .before .before .before .before .before .before .before .before .before .before .before .before .before .before .class-at in
+    let at-class-at2 = c .before .before .before .before .before .before .before .before .before .before .before .before .before .class-at2 in
+    let at-start-one = c .before .before .before .before .before .before .before .before .start-one in
     let b = c .before .before .before .before .before .before .before .before .before .before .before .before .before .before .before .before .before .before .before .before .before .before .before .before .before .before .before in
     let a = b .args in
     let l = c .before .before .before .before .before .before .before .before .before .before .before .before .before .before .before .before .before .before .before .before .loop in
-    let h = c .before .before .before .before .before .before .before .before .before .before .before .before .before .before .before .before .before .before .before .loop-test .taken in
+    let h = at-loop-test .taken in
     let n = twos-length (a .lefts .now) (a .rights .now) 0 0 (a .n) in
-    let e = spent (l .bud) (c .before .before .before .before .before .before .before .before .before .before .before .before .before .before .before .before .before .before .spend .result) (c .before .before .before .before .before .before .before .before .before .before .before .before .before .before .before .before .before .before .spend .ensures) (c .before .before .before .before .before .before .before .before .before .before .before .before .before .before .before .if1 .left) in
-    let p = pair-at (tablesOf (a .s .now)) (a .lefts .now) (a .rights .now) (a .n) (l .k) h (c .before .before .before .before .before .before .before .before .before .before .before .before .before .before .class-at .result) (c .before .before .before .before .before .before .before .before .before .before .before .before .before .class-at2 .result) (c .before .before .before .before .before .before .before .before .before .before .before .before .before .before .class-at .ensures .0) (c .before .before .before .before .before .before .before .before .before .before .before .before .before .class-at2 .ensures .0) in
-    let x = rw (was-false (c .before .before .before .before .before .before .before .before .start-one .result) (c .if2 .taken)) at (c .before .before .before .before .before .before .before .before .start-one .ensures) in
-    start-full (tablesOf (a .s .now)) (pairsIn (a .lefts .now) (a .rights .now) (a .n)) (startingTerms (tablesOf (a .s .now)) (pairsIn (a .lefts .now) (a .rights .now) (a .n)) (a .b .left) (poolOf (a .terms .now) (a .runs .now))) (poolOf (a .terms .now) (a .runs .now)) (l .pairs) (l .terms) (l .runs) (l .k) (l .bud .left) (omega arith) (l .inv .8) (c .before .before .before .before .before .before .before .before .before .before .before .before .before .before .before .before .before .before .spend .result .budget .left) (x .0) e (rw (← p) (x .1))
+    let e = spent (l .bud) (at-spend .result) (at-spend .ensures) (at-if1 .left) in
+    let p = pair-at (tablesOf (a .s .now)) (a .lefts .now) (a .rights .now) (a .n) (l .k) h (at-class-at .result) (at-class-at2 .result) (at-class-at .ensures .0) (at-class-at2 .ensures .0) in
+    let x = rw (was-false (at-start-one .result) (c .if2 .taken)) at (at-start-one .ensures) in
+    start-full (tablesOf (a .s .now)) (pairsIn (a .lefts .now) (a .rights .now) (a .n)) (startingTerms (tablesOf (a .s .now)) (pairsIn (a .lefts .now) (a .rights .now) (a .n)) (a .b .left) (poolOf (a .terms .now) (a .runs .now))) (poolOf (a .terms .now) (a .runs .now)) (l .pairs) (l .terms) (l .runs) (l .k) (l .bud .left) (omega arith) (l .inv .8) (at-spend .result .budget .left) (x .0) e (rw (← p) (x .1))
 
 -- src/lib.rt:233:9
 add-k : tie.Need-add-k Inv-loop μ-loop
@@ -117,15 +127,21 @@ loop-less c = search needs
 -- src/lib.rt:222:5
 loop-again : tie.Need-loop-again Inv-loop μ-loop
 loop-again c =
+    let at-loop-test = c .before .before .before .before .before .before .before .before .before .before .before .before .before .before .before .before .before .before .before .loop-test in
+    let at-spend = c .before .before .before .before .before .before .before .before .before .before .before .before .before .before .before .before .before .before .spend in
+    let at-if1 = c .before .before .before .before .before .before .before .before .before .before .before .before .before .before .before .if1 in
+    let at-class-at = c .before .before .before .before .before .before .before .before .before .before .before .before .before .before .class-at in
+    let at-class-at2 = c .before .before .before .before .before .before .before .before .before .before .before .before .before .class-at2 in
+    let at-start-one = c .before .before .before .before .before .before .before .before .start-one in
     let b = c .before .before .before .before .before .before .before .before .before .before .before .before .before .before .before .before .before .before .before .before .before .before .before .before .before .before .before in
     let a = b .args in
     let l = c .before .before .before .before .before .before .before .before .before .before .before .before .before .before .before .before .before .before .before .before .loop in
-    let h = c .before .before .before .before .before .before .before .before .before .before .before .before .before .before .before .before .before .before .before .loop-test .taken in
+    let h = at-loop-test .taken in
     let n = twos-length (a .lefts .now) (a .rights .now) 0 0 (a .n) in
-    let e = spent (l .bud) (c .before .before .before .before .before .before .before .before .before .before .before .before .before .before .before .before .before .before .spend .result) (c .before .before .before .before .before .before .before .before .before .before .before .before .before .before .before .before .before .before .spend .ensures) (c .before .before .before .before .before .before .before .before .before .before .before .before .before .before .before .if1 .left) in
-    let p = pair-at (tablesOf (a .s .now)) (a .lefts .now) (a .rights .now) (a .n) (l .k) h (c .before .before .before .before .before .before .before .before .before .before .before .before .before .before .class-at .result) (c .before .before .before .before .before .before .before .before .before .before .before .before .before .class-at2 .result) (c .before .before .before .before .before .before .before .before .before .before .before .before .before .before .class-at .ensures .0) (c .before .before .before .before .before .before .before .before .before .before .before .before .before .class-at2 .ensures .0) in
-    let x = rw (was-true (c .before .before .before .before .before .before .before .before .start-one .result) (c .if2 .left), p) at (c .before .before .before .before .before .before .before .before .start-one .ensures) in
-    (omega arith, omega arith, omega arith, search needs, search needs, search needs, search needs, x .kept, start-more (tablesOf (a .s .now)) (pairsIn (a .lefts .now) (a .rights .now) (a .n)) (startingTerms (tablesOf (a .s .now)) (pairsIn (a .lefts .now) (a .rights .now) (a .n)) (a .b .left) (poolOf (a .terms .now) (a .runs .now))) (poolOf (a .terms .now) (a .runs .now)) (l .pairs) (l .terms) (l .runs) (l .k) (l .bud .left) (omega arith) (l .inv .8) (b .pre .1) (b .pre .5) (omega arith) (omega arith) (c .before .before .before .before .before .before .before .before .before .before .before .before .before .before .before .before .before .before .spend .result .budget .left) _ _ _ _ e x)
+    let e = spent (l .bud) (at-spend .result) (at-spend .ensures) (at-if1 .left) in
+    let p = pair-at (tablesOf (a .s .now)) (a .lefts .now) (a .rights .now) (a .n) (l .k) h (at-class-at .result) (at-class-at2 .result) (at-class-at .ensures .0) (at-class-at2 .ensures .0) in
+    let x = rw (was-true (at-start-one .result) (c .if2 .left), p) at (at-start-one .ensures) in
+    (omega (arith, h), l .inv .1, l .inv .2, omega (arith, l .inv .3, at-start-one .kept), omega (arith, l .inv .4, at-start-one .kept), omega (arith, l .inv .5, at-start-one .kept), omega (arith, l .inv .6, at-start-one .kept), x .kept, start-more (tablesOf (a .s .now)) (pairsIn (a .lefts .now) (a .rights .now) (a .n)) (startingTerms (tablesOf (a .s .now)) (pairsIn (a .lefts .now) (a .rights .now) (a .n)) (a .b .left) (poolOf (a .terms .now) (a .runs .now))) (poolOf (a .terms .now) (a .runs .now)) (l .pairs) (l .terms) (l .runs) (l .k) (l .bud .left) (omega arith) (l .inv .8) (b .pre .1) (b .pre .5) (omega arith) (omega arith) (at-spend .result .budget .left) _ _ _ _ e x)
 
 -- src/lib.rt:205:1
 same-length-7 : tie.Need-same-length-7 Inv-loop μ-loop

@@ -36,8 +36,10 @@ same-length-3 c = search needs
 -- src/lib.rt:193:13
 returns : tie.Need-returns
 returns c =
-    let a = c .before .before .before .before .before .before .before .before .before .before .before .before .before .before .before .before .before .args in
-    one-refused (tablesOf (a .s .now)) (a .l, a .r) (a .terms .now) (a .runs .now) (a .best .now) _ _ _ (rw (c .enum-told .given .1) at (c .before .before .before .before .before .before .before .before .evaluate-generalize-action .ensures))
+    let at-start = c .before .before .before .before .before .before .before .before .before .before .before .before .before .before .before .before .before in
+    let at-evaluate-generalize-action = c .before .before .before .before .before .before .before .before .evaluate-generalize-action in
+    let a = at-start .args in
+    one-refused (tablesOf (a .s .now)) (a .l, a .r) (a .terms .now) (a .runs .now) (a .best .now) _ _ _ (rw (c .enum-told .given .1) at (at-evaluate-generalize-action .ensures))
 
 -- src/lib.rt:195:23
 enum-known-e : tie.Need-enum-known-e
@@ -54,10 +56,12 @@ start-mass-requires c κs = search needs
 -- src/lib.rt:198:40
 short-requires : tie.Need-short-requires
 short-requires c κs =
+    let at-e = c .before .before .before .before .e in
+    let at-evaluate-generalize-action = c .before .before .before .before .before .before .before .before .before .before .before .before .evaluate-generalize-action in
     let b = c .before .before .before .before .before .before .before .before .before .before .before .before .before .before .before .before .before .before .before .before .before in
     let a = b .args in
     let n = classes-many (a .s .now) (a .im) (b .pre .0) in
-    one-small (tablesOf (a .s .now)) (b .pre .1) (a .l, a .r) (omega (arith, n, b .pre .2), omega (arith, n, b .pre .3)) (a .terms .now) (a .runs .now) (a .best .now) _ _ _ (b .pre .6) _ (rw (c .before .before .before .before .e .given .1) at (c .before .before .before .before .before .before .before .before .before .before .before .before .evaluate-generalize-action .ensures))
+    one-small (tablesOf (a .s .now)) (b .pre .1) (a .l, a .r) (omega (arith, n, b .pre .2), omega (arith, n, b .pre .3)) (a .terms .now) (a .runs .now) (a .best .now) _ _ _ (b .pre .6) _ (rw (at-e .given .1) at (at-evaluate-generalize-action .ensures))
 
 -- src/lib.rt:198:13
 give-requires : tie.Need-give-requires
@@ -82,11 +86,16 @@ same-length-7 c = search needs
 -- src/lib.rt:199:13
 returns-2 : tie.Need-returns-2
 returns-2 c =
+    let at-e = c .before .before .before .before .before .before .before .before .e in
+    let at-evaluate-generalize-action = c .before .before .before .before .before .before .before .before .before .before .before .before .before .before .before .before .evaluate-generalize-action in
+    let at-start-size = c .before .before .before .before .before .before .start-size in
+    let at-start-mass = c .before .before .before .before .before .start-mass in
+    let at-short = c .before .before .before .short in
     let b = c .before .before .before .before .before .before .before .before .before .before .before .before .before .before .before .before .before .before .before .before .before .before .before .before .before in
     let a = b .args in
     let n = classes-many (a .s .now) (a .im) (b .pre .0) in
-    one-has (tablesOf (a .s .now)) (b .pre .1) (a .l, a .r) (omega (arith, n, b .pre .2), omega (arith, n, b .pre .3)) (a .terms .now) (a .runs .now) (a .best .now) _ _ _ (b .pre .6) _ (rw (c .before .before .before .before .before .before .before .before .e .given .1) at (c .before .before .before .before .before .before .before .before .before .before .before .before .before .before .before .before .evaluate-generalize-action .ensures))
-    (a .k) (c .before .before .before .before .before .before .start-size .result) (c .before .before .before .before .before .start-mass .result) (c .before .before .before .short .result) (a .pairs .now) _ (c .before .before .before .before .before .before .start-size .ensures) (c .before .before .before .before .before .start-mass .ensures) (c .before .before .before .short .ensures) (c .before .before .give .ensures)
+    one-has (tablesOf (a .s .now)) (b .pre .1) (a .l, a .r) (omega (arith, n, b .pre .2), omega (arith, n, b .pre .3)) (a .terms .now) (a .runs .now) (a .best .now) _ _ _ (b .pre .6) _ (rw (at-e .given .1) at (at-evaluate-generalize-action .ensures))
+    (a .k) (at-start-size .result) (at-start-mass .result) (at-short .result) (a .pairs .now) _ (at-start-size .ensures) (at-start-mass .ensures) (at-short .ensures) (c .before .before .give .ensures)
 
 pub start-one-spec : {M : Type 1} → statement M
 start-one-spec =

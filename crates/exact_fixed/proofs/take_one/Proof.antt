@@ -33,8 +33,10 @@ same-length-3 c = search needs
 -- src/lib.rt:372:13
 returns : tie.Need-returns
 returns c =
-    let a = c .before .before .before .before .before .before .before .before .before .before .before .before .before .before .before .before .before .before .before .before .args in
-    take-full (tablesOf (a .s .now)) (a .index .now) (a .pairs .now) (a .l, a .r) (a .terms .now) (a .runs .now) _ _ (rw (c .enum-told .given .1) at (c .before .before .before .before .before .before .take-turn .ensures .0))
+    let at-start = c .before .before .before .before .before .before .before .before .before .before .before .before .before .before .before .before .before .before .before .before in
+    let at-take-turn = c .before .before .before .before .before .before .take-turn in
+    let a = at-start .args in
+    take-full (tablesOf (a .s .now)) (a .index .now) (a .pairs .now) (a .l, a .r) (a .terms .now) (a .runs .now) _ _ (rw (c .enum-told .given .1) at (at-take-turn .ensures .0))
 
 -- src/lib.rt:374:19
 enum-known-w : tie.Need-enum-known-w
@@ -47,9 +49,10 @@ add-give c = search needs
 -- src/lib.rt:376:52
 short-requires : tie.Need-short-requires
 short-requires c κs =
+    let at-take-turn = c .before .before .before .before .before .before .before .before .take-turn in
     let b = c .before .before .before .before .before .before .before .before .before .before .before .before .before .before .before .before .before .before .before .before .before .before in
     let a = b .args in
-    take-small (tablesOf (a .s .now)) (a .index .now) (a .pairs .now) (a .l, a .r) (a .terms .now) (a .runs .now) _ _ _ (rw (c .before .before .w .given .1) at (c .before .before .before .before .before .before .before .before .take-turn .ensures .0)) (a .n) (b .pre .5) (b .pre .7) (b .pre .6)
+    take-small (tablesOf (a .s .now)) (a .index .now) (a .pairs .now) (a .l, a .r) (a .terms .now) (a .runs .now) _ _ _ (rw (c .before .before .w .given .1) at (at-take-turn .ensures .0)) (a .n) (b .pre .5) (b .pre .7) (b .pre .6)
 
 -- src/lib.rt:376:13
 give-requires : tie.Need-give-requires
@@ -72,9 +75,12 @@ same-length-6 c = search needs
 -- src/lib.rt:377:13
 returns-2 : tie.Need-returns-2
 returns-2 c =
+    let at-w = c .before .before .before .before .before .before .w in
+    let at-take-turn = c .before .before .before .before .before .before .before .before .before .before .before .before .take-turn in
+    let at-short = c .before .before .before .short in
     let b = c .before .before .before .before .before .before .before .before .before .before .before .before .before .before .before .before .before .before .before .before .before .before .before .before .before .before in
     let a = b .args in
-    take-moves (tablesOf (a .s .now)) (a .index .now) (a .pairs .now) (a .l, a .r) (a .terms .now) (a .runs .now) _ _ _ (rw (c .before .before .before .before .before .before .w .given .1) at (c .before .before .before .before .before .before .before .before .before .before .before .before .take-turn .ensures .0)) (a .k) (c .before .before .before .short .result) _ (c .before .before .before .short .ensures) (c .before .before .give .ensures)
+    take-moves (tablesOf (a .s .now)) (a .index .now) (a .pairs .now) (a .l, a .r) (a .terms .now) (a .runs .now) _ _ _ (rw (at-w .given .1) at (at-take-turn .ensures .0)) (a .k) (at-short .result) _ (at-short .ensures) (c .before .before .give .ensures)
 
 pub take-one-spec : {M : Type 1} → statement M
 take-one-spec =

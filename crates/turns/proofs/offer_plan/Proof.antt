@@ -7,10 +7,11 @@ use Rattle.spec.specs.Monomial.{pairOf}
 use Rattle.spec.specs.Action.{cellPairs}
 use Rattle.lgg.specs.Lists.{length-map}
 use Rattle.ac_repr.specs.Terms.{held}
+use Rattle.quality.specs.Within.{quality-low}
 use Rattle.quality.specs.Known.{qualityIn, termIn}
 use Rattle.turns.specs.Offers.{actionOf}
+use Rattle.turns.specs.PlanLaws.{mass-le, plan-kept, plan-replaced}
 use Rattle.turns.specs.Cells.{cells-fit, cells-length, held-length}
-use Rattle.turns.specs.PlanLaws.{known-low, mass-le, plan-kept, plan-replaced}
 use Rattle.turns.proofs.offer_plan.Statement.{statement}
 use Rattle.turns.proofs.offer_plan.Tie as tie
 
@@ -37,7 +38,7 @@ cheaper-requires : tie.Need-cheaper-requires
 cheaper-requires c κs =
     let b = c .before .before .before .before .before .before .before .before .before .before in
     let a = b .args in
-    mass-le (qualityIn (a .index .now) (a .pairs .now)) (termIn (a .index .now) (a .pairs .now)) (actionOf (a .op) (pairOf (held (a .rows) (a .left .now)) (held (a .cols) (a .right .now)))) (a .x .now) (known-low (b .pre .0)) (c .before .plan-sum .result) (c .plan-sum2 .result) (rw (b .pre .9) at (c .before .plan-sum .ensures)) (rw (b .pre .10) at (c .plan-sum2 .ensures))
+    mass-le (qualityIn (a .index .now) (a .pairs .now)) (termIn (a .index .now) (a .pairs .now)) (actionOf (a .op) (pairOf (held (a .rows) (a .left .now)) (held (a .cols) (a .right .now)))) (a .x .now) (quality-low (b .pre .0)) (c .before .plan-sum .result) (c .plan-sum2 .result) (rw (b .pre .9) at (c .before .plan-sum .ensures)) (rw (b .pre .10) at (c .plan-sum2 .ensures))
 
 -- src/lib.rt:254:13
 list-plan-requires : tie.Need-list-plan-requires
@@ -61,7 +62,7 @@ returns c =
     let the-list-plan = c .before .before .before .list-plan in
     let the-plan-sum = c .before .before .before .before .before .before .before .before .plan-sum in
     let the-plan-sum2 = c .before .before .before .before .before .before .before .plan-sum2 in
-    plan-replaced (qualityIn (a .index .now) (a .pairs .now)) (termIn (a .index .now) (a .pairs .now)) (actionOf (a .op) (pairOf (held (a .rows) (a .left .now)) (held (a .cols) (a .right .now)))) (a .x .now) (known-low (b .pre .0)) (the-plan-sum .result) (the-plan-sum2 .result) (rw (b .pre .9) at (the-plan-sum .ensures)) (rw (b .pre .10) at (the-plan-sum2 .ensures)) (a .best) (a .list .now) (the-cheaper .result) (the-cheaper .ensures .0) (the-if1 .taken) (the-cheaper .ensures .1 (the-if1 .taken)) (the-list-plan .result) (the-list-plan .ensures .0) _ (the-list-plan .ensures .1)
+    plan-replaced (qualityIn (a .index .now) (a .pairs .now)) (termIn (a .index .now) (a .pairs .now)) (actionOf (a .op) (pairOf (held (a .rows) (a .left .now)) (held (a .cols) (a .right .now)))) (a .x .now) (quality-low (b .pre .0)) (the-plan-sum .result) (the-plan-sum2 .result) (rw (b .pre .9) at (the-plan-sum .ensures)) (rw (b .pre .10) at (the-plan-sum2 .ensures)) (a .best) (a .list .now) (the-cheaper .result) (the-cheaper .ensures .0) (the-if1 .taken) (the-cheaper .ensures .1 (the-if1 .taken)) (the-list-plan .result) (the-list-plan .ensures .0) _ (the-list-plan .ensures .1)
 
 -- src/lib.rt:230:1
 returns-2 : tie.Need-returns-2
@@ -70,7 +71,7 @@ returns-2 c =
     let a = b .args in
     let the-plan-sum = c .before .before .before .plan-sum in
     let the-plan-sum2 = c .before .before .plan-sum2 in
-    plan-kept (qualityIn (a .index .now) (a .pairs .now)) (termIn (a .index .now) (a .pairs .now)) (actionOf (a .op) (pairOf (held (a .rows) (a .left .now)) (held (a .cols) (a .right .now)))) (a .x .now) (known-low (b .pre .0)) (the-plan-sum .result) (the-plan-sum2 .result) (rw (b .pre .9) at (the-plan-sum .ensures)) (rw (b .pre .10) at (the-plan-sum2 .ensures)) (a .best) (a .list .now) (c .before .cheaper .result) (c .before .cheaper .ensures .0) (c .if1 .left)
+    plan-kept (qualityIn (a .index .now) (a .pairs .now)) (termIn (a .index .now) (a .pairs .now)) (actionOf (a .op) (pairOf (held (a .rows) (a .left .now)) (held (a .cols) (a .right .now)))) (a .x .now) (quality-low (b .pre .0)) (the-plan-sum .result) (the-plan-sum2 .result) (rw (b .pre .9) at (the-plan-sum .ensures)) (rw (b .pre .10) at (the-plan-sum2 .ensures)) (a .best) (a .list .now) (c .before .cheaper .result) (c .before .cheaper .ensures .0) (c .if1 .left)
 
 pub offer-plan-spec : {M : Type 1} → statement M
 offer-plan-spec =

@@ -1,9 +1,9 @@
 use native.Mathlib.Omega.{arith}
 use borrow.Author.Needs.{needs}
 use Rattle.spec.specs.Image.{tablesOf}
+use Rattle.quality.specs.Within.{quality-low}
 use Rattle.quality.specs.Known.{qualityIn, termIn, numberIn}
 use Rattle.turns.specs.Offers.{workOf}
-use Rattle.turns.specs.PlanLaws.{known-low}
 use Rattle.turns.specs.Ending.{turn-done, turn-left, turn-fits}
 use Rattle.turns.proofs.turn.Statement.{statement}
 use Rattle.turns.proofs.turn.Tie as tie
@@ -45,7 +45,7 @@ returns c =
     let of = termIn (a .index .now) (a .pairs .now) in
     let t = tablesOf (a .s .now) in
     let f = c .before .before .before .before .before .before .before .before .before .before .before .before .before .before .before .before .before .before .before .before .before .before .before .shared-slice-known3 .given (numberIn (a .index .now) (a .l, a .r)) in
-    let z = turn-fits t q of (a .l, a .r) _ (c .before .before .before .before .before .before .before .before .before .before .offer-transports .result) (turn-done t q of (a .l, a .r) (workOf (a .sizes .now) (a .masses .now) (a .costs .now) (a .flow .now) (a .list .now) (c .before .before .before .before .before .before .before .before .before .before .before .before .before .before .before .before .best-aligned .result)) _ (c .before .before .before .before .before .before .before .before .before .before .offer-transports .ensures) (c .before .before .before .before .before .before .before .before .before .before .before .before .before .before .before .before .best-aligned .ensures)) (known-low (b .pre .4)) (omega (arith, f .fits)) in
+    let z = turn-fits t q of (a .l, a .r) _ (c .before .before .before .before .before .before .before .before .before .before .offer-transports .result) (turn-done t q of (a .l, a .r) (workOf (a .sizes .now) (a .masses .now) (a .costs .now) (a .flow .now) (a .list .now) (c .before .before .before .before .before .before .before .before .before .before .before .before .before .before .before .before .best-aligned .result)) _ (c .before .before .before .before .before .before .before .before .before .before .offer-transports .ensures) (c .before .before .before .before .before .before .before .before .before .before .before .before .before .before .before .before .best-aligned .ensures)) (quality-low (b .pre .4)) (omega (arith, f .fits)) in
     (turn-done t q of (a .l, a .r) (workOf (a .sizes .now) (a .masses .now) (a .costs .now) (a .flow .now) (a .list .now) (c .before .before .before .before .before .before .before .before .before .before .before .before .before .before .before .before .best-aligned .result)) _ (c .before .before .before .before .before .before .before .before .before .before .offer-transports .ensures) (c .before .before .before .before .before .before .before .before .before .before .before .before .before .before .before .before .best-aligned .ensures), turn-left t q of (a .l, a .r) (workOf (a .sizes .now) (a .masses .now) (a .costs .now) (a .flow .now) (a .list .now) (c .before .before .before .before .before .before .before .before .before .before .before .before .before .before .before .before .best-aligned .result)) _ (c .before .before .before .before .before .before .before .before .before .before .offer-transports .ensures) (c .before .before .before .before .before .before .before .before .before .before .before .before .before .before .before .before .best-aligned .ensures), z .0, z .1)
 
 pub turn-spec : {M : Type 1} → statement M

@@ -4,8 +4,9 @@ use borrow.Author.Needs.{needs}
 use Rattle.spec.specs.Image.{tablesOf}
 use Rattle.spec.specs.Round.{turnOf, ones}
 use Rattle.lgg.specs.TurnPlaces.{turn-placed}
-use Rattle.image.specs.Loaded.{operations-many, classes-many}
+use Rattle.image.specs.Loaded.{operations-many}
 use Rattle.actions.specs.Remaining.{actionAt}
+use Rattle.quality.specs.Within.{class-few}
 use Rattle.quality.specs.Known.{qualityIn, termIn}
 use Rattle.quality.specs.declared.How.the-variants as H
 use Rattle.turns.specs.Listing.{runsOver}
@@ -23,7 +24,7 @@ term-of-requires : tie.Need-term-of-requires
 term-of-requires c κs =
     let b = c .before .before .before .before .before .before .before .before in
     let a = b .args in
-    (b .pre .4, omega (arith, b .pre .2, classes-many (a .s .now) (a .im) (b .pre .0), b .pre .1 .counts .fewClasses), omega (arith, b .pre .3, classes-many (a .s .now) (a .im) (b .pre .0), b .pre .1 .counts .fewClasses))
+    (b .pre .4, class-few (a .s .now) (a .im) (b .pre .0) (b .pre .1) (a .l) (b .pre .2), class-few (a .s .now) (a .im) (b .pre .0) (b .pre .1) (a .r) (b .pre .3))
 
 -- src/lib.rt:579:36
 num4-requires : tie.Need-num4-requires
