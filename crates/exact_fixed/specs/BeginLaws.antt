@@ -15,8 +15,8 @@ use Rattle.budget.specs.Budget.{budgetOf}
 use Rattle.budget.specs.declared.Budget.{Budget}
 use Rattle.terms.specs.Buffers.{poolOf}
 use Rattle.terms.specs.Emptying.{emptied, emptied-pool, emptied-length}
-use Rattle.terms.specs.Building.{full-told, term-told}
-use Rattle.terms.specs.Starting.{Starts}
+use Rattle.best_terms.specs.Building.{full-told, term-told}
+use Rattle.best_terms.specs.Starting.{Starts}
 use Rattle.terms.specs.declared.Entered.the-variants as E
 use Rattle.graph.specs.Building.{builtOf, Builds}
 use Rattle.exact_fixed.specs.Beginning.{begunOf, Begins}

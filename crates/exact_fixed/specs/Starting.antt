@@ -20,10 +20,10 @@ use Rattle.lgg.specs.TurnsFrom.{StartingAt, starting-begin, starting-cut, start
 use Rattle.lgg.specs.Standing.{Midway, midway-begin, starting-midway, starting-grows}
 use Rattle.terms.specs.Buffers.{poolOf, part}
 use Rattle.terms.specs.Chains.{Holds}
-use Rattle.terms.specs.Bests.{Kept}
+use Rattle.best_terms.specs.Bests.{Kept}
 use Rattle.terms.specs.PoolLaws.{pool-length}
-use Rattle.terms.specs.Building.{full-told, term-told}
-use Rattle.terms.specs.Starting.{Starts}
+use Rattle.best_terms.specs.Building.{full-told, term-told}
+use Rattle.best_terms.specs.Starting.{Starts}
 use Rattle.terms.specs.declared.Entered.the-variants as E
 use Rattle.exact_fixed.specs.Arrays.{twos, qualitiesIn, termsIn, given}
 use Rattle.exact_fixed.specs.ArrayLaws.{qualities-more, terms-more}

@@ -22,7 +22,7 @@ ghost use Rattle.lgg.specs.Standing.{Standing};
 ghost use Rattle.quality.specs.Known.{Known};
 ghost use Rattle.terms.specs.Buffers.{countIn, poolOf};
 ghost use Rattle.terms.specs.Chains.{Holds};
-ghost use Rattle.terms.specs.Bests.{Kept};
+ghost use Rattle.best_terms.specs.Bests.{Kept};
 ghost use Rattle.exact_fixed.specs.Arrays.{NEW, pairsIn, qualitiesIn, termsIn, given, stateIn};
 ghost use Rattle.exact_fixed.specs.Graphs.{InRange, Graphs};
 ghost use Rattle.exact_fixed.specs.Starting.{BeginsOne, StartsAll};
@@ -188,7 +188,7 @@ fn start_one(
     requires { ⌜ Loaded (now s) im × Valid (tablesOf (now s)) × (l < im .classes) × (r < im .classes) × (k < 4096) × (24576 ≤ length (now pairs)) × Holds (now terms) (now runs) × (length (now best) ≡ 256) × Kept (tablesOf (now s)) (poolOf (now terms) (now runs)) (now best) ⌝ }
     ensures { λ x. ⌜ BeginsOne (tablesOf (now (s .entry))) (l, r) k (poolOf (now (terms .entry)) (now (runs .entry))) (now (pairs .entry)) (now (pairs .exit)) (now (terms .exit)) (now (runs .exit)) (now (best .exit)) x ⌝ }
 {
-    let e = terms::evaluate_generalize_action(s, im, terms, runs, best, l, r);
+    let e = best_terms::evaluate_generalize_action(s, im, terms, runs, best, l, r);
     match e {
         Entered::Full => {
             return false;
@@ -644,7 +644,7 @@ pub fn begin(
 {
     let mut best = [0u16; 256];
     terms::empty(terms);
-    let e = terms::evaluate_generalize_action(s, im, terms, runs, &mut best, l, r);
+    let e = best_terms::evaluate_generalize_action(s, im, terms, runs, &mut best, l, r);
     match e {
         Entered::Full => {
             return Begun::Stopped(13);

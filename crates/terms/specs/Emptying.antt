@@ -1,12 +1,12 @@
 -- The empty pool: its numbers in buffers with any content.
 use mathlib.Core.Path.{_≡_, refl, sym, ap, _∙_}
 use mathlib.Core.Logic.{_≢_, _⊎_, inl, inr}
-use mathlib.Core.List.{List, [], _∷_, _++_, append-nil}
+use mathlib.Core.List.{List, [], _∷_}
 use Prim.Native.Nat.{ℕ, zero, suc, _+_, _*_, _-_, _≤_, _<_}
 use native.Mathlib.Nat.{not-suc-le-zero, eq-or-lt-of-le}
 use native.Mathlib.Omega.{arith}
-use lib.ListN.{length, getD, set, drop, replicate, length-set, length-replicate, getD-replicate}
-use lib.Seq.{getD-set-other, drop-length}
+use lib.ListN.{length, getD, set, replicate, length-set, length-replicate, getD-replicate}
+use lib.Seq.{getD-set-other}
 use Rattle.spec.specs.Pool.{Pool, RUNS}
 use Rattle.lgg.specs.Pool.{empty-valid}
 use Rattle.terms.specs.Buffers.{BUCKETS, BUCKET, COUNT, NUMBERS, part, nodesIn, poolOf, firstIn, bucketIn, countIn}
@@ -108,9 +108,6 @@ module _ (terms runs : List ℕ) where
   emptied-pool = pool-none (emptied terms) runs emptied-count
 
 -- ---- buffers of zeros
-pub filled : (l m : List ℕ) (i : ℕ) → i ≡ length l → m ≡ replicate i 0 ++ drop i l → m ≡ replicate (length l) 0
-filled l m i e q = q ∙ rw (e, drop-length l) (append-nil (replicate (length l) 0))
-
 zeros-at : (n i : ℕ) → _≡_ {A = ℕ} (getD (replicate n 0) i 0) 0
 zeros-at zero i = refl
 zeros-at (suc n) zero = refl

@@ -18,10 +18,3 @@ pub mod Sorting
 pub mod SortLaws
 pub mod Results
 pub mod ResultLaws
-pub mod BestLaws
-pub mod Bests
-pub mod Reaching
-pub mod ReachLaws
-pub mod BestRuns
-pub mod Building
-pub mod Starting

@@ -12,7 +12,7 @@ use Rattle.exact_fixed.proofs.begin.Reads as reads
 use Rattle.exact_fixed.proofs.begin.Lts as lts
 use Rattle.graph.proofs.build.Reads as build-reads
 use Rattle.terms.proofs.empty.Reads as empty-reads
-use Rattle.terms.proofs.evaluate_generalize_action.Reads as evaluate-generalize-action-reads
+use Rattle.best_terms.proofs.evaluate_generalize_action.Reads as evaluate-generalize-action-reads
 
 -- src/lib.rt:689:5
 empty-requires : tie.Need-empty-requires

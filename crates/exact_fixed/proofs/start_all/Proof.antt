@@ -1,7 +1,7 @@
 use Rattle.spec.specs.Image.{tablesOf}
 use Rattle.spec.specs.Run.{startingTerms}
 use Rattle.terms.specs.Buffers.{poolOf}
-use Rattle.terms.specs.Bests.{Kept}
+use Rattle.best_terms.specs.Bests.{Kept}
 use Rattle.image.specs.Loaded.{classes-many}
 use Rattle.exact_fixed.specs.Arrays.{pairsIn}
 use Rattle.exact_fixed.specs.ArrayLaws.{twos-length}

@@ -19,46 +19,46 @@ use Rattle.terms.proofs.first.Reads as first-reads
 use Rattle.terms.proofs.key.Reads as key-reads
 use Rattle.terms.proofs.look_up.Reads as look-up-reads
 
--- src/lib.rt:228:9
+-- src/lib.rt:263:9
 key-requires : tie.Need-key-requires
 key-requires c κs = search needs
 
--- src/lib.rt:229:9
+-- src/lib.rt:264:9
 look-up-requires : tie.Need-look-up-requires
 look-up-requires c κs = search needs
 
--- src/lib.rt:231:30
+-- src/lib.rt:266:30
 sub-t16 : tie.Need-sub-t16
 sub-t16 c = search needs
 
--- src/lib.rt:231:9
+-- src/lib.rt:266:9
 same-length : tie.Need-same-length
 same-length c = search needs
 
--- src/lib.rt:231:9
+-- src/lib.rt:266:9
 same-length-2 : tie.Need-same-length-2
 same-length-2 c = search needs
 
--- src/lib.rt:231:9
+-- src/lib.rt:266:9
 returns : tie.Need-returns
 returns c =
     let b = c .before .before .before .before .before .before .before .before in
     let a = b .args in
     intern-found (a .terms .now) (a .runs .now) (a .list .now) (a .n) (a .h) (a .v) (b .pre .0) (c .before .look-up .result) (c .if1 .taken) (c .before .look-up .ensures)
 
--- src/lib.rt:233:9
+-- src/lib.rt:268:9
 count-requires : tie.Need-count-requires
 count-requires c κs = search needs
 
--- src/lib.rt:235:9
+-- src/lib.rt:270:9
 same-length-3 : tie.Need-same-length-3
 same-length-3 c = search needs
 
--- src/lib.rt:235:9
+-- src/lib.rt:270:9
 same-length-4 : tie.Need-same-length-4
 same-length-4 c = search needs
 
--- src/lib.rt:235:9
+-- src/lib.rt:270:9
 returns-2 : tie.Need-returns-2
 returns-2 c =
     let b = c .before .before .before .before .before .before .before .before .before .before .before in
@@ -67,11 +67,11 @@ returns-2 c =
     let s = rw z at (c .before .before .before .before .look-up .ensures) in
     intern-full-terms (a .terms .now) (a .runs .now) (a .list .now) (a .n) (a .h) (a .v) (b .pre .0) s (omega (arith, c .before .count .ensures .0, c .if2 .taken))
 
--- src/lib.rt:237:9
+-- src/lib.rt:272:9
 first-requires : tie.Need-first-requires
 first-requires c κs = search needs
 
--- src/lib.rt:238:12
+-- src/lib.rt:273:12
 sub-if3 : tie.Need-sub-if3
 sub-if3 c =
     let b = c .before .before .before .before .before .before .before .before .before .before .before .before .before in
@@ -79,15 +79,15 @@ sub-if3 c =
     let e = first-at (a .terms .now) (c .before .before .before .count .ensures .0) (c .first .ensures .0) in
     omega (arith, b .pre .0 .ends)
 
--- src/lib.rt:239:9
+-- src/lib.rt:274:9
 same-length-5 : tie.Need-same-length-5
 same-length-5 c = search needs
 
--- src/lib.rt:239:9
+-- src/lib.rt:274:9
 same-length-6 : tie.Need-same-length-6
 same-length-6 c = search needs
 
--- src/lib.rt:239:9
+-- src/lib.rt:274:9
 returns-3 : tie.Need-returns-3
 returns-3 c =
     let b = c .before .before .before .before .before .before .before .before .before .before .before .before .before .before in
@@ -97,7 +97,7 @@ returns-3 c =
     let e = first-at (a .terms .now) (c .before .before .before .before .count .ensures .0) (c .before .first .ensures .0) in
     intern-full-runs (a .terms .now) (a .runs .now) (a .list .now) (a .n) (a .h) (a .v) (b .pre .0) s (omega (arith, c .before .before .before .before .count .ensures .0, c .before .before .before .if2 .left)) (omega (arith, c .if3 .taken))
 
--- src/lib.rt:241:5
+-- src/lib.rt:276:5
 enter-requires : tie.Need-enter-requires
 enter-requires c κs =
     let b = c .before .before .before .before .before .before .before .before .before .before .before .before .before .before .before .before in
@@ -105,15 +105,15 @@ enter-requires c κs =
     let e = first-at (a .terms .now) (c .before .before .before .before .before .before .count .ensures .0) (c .before .before .before .first .ensures .0) in
     (b .pre .0, omega (arith, c .before .before .before .before .before .before .count .ensures .0, c .before .before .before .before .before .if2 .left), omega (arith, c .before .before .if3 .left, b .pre .0 .ends), b .pre .2, c .before .before .before .before .before .before .before .before .before .before .before .before .key .ensures .1)
 
--- src/lib.rt:217:1
+-- src/lib.rt:252:1
 same-length-7 : tie.Need-same-length-7
 same-length-7 c = search needs
 
--- src/lib.rt:217:1
+-- src/lib.rt:252:1
 same-length-8 : tie.Need-same-length-8
 same-length-8 c = search needs
 
--- src/lib.rt:217:1
+-- src/lib.rt:252:1
 returns-4 : tie.Need-returns-4
 returns-4 c =
     let b = c .before .before .before .before .before .before .before .before .before .before .before .before .before .before .before .before .before .before .before .before .before in

@@ -14,63 +14,63 @@ use Rattle.terms.proofs.put_chain.Lts as lts
 use Rattle.terms.proofs.put.Reads as put-reads
 use Rattle.terms.proofs.short.Reads as short-reads
 
--- src/lib.rt:190:21
+-- src/lib.rt:233:21
 add-old : tie.Need-add-old
 add-old c = search needs
 
--- src/lib.rt:190:15
+-- src/lib.rt:233:15
 mul-old : tie.Need-mul-old
 mul-old c = search needs
 
--- src/lib.rt:190:15
+-- src/lib.rt:233:15
 slice-read-old : tie.Need-slice-read-old
 slice-read-old c = search needs
 
--- src/lib.rt:191:16
+-- src/lib.rt:234:16
 mul-put : tie.Need-mul-put
 mul-put c = search needs
 
--- src/lib.rt:191:16
+-- src/lib.rt:234:16
 add-put : tie.Need-add-put
 add-put c = search needs
 
--- src/lib.rt:191:5
+-- src/lib.rt:234:5
 put-requires : tie.Need-put-requires
 put-requires c κs = search needs
 
--- src/lib.rt:192:16
+-- src/lib.rt:235:16
 add-put-2 : tie.Need-add-put-2
 add-put-2 c = search needs
 
--- src/lib.rt:192:39
+-- src/lib.rt:235:39
 add-short : tie.Need-add-short
 add-short c = search needs
 
--- src/lib.rt:192:33
+-- src/lib.rt:235:33
 short-requires : tie.Need-short-requires
 short-requires c κs = search needs
 
--- src/lib.rt:192:5
+-- src/lib.rt:235:5
 put-requires-2 : tie.Need-put-requires-2
 put-requires-2 c κs = search needs
 
--- src/lib.rt:193:29
+-- src/lib.rt:236:29
 add-short-2 : tie.Need-add-short-2
 add-short-2 c = search needs
 
--- src/lib.rt:193:23
+-- src/lib.rt:236:23
 short-requires-2 : tie.Need-short-requires-2
 short-requires-2 c κs = search needs
 
--- src/lib.rt:193:5
+-- src/lib.rt:236:5
 put-requires-3 : tie.Need-put-requires-3
 put-requires-3 c κs = search needs
 
--- src/lib.rt:186:1
+-- src/lib.rt:229:1
 same-length : tie.Need-same-length
 same-length c = search needs
 
--- src/lib.rt:186:1
+-- src/lib.rt:229:1
 returns : tie.Need-returns
 returns c = rw (c .before .before .put3 .ensures, c .before .before .before .before .before .before .before .put2 .ensures, c .before .before .before .before .before .before .before .before .before .before .before .before .put .ensures, c .before .before .before .short2 .ensures, c .before .before .before .before .before .before .before .before .short .ensures) refl
 

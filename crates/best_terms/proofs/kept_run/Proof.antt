@@ -1,0 +1,70 @@
+use borrow.Author.Tests.{lt-ltb, le-ltb, le-leb, lt-leb, eq-eqb, ne-eqb}
+use Prim.Native.Nat.{ℕ, zero, suc, _≤_, _<_, _-_, _+_, _*_, _^_}
+use native.Mathlib.Omega.{arith}
+use native.Mathlib.Numerals.{add-one}
+use mathlib.Core.Path.{_≡_, refl, ap, sym, _∙_}
+use mathlib.Core.Logic.{⊎-elim}
+use mathlib.Core.List.{List, [], _∷_, _++_, append-nil}
+use lib.ListN.{length, take, drop, getD, set, length-set, length-take, length-drop, length-append, drop-of-length-le}
+use borrow.Author.Needs.{needs}
+use Rattle.best_terms.proofs.kept_run.Statement.{statement}
+use Rattle.best_terms.proofs.kept_run.Tie as tie
+use Rattle.best_terms.proofs.kept_run.Reads as reads
+use Rattle.best_terms.proofs.kept_run.Lts as lts
+use Rattle.image.proofs.child_class.Reads as child-class-reads
+use Rattle.image.proofs.child_times.Reads as child-times-reads
+use Rattle.best_terms.proofs.kept.Reads as kept-reads
+use Rattle.best_terms.proofs.long.Reads as long-reads
+
+-- src/lib.rt:78:9
+child-class-requires : tie.Need-child-class-requires
+child-class-requires c κs = search needs
+
+-- src/lib.rt:79:9
+child-times-requires : tie.Need-child-times-requires
+child-times-requires c κs = search needs
+
+-- src/lib.rt:80:5
+mul-result : tie.Need-mul-result
+mul-result c = search needs
+
+-- src/lib.rt:80:22
+kept-requires : tie.Need-kept-requires
+kept-requires c κs = search needs
+
+-- src/lib.rt:80:22
+sub-long : tie.Need-sub-long
+sub-long c =
+    let b = c .before .before .before .before .before in
+    let a = b .args in
+    let k = rw (c .before .before .child-class .ensures .0) at (c .kept .ensures .0) in
+    omega (arith, b .pre .3)
+
+-- src/lib.rt:80:17
+long-requires : tie.Need-long-requires
+long-requires c κs = search needs
+
+-- src/lib.rt:80:5
+add-result : tie.Need-add-result
+add-result c = search needs
+
+-- src/lib.rt:74:1
+returns : tie.Need-returns
+returns c =
+    let b = c .before .before .before .before .before .before in
+    let a = b .args in
+    let k = rw (c .before .before .before .child-class .ensures .0) at (c .before .kept .ensures .0) in
+    (omega (arith, c .long .ensures, c .before .before .child-times .ensures .0), omega (arith, c .long .ensures, c .before .before .child-times .ensures .1, c .before .kept .ensures .1))
+
+pub kept-run-spec : {M : Type 1} → statement M
+kept-run-spec =
+    tie.close
+    (tie.spec
+    child-class-requires
+    child-times-requires
+    mul-result
+    kept-requires
+    sub-long
+    long-requires
+    add-result
+    returns)

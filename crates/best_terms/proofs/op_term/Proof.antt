@@ -1,0 +1,112 @@
+use mathlib.Core.List.{map}
+use Rattle.spec.specs.Image.{tablesOf, theMember, childrenOf}
+use Rattle.spec.specs.Pool.{opNode}
+use Rattle.image.specs.Loaded.{children-many}
+use Rattle.terms.specs.Buffers.{countIn}
+use Rattle.best_terms.specs.Bests.{keptRun}
+use Rattle.terms.specs.ResultLaws.{begins-fits}
+use Rattle.best_terms.specs.BestRuns.{ready, kept-light, kept-valid, joined-light, kept-node, gives-of}
+use borrow.Author.Tests.{lt-ltb, le-ltb, le-leb, lt-leb, eq-eqb, ne-eqb}
+use Prim.Native.Nat.{ℕ, zero, suc, _≤_, _<_, _-_, _+_, _*_, _^_}
+use native.Mathlib.Omega.{arith}
+use native.Mathlib.Numerals.{add-one}
+use mathlib.Core.Path.{_≡_, refl, ap, sym, _∙_}
+use mathlib.Core.Logic.{⊎-elim}
+use mathlib.Core.List.{List, [], _∷_, _++_, append-nil}
+use lib.ListN.{length, take, drop, getD, set, length-set, length-take, length-drop, length-append, drop-of-length-le}
+use borrow.Author.Needs.{needs}
+use Rattle.best_terms.proofs.op_term.Statement.{statement}
+use Rattle.best_terms.proofs.op_term.Tie as tie
+use Rattle.best_terms.proofs.op_term.Reads as reads
+use Rattle.best_terms.proofs.op_term.Lts as lts
+use Rattle.image.proofs.child_count.Reads as child-count-reads
+use Rattle.image.proofs.first_child.Reads as first-child-reads
+use Rattle.terms.proofs.intern.Reads as intern-reads
+use Rattle.terms.proofs.join_runs.Reads as join-runs-reads
+use Rattle.best_terms.proofs.kept_runs.Reads as kept-runs-reads
+use Rattle.best_terms.proofs.short.Reads as short-reads
+
+-- src/lib.rt:116:9
+first-child-requires : tie.Need-first-child-requires
+first-child-requires c κs = search needs
+
+-- src/lib.rt:117:9
+child-count-requires : tie.Need-child-count-requires
+child-count-requires c κs = search needs
+
+-- src/lib.rt:118:28
+slice-aggregate-kept-runs : tie.Need-slice-aggregate-kept-runs
+slice-aggregate-kept-runs c = search needs
+
+-- src/lib.rt:118:5
+kept-runs-requires : tie.Need-kept-runs-requires
+kept-runs-requires c κs =
+    let b = c .before .before .before .before .before .before .before in
+    let a = b .args in
+    let k = c .before .before .first-child .ensures .0 in
+    let n = c .before .child-count .ensures .0 in
+    (b .pre .1, c .before .before .first-child .ensures .1, omega (arith, b .pre .4 .few), rw (k, n) (ready (tablesOf (a .s .now)) (a .best .now) (countIn (a .terms .now)) (a .m) (b .pre .4) (b .pre .0 .few) (a .im) (children-many (a .s .now) (a .im) (b .pre .1))))
+
+-- src/lib.rt:119:30
+slice-aggregate-join-runs : tie.Need-slice-aggregate-join-runs
+slice-aggregate-join-runs c = search needs
+
+-- src/lib.rt:119:9
+join-runs-requires : tie.Need-join-runs-requires
+join-runs-requires c κs =
+    let b = c .before .before .before .before .before .before .before .before .before .before in
+    let a = b .args in
+    let k = c .before .before .before .before .before .first-child .ensures .0 in
+    let n = c .before .before .before .before .child-count .ensures .0 in
+    (omega (arith, b .pre .4 .few), rw n (kept-light (tablesOf (a .s .now)) (a .best .now) (countIn (a .terms .now)) (a .m) (b .pre .4) (b .pre .0 .few) _ (rw (k, n) at (c .before .before .kept-runs .ensures))))
+
+-- src/lib.rt:120:32
+slice-aggregate-intern : tie.Need-slice-aggregate-intern
+slice-aggregate-intern c = search needs
+
+-- src/lib.rt:120:42
+short-requires : tie.Need-short-requires
+short-requires c κs = search needs
+
+-- src/lib.rt:120:5
+intern-requires : tie.Need-intern-requires
+intern-requires c κs =
+    let b = c .before .before .before .before .before .before .before .before .before .before .before .before .before .before .before .before in
+    let a = b .args in
+    let k = c .before .before .before .before .before .before .before .before .before .before .before .first-child .ensures .0 in
+    let n = c .before .before .before .before .before .before .before .before .before .before .child-count .ensures .0 in
+    (b .pre .0, rw (c .short .ensures) (kept-valid (tablesOf (a .s .now)) (a .best .now) (countIn (a .terms .now)) (a .m) (b .pre .4) (b .pre .0 .few) _ (rw (k, n) at (c .before .before .before .before .before .before .before .before .kept-runs .ensures)) _ (c .before .before .before .before .before .join-runs .result) (rw n at (c .before .before .before .before .before .join-runs .ensures)) (a .op) (b .pre .3)), begins-fits (c .before .before .before .before .before .join-runs .ensures), joined-light (tablesOf (a .s .now)) (a .best .now) (countIn (a .terms .now)) (a .m) (b .pre .4) (b .pre .0 .few) _ (rw (k, n) at (c .before .before .before .before .before .before .before .before .kept-runs .ensures)) _ (c .before .before .before .before .before .join-runs .result) (rw n at (c .before .before .before .before .before .join-runs .ensures)))
+
+-- src/lib.rt:103:1
+same-length : tie.Need-same-length
+same-length c = search needs
+
+-- src/lib.rt:103:1
+same-length-2 : tie.Need-same-length-2
+same-length-2 c = search needs
+
+-- src/lib.rt:103:1
+returns : tie.Need-returns
+returns c =
+    let b = c .before .before .before .before .before .before .before .before .before .before .before .before .before .before .before .before .before .before .before .before .before in
+    let a = b .args in
+    let k = c .before .before .before .before .before .before .before .before .before .before .before .before .before .before .before .before .first-child .ensures .0 in
+    let n = c .before .before .before .before .before .before .before .before .before .before .before .before .before .before .before .child-count .ensures .0 in
+    gives-of (opNode (a .op) (map (keptRun (a .best .now)) (childrenOf (tablesOf (a .s .now)) (theMember (tablesOf (a .s .now)) (a .m))))) (rw (c .before .before .before .before .before .short .ensures) (kept-node (tablesOf (a .s .now)) (a .best .now) (countIn (a .terms .now)) (a .m) (b .pre .4) (b .pre .0 .few) _ (rw (k, n) at (c .before .before .before .before .before .before .before .before .before .before .before .before .before .kept-runs .ensures)) _ (c .before .before .before .before .before .before .before .before .before .before .join-runs .result) (rw n at (c .before .before .before .before .before .before .before .before .before .before .join-runs .ensures)) (a .op) (b .pre .3))) (begins-fits (c .before .before .before .before .before .before .before .before .before .before .join-runs .ensures)) (c .before .before .before .before .intern .ensures)
+
+pub op-term-spec : {M : Type 1} → statement M
+op-term-spec =
+    tie.close
+    (tie.spec
+    first-child-requires
+    child-count-requires
+    slice-aggregate-kept-runs
+    kept-runs-requires
+    slice-aggregate-join-runs
+    join-runs-requires
+    slice-aggregate-intern
+    short-requires
+    intern-requires
+    same-length
+    same-length-2
+    returns)
