@@ -1,5 +1,5 @@
-# make test: the gate. make run: image E through program `merge`. make bindings: C and Rust over the static library. make bench: against the listed Rust.
-.PHONY: test run oracle fmt bindings bench
+# make test: the gate. make run: image E through program `merge`. make bindings: C and Rust over the static library. make bench: against the listed Rust. make layers: docs/LAYERS.md.
+.PHONY: test run oracle fmt bindings bench layers
 SHELL := /bin/bash
 
 # Everything that the gate runs; the last line printed is rt ci's `N passed, 0 failed`.
@@ -14,9 +14,14 @@ fmt:
 oracle:
 	@if command -v cargo >/dev/null 2>&1; then bash oracle/test.sh; else echo "oracle: no cargo here, not built and not tested"; fi
 
-# The command that does the main job.
+# The command that does the main job: proves and links program `merge`, and gives it image E with its query.
 run:
-	@if [ -d crates/merge ]; then rt check merge && target/bin/merge < examples/E.query; else echo "program merge does not exist yet: running the tests of the definitions"; rt check spec; fi
+	@mkdir -p target && rt check merge > target/run.log 2>&1 || { cat target/run.log; exit 1; }
+	@target/bin/merge < examples/E.query
+
+# The picture of the layers.
+layers:
+	awk -f docs/layers.awk crates.txt > docs/LAYERS.md
 
 # The merge for other languages: the static library, its C test, the safe Rust crate and its tests. Not part of the gate, which proves the same crates.
 bindings:
