@@ -1,6 +1,7 @@
 // SPDX-License-Identifier: Apache-2.0
 //! Generator, driver, image text and sample: what the harness is made of.
 
+pub mod budgets;
 pub mod damage;
 pub mod drive;
 pub mod r#gen;

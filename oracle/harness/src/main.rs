@@ -6,7 +6,7 @@ use std::io::{Read, Write};
 use harness::drive::{Counts, compare};
 use harness::img::{Img, Query};
 use harness::judge::{Judge, pack, unpack};
-use harness::{damage, draw, limits, pairs, plans, sample, small, text};
+use harness::{budgets, damage, draw, limits, pairs, plans, sample, small, text};
 use model::slip::Slip;
 
 fn stdin() -> Result<Vec<u8>, String> {
@@ -104,6 +104,13 @@ fn run(words: &[&str]) -> Result<(), String> {
         }
         ["random", a, b, seed, count, family] => {
             let frames = draw(number(seed)?, number(count)? as usize, Some(family));
+            compare_frames(a, b, &frames)
+        }
+        ["budgets", a, b, seed, count] => {
+            let count = number(count)? as usize;
+            let drawn = draw(number(seed)?, 20 * count, None);
+            let (queries, frames) = budgets::every(&drawn, count);
+            println!("{queries} queries, {} frames", frames.len());
             compare_frames(a, b, &frames)
         }
         ["plans", seed, count] => {
