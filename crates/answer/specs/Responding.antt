@@ -2,12 +2,12 @@
 use mathlib.Core.Path.{_≡_, _∙_}
 use mathlib.Core.Bool.{Bool, true}
 use mathlib.Core.List.{List, [], _∷_, _++_}
-use Prim.Native.Nat.{ℕ, _+_, _≤_}
+use Prim.Native.Nat.{ℕ, _+_}
 use lib.Dec.{leb, eqb}
 use lib.ListN.{length, take, drop}
 use Rattle.spec.specs.Bytes.{both, be2, be4, text, decimal, refused}
 use Rattle.spec.specs.Listing.{line}
-use Rattle.spec.specs.Merge.{INPUT, OUTPUT, printed, programOf}
+use Rattle.spec.specs.Merge.{INPUT, OUTPUT, programOf}
 use Rattle.au.specs.declared.Answer.{Answer}
 use Rattle.au.specs.declared.Answer.the-variants.{Listing}
 use Rattle.au.specs.Merges.{fitOf, answerOf, Merges}

@@ -1,23 +1,23 @@
 -- What the parts of `respond` give together.
 use mathlib.Core.Path.{_≡_, refl, sym, ap, _∙_}
-use mathlib.Core.Bool.{Bool, true, false, not}
-use mathlib.Core.List.{List, [], _∷_, _++_, append-assoc}
-use Prim.Native.Nat.{ℕ, _+_, _^_, _≤_, _<_}
+use mathlib.Core.Bool.{Bool, true, false}
+use mathlib.Core.List.{List, [], _∷_, _++_}
+use Prim.Native.Nat.{ℕ, _+_, _≤_, _<_}
 use native.Mathlib.Omega.{arith}
-use lib.Dec.{T, leb, eqb}
+use lib.Dec.{leb, eqb}
 use lib.ListN.{length, take, drop, length-append}
 use lib.Seq.{length-take-le}
-use borrow.Author.Tests.{le-leb, lt-leb, eq-eqb, ne-eqb, leb-true, eqb-true}
-use Rattle.spec.specs.Bytes.{both, be2, be4, text, decimal, digits, Res, ok, refused}
+use borrow.Author.Tests.{le-leb, lt-leb, leb-true, eqb-true}
+use Rattle.spec.specs.Bytes.{both, be2, be4, text, decimal, Res, ok, refused}
 use Rattle.spec.specs.Listing.{line}
 use Rattle.spec.specs.Merge.{INPUT, OUTPUT, mergeOf, outputAfter, printed, answerTo, programOf}
-use Rattle.lgg.specs.Results.{refused-ok, ok-inj, refused-inj}
-use Rattle.listing.specs.Writing.{putAt, Wrote}
+use Rattle.lgg.specs.Results.{refused-ok, refused-inj}
+use Rattle.listing.specs.Writing.{Wrote}
 use Rattle.listing.specs.WriteLaws.{wrote-then, wrote-length, wrote-as}
 use Rattle.listing.specs.DecimalLaws.{decimal-short}
 use Rattle.au.specs.declared.Answer.{Answer}
 use Rattle.au.specs.declared.Answer.the-variants.{Listing, Refused, Doubled}
-use Rattle.au.specs.Merges.{fitOf, answerOf, Carries, Merges, Cleared}
+use Rattle.au.specs.Merges.{answerOf, Merges, Cleared}
 use Rattle.answer.specs.Responding.{framed, refusalBytes, Front, Prints, Asks, Responds}
 
 -- ---- the test

@@ -1,6 +1,6 @@
 -- A `&mut [T]` among the parameters of a walk: lent again for a call and back, lent as a `&` and back, and what is left of it at the end. It says nothing of the crate.
 -- Assumes `Given`.
-use mathlib.Core.Path.{_≡_, refl, sym, ap, _∙_, subst}
+use mathlib.Core.Path.{_≡_, refl, sym, subst}
 use Prim.Native.Nat.{ℕ}
 use mathlib.Core.List.{List, [], _∷_}
 use lib.ListN.{length}
@@ -12,7 +12,7 @@ use base.Logic.{ent, sep, ex}
 use base.Fml.{Lft, GName, Share, Fml, flft, fres}
 use prog.Wp.{Heap}
 use ghost.Atoms.{Atoms, sem}
-use types.Kit.{Given, ‵, _⊛_, some, later, _$_, _∵_, !, qed, move, keep, use1, use2, use3, drop, split, join, pick, fsplit, fjoin, frame, await, updating, now as at-once, rewrite, show, done}
+use types.Kit.{Given, ‵, _⊛_, some, later, _$_, _∵_, !, qed, move, keep, use1, use2, use3, split, join, pick, fsplit, frame, await, updating, now as at-once, rewrite, show, done}
 use types.Tokens.{lft-new, lft-end}
 use denote.RattleType.{RattleType}
 use denote.Ref.{RefT}

@@ -1,6 +1,5 @@
 -- What the parts of `merge` give together: where a work buffer is too short, and where none is.
 use mathlib.Core.Path.{_≡_, refl, sym, ap, _∙_}
-use mathlib.Core.Logic.{_≢_}
 use mathlib.Core.Bool.{Bool, true, false, not}
 use mathlib.Core.List.{List}
 use Prim.Native.Nat.{ℕ, _≤_}
@@ -14,7 +13,7 @@ use Rattle.pair_table.specs.declared.Pair.{Pair}
 use Rattle.pair_table.specs.Table.{none}
 use Rattle.au.specs.declared.Answer.{Answer}
 use Rattle.au.specs.declared.Answer.the-variants.{Refused}
-use Rattle.au.specs.Merges.{fitOf, fits, Merges, Cleared, Table}
+use Rattle.au.specs.Merges.{fits, Merges, Cleared, Table}
 use Rattle.au.specs.Prepared.{Wide}
 
 pub is-short : (b : Bool) → T (not b) → b ≡ false

@@ -1,8 +1,8 @@
 -- "Above a covered engine on plain arrays": the pair table holds the engine's pairs. Where the graph is built in full, each of its pairs is new at its own number, and the table's first n records are the graph's n pairs, in their order.
 use mathlib.Core.Path.{_≡_, refl, sym, ap, ap₂, _∙_}
 use mathlib.Core.Bool.{true}
-use mathlib.Core.List.{List, [], _∷_, map}
-use Prim.Native.Nat.{ℕ, _<_, _≤_}
+use mathlib.Core.List.{List, [], map}
+use Prim.Native.Nat.{ℕ, _≤_}
 use native.Mathlib.Omega.{arith}
 use lib.ListN.{length, getD}
 use Rattle.spec.specs.Bytes.{Two, Res, ok, refused, Checked, passed, cutShort}
@@ -17,8 +17,7 @@ use Rattle.pair_table.specs.From.{in-step}
 use Rattle.graph.specs.Building.{leftsAfter, rightsAfter, over}
 use Rattle.graph.specs.Built.{left-at, right-at, built-apart, built-few}
 use Rattle.exact_fixed.specs.Beginning.{begunOf}
-use Rattle.exact_fixed.specs.declared.Begun.{Begun}
-use Rattle.exact_fixed.specs.declared.Begun.the-variants.{Stopped, Cut, All}
+use Rattle.exact_fixed.specs.declared.Begun.the-variants.{All}
 use Rattle.au.specs.Prepared.{Goes}
 
 -- an answer of `begin` with n pairs

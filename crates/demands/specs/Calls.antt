@@ -2,19 +2,19 @@
 use mathlib.Core.Path.{_≡_, refl, sym, ap, _∙_}
 use mathlib.Core.Logic.{_≢_, _↔_}
 use mathlib.Core.Bool.{Bool, true, false}
-use mathlib.Core.List.{List, [], _∷_, _++_}
-use Prim.Native.Nat.{ℕ, zero, suc, _≤_, _<_}
+use mathlib.Core.List.{List, _++_}
+use Prim.Native.Nat.{ℕ, _≤_, _<_}
 use native.Mathlib.Omega.{arith}
 use lib.Dec.{ltb, leb}
 use lib.ListN.{length, take, drop}
 use lib.Seq.{length-take-le, drop-at}
 use borrow.Author.Tests.{lt-ltb, ltb-true, ltb-false, leb-true, leb-false}
-use Rattle.spec.specs.Bytes.{both, Res, ok, refused, rule, _>>=_}
+use Rattle.spec.specs.Bytes.{Res, ok, refused, rule, _>>=_}
 use Rattle.spec.specs.Image.{Tables, tablesOf, imageOf}
 use Rattle.spec.specs.Run.{Outcome, runOf}
 use Rattle.spec.specs.Listing.{listingOf}
 use Rattle.spec.specs.Merge.{mergeOf, outputAfter}
-use Rattle.laws.specs.Valid.{Valid, Keeps}
+use Rattle.laws.specs.Valid.{Keeps}
 use Rattle.laws.specs.Accepted as A
 use Rattle.lgg.specs.Results.{refused-ok, ok-inj, refused-inj}
 use Rattle.au.specs.declared.Answer.{Answer}

@@ -1,18 +1,18 @@
 -- Demand 2, of a call of `merge`, from its contract: the formula's readings, its size and mass, and the transport plans of the steps that build it.
 use mathlib.Core.Path.{_≡_, refl, sym, ap, _∙_, subst}
 use mathlib.Core.Bool.{Bool, true, false}
-use mathlib.Core.List.{List, [], _∷_, _++_, map, append-assoc}
+use mathlib.Core.List.{List, [], _∷_, map, append-assoc}
 use mathlib.Core.Option.{Option, none, some}
 use Prim.Native.Nat.{ℕ, _<_}
 use lib.ListN.{length, take}
 use lib.Seq.{take-at}
-use Rattle.spec.specs.Bytes.{pick, each, Two, ok}
+use Rattle.spec.specs.Bytes.{pick, Two, ok}
 use Rattle.spec.specs.Image.{Tables, tablesOf}
 use Rattle.spec.specs.Transport.{Problem, solveCells}
 use Rattle.spec.specs.Action.{Action, TransportAction, structural, transports, cellPairs}
 use Rattle.spec.specs.Round.{better, lookUp, qualityOver, ones, problemOver, Choice, stay, act, Turn, offer, offerActions, offerPlan, offerTransports, turnOf, turnsOf, qualitiesAfter}
 use Rattle.spec.specs.Run.{Outcome, runOf}
-use Rattle.spec.specs.Listing.{firstLine, termLine, subterms, listingOf}
+use Rattle.spec.specs.Listing.{firstLine, listingOf}
 use Rattle.spec.specs.Meaning.{In, here, there, Plan, _⊑_, termQuality, readFirst, readSecond, treeAt, Belongs}
 use Rattle.laws.specs.Valid.{Valid}
 use Rattle.laws.specs.Accepted as A
@@ -21,7 +21,7 @@ use Rattle.lgg.specs.Pool.{PoolValid}
 use Rattle.lgg.specs.Readings as L
 use Rattle.au.specs.declared.Answer.the-variants.{Listing}
 use Rattle.au.specs.Merges.{Merges}
-use Rattle.demands.specs.Calls.{Accepted, accepted, read-of}
+use Rattle.demands.specs.Calls.{accepted, read-of}
 
 module _ (image : List ℕ) (left right budget : ℕ) (fit : Bool) (out out′ : List ℕ) (n : ℕ) (m : Merges image left right budget fit out out′ (Listing n)) where
   abbrev t : Tables

@@ -1,20 +1,18 @@
 -- Demand 3, of calls of `merge`, from their contracts: short and long runs, least derivations, what is reported. Each premise is what a caller has: the contract of a call, and its own budgets.
 use mathlib.Core.Path.{_≡_, refl, sym, ap, _∙_}
-use mathlib.Core.Logic.{_≢_, _⊎_, inl, inr, _↔_}
+use mathlib.Core.Logic.{_↔_}
 use mathlib.Core.Bool.{Bool, true, false}
-use mathlib.Core.List.{List, [], _∷_}
-use Prim.Native.Nat.{ℕ, zero, suc, _+_, _*_, _≤_, _<_}
-use native.Mathlib.Omega.{arith}
+use mathlib.Core.List.{List, _∷_}
+use Prim.Native.Nat.{ℕ, _+_, _*_, _≤_, _<_}
 use lib.ListN.{length, take}
-use borrow.Author.Tests.{le-leb}
-use Rattle.spec.specs.Bytes.{Two, Res, ok, refused, passed, cutShort}
+use Rattle.spec.specs.Bytes.{Two, ok, refused, passed}
 use Rattle.spec.specs.Image.{Tables, tablesOf}
 use Rattle.spec.specs.Graph.{build}
-use Rattle.spec.specs.Run.{Outcome, started, runOf}
+use Rattle.spec.specs.Run.{Outcome, runOf}
 use Rattle.spec.specs.Listing.{listingOf}
 use Rattle.spec.specs.Meaning.{In, _⊑_, Derivation, Reachable}
 use Rattle.lgg.specs.Lists.{Distinct}
-use Rattle.lgg.specs.Results.{ok-inj, refused-ok}
+use Rattle.lgg.specs.Results.{ok-inj}
 use Rattle.lgg.specs.Rounds.{LeastOf}
 use Rattle.lgg.specs.Graph.{PairCount, build-cut}
 use Rattle.lgg.specs.Run.{Ends, inBuilding, inStarting, inRounds, run-ends}
@@ -22,9 +20,9 @@ use Rattle.lgg.specs.Outcomes.{started-says}
 use Rattle.lgg.specs.Demand3 as D
 use Rattle.lgg.specs.Demand3.{FirstQuiet, Reported}
 use Rattle.au.specs.declared.Answer.{Answer}
-use Rattle.au.specs.declared.Answer.the-variants.{Listing, Refused, Doubled}
+use Rattle.au.specs.declared.Answer.the-variants.{Listing, Refused}
 use Rattle.au.specs.Merges.{Merges}
-use Rattle.demands.specs.Calls.{Taken, Accepted, accepted}
+use Rattle.demands.specs.Calls.{Taken, accepted}
 use Rattle.demands.specs.Refusals.{refused-12, refused-13, listing-where}
 
 -- ---- one call that is not refused

@@ -1,4 +1,5 @@
 pub mod Calls
+pub mod FirstLine
 pub mod Refusals
 pub mod Demand2
 pub mod Demand3

@@ -1,15 +1,15 @@
 -- "Table of refusals": "Each is returned in its case only", of a call of `merge`, from its contract; and demand 1's buffers.
 use mathlib.Core.Path.{_≡_, refl, sym, ap, _∙_}
-use mathlib.Core.Logic.{_≢_, _⊎_, inl, inr, _↔_}
+use mathlib.Core.Logic.{_≢_, inl, inr, _↔_}
 use mathlib.Core.Bool.{Bool, true, false}
-use mathlib.Core.List.{List, [], _∷_, _++_}
-use Prim.Native.Nat.{ℕ, zero, suc, _≤_, _<_}
+use mathlib.Core.List.{List, []}
+use Prim.Native.Nat.{ℕ, _≤_, _<_}
 use native.Mathlib.Omega.{arith}
 use lib.ListN.{length, replicate}
 use borrow.Author.Tests.{le-leb, lt-leb}
-use Rattle.spec.specs.Bytes.{Res, ok, refused, rule, workAfter}
-use Rattle.spec.specs.Image.{tablesOf, imageOf}
-use Rattle.spec.specs.Graph.{PAIRS, build}
+use Rattle.spec.specs.Bytes.{Res, ok, refused, workAfter}
+use Rattle.spec.specs.Image.{tablesOf}
+use Rattle.spec.specs.Graph.{PAIRS}
 use Rattle.spec.specs.Pool.{Interned, startingTerm}
 use Rattle.spec.specs.Run.{Outcome, runOf}
 use Rattle.spec.specs.Listing.{listingOf}
@@ -18,12 +18,12 @@ use Rattle.spec.specs.Meaning.{HoldsDoubled}
 use Rattle.laws.specs.Valid.{Keeps}
 use Rattle.laws.specs.Accepted as A
 use Rattle.lgg.specs.Lists.{clash}
-use Rattle.lgg.specs.Results.{refused-ok, ok-inj, refused-inj}
+use Rattle.lgg.specs.Results.{refused-ok, refused-inj}
 use Rattle.lgg.specs.Graph.{PairCount}
 use Rattle.lgg.specs.Demand3 as D
 use Rattle.au.specs.declared.Answer.{Answer}
 use Rattle.au.specs.declared.Answer.the-variants.{Listing, Refused, Doubled}
-use Rattle.au.specs.Merges.{answerOf, Carries, Merges}
+use Rattle.au.specs.Merges.{answerOf, Merges}
 use Rattle.demands.specs.Calls.{Asked, Sound, Taken, Way, short, unsound, outside, stopped, over, listed, read-of, taken-is, way, refused-iff, doubled-iff, listing-iff}
 
 module _ (image : List ℕ) (left right budget : ℕ) (fit : Bool) (out out′ : List ℕ) (r : Answer) (m : Merges image left right budget fit out out′ r) where

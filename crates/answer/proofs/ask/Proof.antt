@@ -1,24 +1,12 @@
-use borrow.Author.Tests.{lt-ltb, le-ltb, le-leb, lt-leb, eq-eqb, ne-eqb}
-use Prim.Native.Nat.{ℕ, zero, suc, _≤_, _<_, _-_, _+_, _*_, _^_}
+use Prim.Native.Nat.{ℕ, _-_, _+_}
 use native.Mathlib.Omega.{arith}
-use native.Mathlib.Numerals.{add-one}
-use mathlib.Core.Path.{_≡_, refl, ap, sym, _∙_}
-use mathlib.Core.Logic.{⊎-elim}
-use mathlib.Core.List.{List, [], _∷_, _++_, append-nil}
-use lib.ListN.{length, take, drop, getD, set, length-set, length-take, length-drop, length-append, drop-of-length-le}
+use mathlib.Core.Path.{_≡_, ap, _∙_}
+use lib.ListN.{take}
 use borrow.Author.Needs.{needs}
 use Rattle.spec.specs.Bytes.{be4}
 use Rattle.answer.specs.RespondingLaws.{framed-says, asks-from}
 use Rattle.answer.proofs.ask.Statement.{statement}
 use Rattle.answer.proofs.ask.Tie as tie
-use Rattle.answer.proofs.ask.Reads as reads
-use Rattle.answer.proofs.ask.Lts as lts
-use Rattle.au.proofs.merge_plain.Reads as merge-plain-reads
-use Rattle.answer.proofs.narrow2.Reads as narrow2-reads
-use Rattle.answer.proofs.narrow4.Reads as narrow4-reads
-use Rattle.answer.proofs.size.Reads as size-reads
-use Rattle.image.proofs.be2.Reads as be2-reads
-use Rattle.image.proofs.be4.Reads as be4-reads
 
 -- src/program.rt:97:18
 be4-requires : tie.Need-be4-requires

@@ -1,19 +1,8 @@
-use borrow.Author.Tests.{lt-ltb, le-ltb, le-leb, lt-leb, eq-eqb, ne-eqb}
-use Prim.Native.Nat.{ℕ, zero, suc, _≤_, _<_, _-_, _+_, _*_, _^_}
 use native.Mathlib.Omega.{arith}
-use native.Mathlib.Numerals.{add-one}
-use mathlib.Core.Path.{_≡_, refl, ap, sym, _∙_}
-use mathlib.Core.Logic.{⊎-elim}
-use mathlib.Core.List.{List, [], _∷_, _++_, append-nil}
-use lib.ListN.{length, take, drop, getD, set, length-set, length-take, length-drop, length-append, drop-of-length-le}
 use borrow.Author.Needs.{needs}
 use Rattle.answer.specs.RespondingLaws.{too-long, too-short, by-length}
 use Rattle.answer.proofs.is_framed.Statement.{statement}
 use Rattle.answer.proofs.is_framed.Tie as tie
-use Rattle.answer.proofs.is_framed.Reads as reads
-use Rattle.answer.proofs.is_framed.Lts as lts
-use Rattle.answer.proofs.long.Reads as long-reads
-use Rattle.image.proofs.be4.Reads as be4-reads
 
 -- src/program.rt:52:9
 returns : tie.Need-returns

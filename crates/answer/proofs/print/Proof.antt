@@ -1,11 +1,4 @@
-use borrow.Author.Tests.{lt-ltb, le-ltb, le-leb, lt-leb, eq-eqb, ne-eqb}
-use Prim.Native.Nat.{ℕ, zero, suc, _≤_, _<_, _-_, _+_, _*_, _^_}
-use native.Mathlib.Omega.{arith}
-use native.Mathlib.Numerals.{add-one}
-use mathlib.Core.Path.{_≡_, refl, ap, sym, _∙_}
-use mathlib.Core.Logic.{⊎-elim}
-use mathlib.Core.List.{List, [], _∷_, _++_, append-nil}
-use lib.ListN.{length, take, drop, getD, set, length-set, length-take, length-drop, length-append, drop-of-length-le}
+use mathlib.Core.Path.{ap, sym, _∙_}
 use borrow.Author.Needs.{needs}
 use mathlib.Core.Path.{subst}
 use Rattle.spec.specs.Bytes.{refused}
@@ -15,10 +8,6 @@ use Rattle.answer.specs.Responding.{Prints}
 use Rattle.answer.specs.RespondingLaws.{prints-listing, prints-refusal}
 use Rattle.answer.proofs.print.Statement.{statement}
 use Rattle.answer.proofs.print.Tie as tie
-use Rattle.answer.proofs.print.Reads as reads
-use Rattle.answer.proofs.print.Lts as lts
-use Rattle.answer.proofs.number.Reads as number-reads
-use Rattle.answer.proofs.refusal.Reads as refusal-reads
 
 -- src/program.rt:75:25
 enum-known-a : tie.Need-enum-known-a

@@ -1,20 +1,9 @@
-use borrow.Author.Tests.{lt-ltb, le-ltb, le-leb, lt-leb, eq-eqb, ne-eqb}
-use Prim.Native.Nat.{ℕ, zero, suc, _≤_, _<_, _-_, _+_, _*_, _^_}
-use native.Mathlib.Omega.{arith}
-use native.Mathlib.Numerals.{add-one}
-use mathlib.Core.Path.{_≡_, refl, ap, sym, _∙_}
-use mathlib.Core.Logic.{⊎-elim}
-use mathlib.Core.List.{List, [], _∷_, _++_, append-nil}
-use lib.ListN.{length, take, drop, getD, set, length-set, length-take, length-drop, length-append, drop-of-length-le}
+use lib.ListN.{length}
 use borrow.Author.Needs.{needs}
 use Rattle.spec.specs.Bytes as X
 use Rattle.answer.specs.RespondingLaws.{room-label, room-end, wrote-line}
 use Rattle.answer.proofs.refusal.Statement.{statement}
 use Rattle.answer.proofs.refusal.Tie as tie
-use Rattle.answer.proofs.refusal.Reads as reads
-use Rattle.answer.proofs.refusal.Lts as lts
-use Rattle.listing.proofs.labelled.Reads as labelled-reads
-use Rattle.listing.proofs.text.Reads as text-reads
 
 -- src/program.rt:65:39
 slice-aggregate-labelled : tie.Need-slice-aggregate-labelled

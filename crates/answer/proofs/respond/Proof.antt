@@ -1,21 +1,9 @@
-use borrow.Author.Tests.{lt-ltb, le-ltb, le-leb, lt-leb, eq-eqb, ne-eqb}
-use Prim.Native.Nat.{ℕ, zero, suc, _≤_, _<_, _-_, _+_, _*_, _^_}
 use native.Mathlib.Omega.{arith}
-use native.Mathlib.Numerals.{add-one}
-use mathlib.Core.Path.{_≡_, refl, ap, sym, _∙_}
-use mathlib.Core.Logic.{⊎-elim}
-use mathlib.Core.List.{List, [], _∷_, _++_, append-nil}
-use lib.ListN.{length, take, drop, getD, set, length-set, length-take, length-drop, length-append, drop-of-length-le}
+use mathlib.Core.Path.{sym, _∙_}
 use borrow.Author.Needs.{needs}
 use Rattle.answer.specs.RespondingLaws.{responds, cleared-asked, not-framed, not-asked}
 use Rattle.answer.proofs.respond.Statement.{statement}
 use Rattle.answer.proofs.respond.Tie as tie
-use Rattle.answer.proofs.respond.Reads as reads
-use Rattle.answer.proofs.respond.Lts as lts
-use Rattle.answer.proofs.ask.Reads as ask-reads
-use Rattle.answer.proofs.is_framed.Reads as is-framed-reads
-use Rattle.answer.proofs.print.Reads as print-reads
-use Rattle.answer.proofs.refusal.Reads as refusal-reads
 
 -- src/program.rt:118:8
 is-framed-requires : tie.Need-is-framed-requires

@@ -1,18 +1,13 @@
 use borrow.Author.Needs.{needs}
-use borrow.Author.Tests.{lt-ltb, le-ltb, le-leb, lt-leb, eq-eqb, ne-eqb}
-use Prim.Native.Nat.{ℕ, zero, suc, _≤_, _<_, _-_, _+_, _*_, _^_}
+use Prim.Native.Nat.{_≤_, _-_}
 use native.Mathlib.Omega.{arith}
-use native.Mathlib.Numerals.{add-one}
-use mathlib.Core.Path.{_≡_, refl, ap, sym, _∙_}
-use mathlib.Core.Logic.{⊎-elim}
-use mathlib.Core.List.{List, [], _∷_, _++_, append-nil}
+use mathlib.Core.Path.{_≡_, refl, _∙_}
+use mathlib.Core.List.{_++_, append-nil}
 use borrow.Author.Fill.{fill-more}
 use lib.Seq.{drop-length}
-use lib.ListN.{replicate, length, take, drop, getD, set, length-set, length-take, length-drop, length-append, drop-of-length-le}
+use lib.ListN.{replicate, length, drop, length-set}
 use Rattle.au.proofs.clear2.Statement.{statement}
 use Rattle.au.proofs.clear2.Tie as tie
-use Rattle.au.proofs.clear2.Reads as reads
-use Rattle.au.proofs.clear2.Lts as lts
 
 abbrev Inv-loop : tie.InvT-loop
 Inv-loop s₀ i₀ s i = (i ≤ length s₀) × (length s ≡ length s₀) × (s ≡ replicate i 0 ++ drop i s₀)

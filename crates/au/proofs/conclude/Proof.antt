@@ -1,22 +1,10 @@
-use borrow.Author.Tests.{lt-ltb, le-ltb, le-leb, lt-leb, eq-eqb, ne-eqb}
-use Prim.Native.Nat.{ℕ, zero, suc, _≤_, _<_, _-_, _+_, _*_, _^_}
-use native.Mathlib.Omega.{arith}
-use native.Mathlib.Numerals.{add-one}
-use mathlib.Core.Path.{_≡_, refl, ap, sym, _∙_, subst}
-use mathlib.Core.Logic.{⊎-elim}
-use mathlib.Core.List.{List, [], _∷_, _++_, append-nil}
-use lib.ListN.{length, take, drop, getD, set, length-set, length-take, length-drop, length-append, drop-of-length-le}
+use mathlib.Core.Path.{subst}
 use borrow.Author.Needs.{needs}
 use Rattle.au.specs.declared.Prepared.{Prepared}
 use Rattle.au.specs.Prepared.{Prepares}
 use Rattle.au.specs.PreparedLaws.{merges-stop}
 use Rattle.au.proofs.conclude.Statement.{statement}
 use Rattle.au.proofs.conclude.Tie as tie
-use Rattle.au.proofs.conclude.Reads as reads
-use Rattle.au.proofs.conclude.Lts as lts
-use Rattle.au.proofs.clear_all.Reads as clear-all-reads
-use Rattle.au.proofs.finish.Reads as finish-reads
-use Rattle.au.proofs.wide.Reads as wide-reads
 
 -- src/lib.rt:252:24
 enum-known-p : tie.Need-enum-known-p

@@ -1,19 +1,7 @@
-use borrow.Author.Tests.{lt-ltb, le-ltb, le-leb, lt-leb, eq-eqb, ne-eqb}
-use Prim.Native.Nat.{ℕ, zero, suc, _≤_, _<_, _-_, _+_, _*_, _^_}
-use native.Mathlib.Omega.{arith}
-use native.Mathlib.Numerals.{add-one}
-use mathlib.Core.Path.{_≡_, refl, ap, sym, _∙_}
-use mathlib.Core.Logic.{⊎-elim}
-use mathlib.Core.List.{List, [], _∷_, _++_, append-nil}
-use lib.ListN.{length, take, drop, getD, set, length-set, length-take, length-drop, length-append, drop-of-length-le}
 use borrow.Author.Needs.{needs}
 use Rattle.au.specs.PreparedLaws.{is-valid, merges-finish, cleared-finish}
 use Rattle.au.proofs.finish.Statement.{statement}
 use Rattle.au.proofs.finish.Tie as tie
-use Rattle.au.proofs.finish.Reads as reads
-use Rattle.au.proofs.finish.Lts as lts
-use Rattle.au.proofs.in_room.Reads as in-room-reads
-use Rattle.exact_fixed.proofs.finish.Reads as finish-reads
 
 -- src/lib.rt:229:9
 finish-requires : tie.Need-finish-requires

@@ -1,20 +1,10 @@
-use borrow.Author.Tests.{lt-ltb, le-ltb, le-leb, lt-leb, eq-eqb, ne-eqb}
-use Prim.Native.Nat.{ℕ, zero, suc, _≤_, _<_, _-_, _+_, _*_, _^_}
-use native.Mathlib.Omega.{arith}
-use native.Mathlib.Numerals.{add-one}
-use mathlib.Core.Path.{_≡_, refl, ap, sym, _∙_}
-use mathlib.Core.Logic.{⊎-elim}
-use mathlib.Core.List.{List, [], _∷_, _++_, append-nil}
-use lib.ListN.{length, take, drop, getD, set, length-set, length-take, length-drop, length-append, drop-of-length-le}
+use mathlib.Core.Path.{ap, sym, _∙_}
 use borrow.Author.Needs.{needs}
 use Rattle.exact_fixed.specs.declared.Answer as E
 use Rattle.au.specs.declared.Answer.the-variants.{Listing}
 use Rattle.au.specs.Prepared.{engineAnswer}
 use Rattle.au.proofs.in_room.Statement.{statement}
 use Rattle.au.proofs.in_room.Tie as tie
-use Rattle.au.proofs.in_room.Reads as reads
-use Rattle.au.proofs.in_room.Lts as lts
-use Rattle.au.proofs.least.Reads as least-reads
 
 -- src/lib.rt:205:38
 enum-known-a : tie.Need-enum-known-a

@@ -1,28 +1,23 @@
 -- `au::merge_plain` meets its contract: a walk of its MIR, by hand: the pair table is an array in a local, lent to `merge` for a lifetime of the call; all else is given away.
 -- Assumes nothing.
-use Rattle.pair_table.proofs.Walk.{_≡_, refl, sym, _∙_, ap, subst, ℕ, _<_, _^_, _≤_, Bool, true, false, List, [], _∷_, length, T, lit<, URA, fullShare, named, erased, imm, mut, w16, w64, Ty, tyInt, tyBool, tyRef, Val, vint, vbool, vunit}
-use Rattle.pair_table.proofs.Walk.{SProp, ent, sep, emp, fst∗, id⊢, via, Lft, GName, Share, Fml, ftrue, fsep, fat, froom, fdies, flft, Memory, Routine, Heap, Calls, Loops, Env, WpFn, Tables, Atoms, sem, Fun, fact, givenOf, tables, tablesOf}
-use Rattle.pair_table.proofs.Walk.{Given, Item, ‵, raw, some, later, _⊛_, ⋆, atRet, runs, Sq, _$_, _∵_, !, qed, by, move, keep, drop, use0, use1, use2, use3, split, join, group, pick, await, rewrite, fsplit, fjoin, feqL, suffices, frame, done}
-use Rattle.pair_table.proofs.Walk.{whole, sub, look-in, agg, look, init, forget, stop, hop, fld, from, load, lit, of-opd, addr, and-then, no-more, assigns, land, first, branches, skips, returns, returns-within, exec, enter, alloc1, alloc0, params1, pass1, pass0, WpFn-mono, FmC, fmOf}
-use Rattle.pair_table.proofs.Walk.{RattleType, owns, Is, shows, pointee, uint-vals, uint-tells, uint-makes, uint-lawful, bool-lawful, u16, usize, bool, RefT, now, sliceTy, MutSlice, ShrSlice, Room, finally, slice-vals, mut-slice-tells, shr-slice-tells, shr-slice-copy, plain, only, nothing, owned, facts, peeks, heard}
-use Rattle.pair_table.proofs.Walk.{Contract, Triple, calls-at, ensured, lasts, Vals, onEntry, Meets, tripleOf, entered, cited, says, Stays, gave-slice, stay-none, walkOf, Walks, ends-at, walked, goes-gave-slice, goes-none, walk-meets, yes}
-use mir.Syntax.{w8, w32, tyUnit}
-use mathlib.Core.Bool.{not}
-use Prim.Native.Nat.{_-_}
+use Rattle.pair_table.proofs.Walk.{_≡_, refl, subst, ℕ, _<_, _^_, List, [], _∷_, length, lit<, URA, fullShare, named, w16, Val, vint}
+use Rattle.pair_table.proofs.Walk.{SProp, ent, emp, fst∗, id⊢, via, GName, Fml, ftrue, fsep, froom, flft, Memory, Routine, Heap, Calls, Loops, WpFn, Tables, Atoms, Fun, fact, givenOf, tables, tablesOf}
+use Rattle.pair_table.proofs.Walk.{Given, ‵, raw, some, later, _⊛_, ⋆, _$_, _∵_, !, qed, by, move, keep, drop, use0, use1, use2, use3, split, join, group, pick, await, fsplit, fjoin, feqL, suffices, frame, done}
+use Rattle.pair_table.proofs.Walk.{whole, sub, look-in, agg, look, init, forget, stop, hop, fld, from, load, lit, of-opd, addr, and-then, no-more, assigns, land, returns, enter, alloc1, alloc0, params1, pass1, pass0, WpFn-mono, FmC, fmOf}
+use Rattle.pair_table.proofs.Walk.{RattleType, Is, shows, uint-vals, uint-tells, uint-makes, u16, RefT, now, MutSlice, ShrSlice, Room, finally, slice-vals, mut-slice-tells, shr-slice-tells, plain, nothing, owned, peeks, heard}
+use Rattle.pair_table.proofs.Walk.{Contract, Triple, calls-at, ensured, lasts, Vals, onEntry, Meets, tripleOf, entered, cited, says, Stays, gave-slice, walkOf, Walks, ends-at, walked, goes-gave-slice, walk-meets, yes}
+use mir.Syntax.{w32}
 use types.Kit as Kit
-use denote.Builtin.{u8, u32, u64, unit}
-use denote.Plain.{nothing-lawful}
+use denote.Builtin.{u8, u32, u64}
 use denote.Signature.{shrSliceOf}
 use denote.Triple.Walked.{stay-dropped, goes-dropped}
 use denote.Enum.Laws as NL
 use Rattle.pair_table.specs.declared.Pair.{Pair}
 use Rattle.pair_table.specs.Table.{none}
-use Rattle.spec.specs.Bytes.{workAfter}
 use Rattle.pair_table.proofs.Pair as P
 use Rattle.au.specs.declared.Answer.{Answer}
-use Rattle.au.specs.declared.Answer.the-variants.{Refused}
 use Rattle.au.specs.Merges.{fitOf, fits, Merges, Cleared, Table}
-use Rattle.au.proofs.Slices.{Param, val, has, tok, lent, shown, kept, kept-shown, lends, backs, shows-as, backs-shown, ends}
+use Rattle.au.proofs.Slices.{Param, val, has, tok, kept}
 use Rattle.au.proofs.Answer as N
 use Rattle.au.proofs.Answer.Laws as N′
 use mir.Syntax.{tyArray}

@@ -1,17 +1,8 @@
-use borrow.Author.Tests.{lt-ltb, le-ltb, le-leb, lt-leb, eq-eqb, ne-eqb}
-use Prim.Native.Nat.{ℕ, zero, suc, _≤_, _<_, _-_, _+_, _*_, _^_}
-use native.Mathlib.Omega.{arith}
-use native.Mathlib.Numerals.{add-one}
-use mathlib.Core.Path.{_≡_, refl, ap, sym, _∙_}
-use mathlib.Core.Logic.{⊎-elim}
-use mathlib.Core.List.{List, [], _∷_, _++_, append-nil}
-use lib.ListN.{length, take, drop, getD, set, length-set, length-take, length-drop, length-append, drop-of-length-le}
+use mathlib.Core.Path.{ap, sym, _∙_}
 use borrow.Author.Needs.{needs}
 use Rattle.au.specs.Prepared.{pairsBegun, pairsOf}
 use Rattle.au.proofs.pairs_of.Statement.{statement}
 use Rattle.au.proofs.pairs_of.Tie as tie
-use Rattle.au.proofs.pairs_of.Reads as reads
-use Rattle.au.proofs.pairs_of.Lts as lts
 
 -- src/lib.rt:70:24
 enum-known-p : tie.Need-enum-known-p

@@ -1,22 +1,10 @@
-use borrow.Author.Tests.{lt-ltb, le-ltb, le-leb, lt-leb, eq-eqb, ne-eqb}
-use Prim.Native.Nat.{ℕ, zero, suc, _≤_, _<_, _-_, _+_, _*_, _^_}
-use native.Mathlib.Omega.{arith}
-use native.Mathlib.Numerals.{add-one}
-use mathlib.Core.Path.{_≡_, refl, ap, sym, _∙_, subst}
-use mathlib.Core.Logic.{⊎-elim}
-use mathlib.Core.List.{List, [], _∷_, _++_, append-nil}
-use lib.ListN.{length, take, drop, getD, set, length-set, length-take, length-drop, length-append, drop-of-length-le}
+use mathlib.Core.Path.{ap, sym, _∙_, subst}
 use borrow.Author.Needs.{needs}
 use Rattle.judge.specs.declared.Verdict.{Verdict}
 use Rattle.judge.specs.Verdict.{resultOf, Carries}
 use Rattle.au.specs.PreparedLaws.{stop-refused, stop-doubled}
 use Rattle.au.proofs.prepare.Statement.{statement}
 use Rattle.au.proofs.prepare.Tie as tie
-use Rattle.au.proofs.prepare.Reads as reads
-use Rattle.au.proofs.prepare.Lts as lts
-use Rattle.au.proofs.start.Reads as start-reads
-use Rattle.au.proofs.wide.Reads as wide-reads
-use Rattle.judge.proofs.judge.Reads as judge-reads
 
 -- src/lib.rt:143:9
 judge-requires : tie.Need-judge-requires

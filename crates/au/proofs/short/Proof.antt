@@ -2,9 +2,8 @@ use borrow.Author.Tests.{le-leb, lt-leb, ltb-true, ltb-false}
 use native.Mathlib.Omega.{arith}
 use mathlib.Core.Path.{_≡_, refl}
 use mathlib.Core.Bool.{Bool, true, false, not}
-use Prim.Native.Nat.{ℕ, _≤_, _<_}
+use Prim.Native.Nat.{ℕ}
 use lib.Dec.{leb, ltb}
-use Rattle.au.specs.Merges.{fitOf}
 use Rattle.au.proofs.short.Statement.{statement}
 use Rattle.au.proofs.short.Tie as tie
 

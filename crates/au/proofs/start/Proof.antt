@@ -1,18 +1,8 @@
-use borrow.Author.Tests.{lt-ltb, le-ltb, le-leb, lt-leb, eq-eqb, ne-eqb}
-use Prim.Native.Nat.{ℕ, zero, suc, _≤_, _<_, _-_, _+_, _*_, _^_}
 use native.Mathlib.Omega.{arith}
-use native.Mathlib.Numerals.{add-one}
-use mathlib.Core.Path.{_≡_, refl, ap, sym, _∙_}
-use mathlib.Core.Logic.{⊎-elim}
-use mathlib.Core.List.{List, [], _∷_, _++_, append-nil}
-use lib.ListN.{length, take, drop, getD, set, length-set, length-take, length-drop, length-append, drop-of-length-le}
 use borrow.Author.Needs.{needs}
 use Rattle.au.specs.PreparedLaws.{is-valid, stop-left, stop-right, begins-ready}
 use Rattle.au.proofs.start.Statement.{statement}
 use Rattle.au.proofs.start.Tie as tie
-use Rattle.au.proofs.start.Reads as reads
-use Rattle.au.proofs.start.Lts as lts
-use Rattle.exact_fixed.proofs.begin.Reads as begin-reads
 
 -- src/lib.rt:119:9
 returns : tie.Need-returns

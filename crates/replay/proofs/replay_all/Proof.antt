@@ -1,20 +1,11 @@
 use borrow.Author.Needs.{needs}
-use borrow.Author.Tests.{lt-ltb, le-ltb, le-leb, lt-leb, eq-eqb, ne-eqb}
-use Prim.Native.Nat.{ℕ, zero, suc, _≤_, _<_, _-_, _+_, _*_, _^_}
+use Prim.Native.Nat.{_≤_, _+_}
 use native.Mathlib.Omega.{arith}
-use native.Mathlib.Numerals.{add-one}
-use mathlib.Core.Path.{_≡_, refl, ap, sym, _∙_}
-use mathlib.Core.Logic.{⊎-elim}
-use mathlib.Core.List.{List, [], _∷_, _++_, append-nil}
-use lib.ListN.{length, take, drop, getD, set, length-set, length-take, length-drop, length-append, drop-of-length-le}
+use mathlib.Core.Path.{_≡_}
+use lib.ListN.{length}
 use Rattle.answer.specs.Responding.{rooms-kept}
 use Rattle.replay.proofs.replay_all.Statement.{statement}
 use Rattle.replay.proofs.replay_all.Tie as tie
-use Rattle.replay.proofs.replay_all.Reads as reads
-use Rattle.replay.proofs.replay_all.Lts as lts
-use Rattle.replay.proofs.judge_next.Reads as judge-next-reads
-use Rattle.replay.proofs.say.Reads as say-reads
-use Rattle.replay.proofs.tallied.Reads as tallied-reads
 
 abbrev Inv-loop : tie.InvT-loop
 Inv-loop input₀ expected₀ lefts₀ rights₀ index₀ pairs₀ terms₀ runs₀ out₀ t₀ input expected lefts rights index pairs terms runs out t =
