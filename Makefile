@@ -1,5 +1,5 @@
-# make test: the gate. make run: image E through program `merge`. make bindings: C and Rust over the static library. make bench: against the listed Rust. make layers: docs/LAYERS.md.
-.PHONY: test run oracle fmt bindings bench layers
+# make test: the gate. make run: image E through program `merge`. make bindings: C and Rust over the static library. make bench: against the listed Rust. make fuzz: a million random and damaged inputs. make layers: docs/LAYERS.md.
+.PHONY: test run oracle fmt bindings bench fuzz layers
 SHELL := /bin/bash
 
 # Everything that the gate runs; the last line printed is rt ci's `N passed, 0 failed`.
@@ -33,4 +33,9 @@ bindings:
 # The listed Rust and the static library on the same queries, in one process.
 bench:
 	rt staticlib tariff
-	cd bindings && cargo run --release --offline --quiet -p bench
+	cd bindings && cargo run --release --offline --quiet -p bench --bin bench
+
+# A million random and damaged inputs for the static library, each answer and buffer held to the promises and to the model.
+fuzz:
+	rt staticlib tariff
+	cd bindings && cargo run --release --offline --quiet -p bench --bin fuzz 1 1000000

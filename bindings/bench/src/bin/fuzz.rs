@@ -1,0 +1,201 @@
+// SPDX-License-Identifier: Apache-2.0
+//! Random and mutated inputs for the static library: `fuzz SEED COUNT`.
+//!
+//! Each call gets an image that is random bytes, a drawn frame, or a drawn frame with bytes changed, cut off or added,
+//! with a small budget. All buffers hold garbage before the call, and now and then one is too short. Afterwards: the number
+//! is in the table; the output is untouched on a refusal, and untouched behind the listing otherwise; every work buffer is
+//! zero, or as it was where one was too short; and the answer is the model's.
+
+use std::collections::BTreeMap;
+
+use harness::draw;
+use harness::rng::Rng;
+use model::slip::Slip;
+use tariff_merge::raw;
+
+const OUTPUT: usize = 2_048;
+const GARBAGE: u8 = 0xa5;
+
+struct Buffers {
+    lefts: Vec<u16>,
+    rights: Vec<u16>,
+    index: Vec<u16>,
+    pairs: Vec<u32>,
+    terms: Vec<u32>,
+    runs: Vec<u64>,
+    out: Vec<u8>,
+}
+
+impl Buffers {
+    fn new() -> Buffers {
+        Buffers {
+            lefts: vec![0; raw::LEFTS + 3],
+            rights: vec![0; raw::RIGHTS + 3],
+            index: vec![0; raw::INDEX + 3],
+            pairs: vec![0; raw::PAIRS + 3],
+            terms: vec![0; raw::TERMS + 3],
+            runs: vec![0; raw::RUNS + 3],
+            out: vec![0; OUTPUT],
+        }
+    }
+
+    fn fill(&mut self) {
+        self.lefts.fill(0xa5a5);
+        self.rights.fill(0xa5a5);
+        self.index.fill(0xa5a5);
+        self.pairs.fill(0xa5a5_a5a5);
+        self.terms.fill(0xa5a5_a5a5);
+        self.runs.fill(0xa5a5_a5a5_a5a5_a5a5);
+        self.out.fill(GARBAGE);
+    }
+
+    /// Whether every number of the work buffers is zero, or garbage as before the call.
+    fn all(&self, garbage: bool) -> bool {
+        let (two, four, eight) = if garbage {
+            (0xa5a5, 0xa5a5_a5a5, 0xa5a5_a5a5_a5a5_a5a5)
+        } else {
+            (0, 0, 0)
+        };
+        self.lefts.iter().all(|x| *x == two)
+            && self.rights.iter().all(|x| *x == two)
+            && self.index.iter().all(|x| *x == two)
+            && self.pairs.iter().all(|x| *x == four)
+            && self.terms.iter().all(|x| *x == four)
+            && self.runs.iter().all(|x| *x == eight)
+    }
+
+    /// One call; `short`: the terms' buffer is one number too short.
+    fn call(&mut self, image: &[u8], query: [u8; 8], short: bool) -> raw::Returned {
+        let [a, b, c, d, e, f, g, h] = query;
+        let terms = if short {
+            raw::TERMS - 1
+        } else {
+            self.terms.len()
+        };
+        // SAFETY: each pointer and length is a vector's own, `terms` not above its length; no two overlap;
+        // `main` runs this on a thread with 64 MiB of stack.
+        unsafe {
+            raw::tariff_merge(
+                image.as_ptr(),
+                image.len(),
+                u16::from_be_bytes([a, b]),
+                u16::from_be_bytes([c, d]),
+                u32::from_be_bytes([e, f, g, h]),
+                self.lefts.as_mut_ptr(),
+                self.lefts.len(),
+                self.rights.as_mut_ptr(),
+                self.rights.len(),
+                self.index.as_mut_ptr(),
+                self.index.len(),
+                self.pairs.as_mut_ptr(),
+                self.pairs.len(),
+                self.terms.as_mut_ptr(),
+                terms,
+                self.runs.as_mut_ptr(),
+                self.runs.len(),
+                self.out.as_mut_ptr(),
+                self.out.len(),
+            )
+        }
+    }
+}
+
+/// An image, and a query of eight bytes.
+fn input(rng: &mut Rng, drawn: &[Vec<u8>]) -> (Vec<u8>, [u8; 8]) {
+    let mut query = [0; 8];
+    let mut image: Vec<u8>;
+    if rng.below(8) == 0 {
+        image = (0..rng.below(80)).map(|_| rng.below(256) as u8).collect();
+        query.fill_with(|| rng.below(4) as u8);
+    } else {
+        let frame = &drawn[rng.below(drawn.len())];
+        let (front, last) = frame.split_last_chunk::<8>().expect("a query");
+        image = front.to_vec();
+        query = *last;
+    }
+    for _ in 0..rng.below(4) {
+        let at = rng.below(image.len() + 1);
+        match rng.below(6) {
+            0 if at < image.len() => image[at] ^= 1 << rng.below(8),
+            1 if at < image.len() => image[at] = rng.below(256) as u8,
+            2 if at < image.len() => image[at] = image[at].wrapping_add(1),
+            3 => image.truncate(at),
+            4 => image.insert(at, rng.below(256) as u8),
+            _ => query[rng.below(4)] = rng.below(16) as u8,
+        }
+    }
+    if rng.below(2) == 0 {
+        query[4..8].copy_from_slice(&(rng.below(200) as u32).to_be_bytes());
+    }
+    (image, query)
+}
+
+/// What the table of refusals says for this image and query, and the listing where there is one.
+fn expected(image: &[u8], query: [u8; 8]) -> (u32, Vec<u8>) {
+    let mut frame = image.to_vec();
+    frame.extend_from_slice(&query);
+    let answer = model::answer(&frame, Slip::None);
+    match answer.strip_prefix("refused ") {
+        Some(number) => (number.trim().parse().expect("a number"), Vec::new()),
+        None if answer.len() > OUTPUT => (14, Vec::new()),
+        None => (0, answer.into_bytes()),
+    }
+}
+
+fn fuzz(seed: u64, count: u64) -> BTreeMap<u32, u64> {
+    let mut rng = Rng::new(seed);
+    let mut drawn = draw(seed, 4_000, None);
+    drawn.retain(|frame| (8..700).contains(&frame.len()));
+    let mut buffers = Buffers::new();
+    let mut met = BTreeMap::new();
+    for turn in 0..count {
+        let (image, query) = input(&mut rng, &drawn);
+        let short = rng.below(500) == 0;
+        buffers.fill();
+        let r = buffers.call(&image, query, short);
+        let (number, listing) = if short {
+            (1, Vec::new())
+        } else {
+            expected(&image, query)
+        };
+        let right = r.number == number
+            && r.bytes == listing.len()
+            && buffers.out[..r.bytes] == listing[..]
+            && buffers.out[r.bytes..].iter().all(|x| *x == GARBAGE)
+            && buffers.all(short);
+        assert!(
+            right,
+            "turn {turn} of seed {seed}: {r:?}, expected {number}; image {image:02x?} query {query:02x?}"
+        );
+        *met.entry(r.number).or_insert(0) += 1;
+    }
+    met
+}
+
+fn main() {
+    let words: Vec<u64> = std::env::args()
+        .skip(1)
+        .map(|w| w.parse().expect("a number"))
+        .collect();
+    let [seed, count] = words[..] else {
+        eprintln!("fuzz SEED COUNT");
+        std::process::exit(2);
+    };
+    let met = std::thread::Builder::new()
+        .stack_size(64 << 20)
+        .spawn(move || fuzz(seed, count))
+        .expect("a thread")
+        .join()
+        .expect("no difference");
+    for (number, times) in met {
+        println!(
+            "{times:>9}  {}",
+            if number == 0 {
+                "listing".to_string()
+            } else {
+                format!("refused {number}")
+            }
+        );
+    }
+    println!("{count} calls, each as promised");
+}
