@@ -36,6 +36,7 @@ pub mod OrderSort
 pub mod OrderPools
 pub mod OrderListing
 pub mod TurnAgree
+pub mod TurnAgain
 pub mod TurnBounds
 pub mod TurnPlaces
 pub mod TurnsFrom
