@@ -118,7 +118,7 @@ pub fn families() -> Vec<Family> {
         family("quote page: the examples' tariffs", tariffs()),
         family("drawn, family mixed", draw(7, 300, Some("mixed"))),
         family("drawn, all families", draw(7, 300, None)),
-        family("transport of 65 × 60", vec![transport(60)]),
+        family("transport of 65 × 63", vec![transport(63)]),
         family("graph of 4,096 pairs", vec![frame(full, 127, 128)]),
         family("terms: 30 × 30 chains", vec![frame(chains, n - 2, n - 1)]),
         family("rounds: cycles of 31 and 32", vec![cycles(31, 32)]),
