@@ -20,17 +20,17 @@ use Rattle.lgg.specs.Standing.{Standing, standing-next, listing-cut}
 use Rattle.terms.specs.Buffers.{poolOf}
 use Rattle.terms.specs.PoolLaws.{pool-length}
 use Rattle.terms.specs.Chains.{Holds}
-use Rattle.exact_fixed.specs.Arrays.{NEW, qualitiesIn, termsIn, stateIn}
-use Rattle.exact_fixed.specs.ArrayLaws.{twos-at}
+use Rattle.rounds.specs.Arrays.{NEW, qualitiesIn, termsIn, stateIn}
+use Rattle.rounds.specs.ArrayLaws.{twos-at}
 use Rattle.terms.specs.PartLaws.{part-at}
-use Rattle.exact_fixed.specs.Graphs.{Reads}
+use Rattle.rounds.specs.Graphs.{Reads}
 use Rattle.budget.specs.declared.Budget.{Budget}
-use Rattle.exact_fixed.specs.Turning.{Turning, Relaxes, relaxes-full, relaxes-cut, relaxes-finished, turns-done, turns-changed, turns-qualities}
-use Rattle.exact_fixed.specs.Answers.{RanTo}
-use Rattle.exact_fixed.specs.declared.Outcome.{Outcome}
-use Rattle.exact_fixed.specs.declared.Ran.the-variants as R
-use Rattle.exact_fixed.specs.declared.Round.{Round}
-use Rattle.exact_fixed.specs.declared.Round.the-variants as U
+use Rattle.rounds.specs.Turning.{Turning, Relaxes, relaxes-full, relaxes-cut, relaxes-finished, turns-done, turns-changed, turns-qualities}
+use Rattle.rounds.specs.Outcomes.{RanTo}
+use Rattle.rounds.specs.declared.Outcome.{Outcome}
+use Rattle.rounds.specs.declared.Ran.the-variants as R
+use Rattle.rounds.specs.declared.Round.{Round}
+use Rattle.rounds.specs.declared.Round.the-variants as U
 
 -- the outcome that the arrays report
 abbrev pub reportedIn : List ℕ → Bool → ℕ → ℕ → Outcome

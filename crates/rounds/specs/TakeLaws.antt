@@ -17,8 +17,8 @@ use Rattle.terms.specs.Interning.{poolAfter}
 use Rattle.turns.specs.Taking.{takenOf, Takes}
 use Rattle.turns.specs.declared.Turned.{Turned}
 use Rattle.turns.specs.declared.Taken.the-variants as K
-use Rattle.exact_fixed.specs.Arrays.{NEW, given}
-use Rattle.exact_fixed.specs.Turning.{Moved, turnIn, termMade}
+use Rattle.rounds.specs.Arrays.{NEW, given}
+use Rattle.rounds.specs.Turning.{Moved, turnIn, termMade}
 
 -- the pairs' terms stand in the pool
 abbrev pub TermsHeld : ℕ → List ℕ → List ℕ → Type 0

@@ -2,13 +2,13 @@ use borrow.Author.Needs.{needs}
 use Prim.Native.Nat.{_≤_, _-_}
 use native.Mathlib.Omega.{arith}
 use mathlib.Core.Path.{_≡_, refl}
-use Rattle.exact_fixed.specs.Settling.{Settled, settled-none, settled-more}
+use Rattle.rounds.specs.Settling.{Settled, settled-none, settled-more}
 use lib.ListN.{length}
-use Rattle.exact_fixed.proofs.settle.Statement.{statement}
-use Rattle.exact_fixed.proofs.settle.Tie as tie
-use Rattle.exact_fixed.proofs.settle.Reads as reads
-use Rattle.exact_fixed.proofs.settle.Lts as lts
-use Rattle.exact_fixed.proofs.give.Reads as give-reads
+use Rattle.rounds.proofs.settle.Statement.{statement}
+use Rattle.rounds.proofs.settle.Tie as tie
+use Rattle.rounds.proofs.settle.Reads as reads
+use Rattle.rounds.proofs.settle.Lts as lts
+use Rattle.rounds.proofs.give.Reads as give-reads
 
 abbrev Inv-loop : tie.InvT-loop
 Inv-loop pairs₀ n k₀ pairs k = (k ≤ n) × (n ≤ 4096) × (length pairs ≡ length pairs₀) × (24576 ≤ length pairs₀) × Settled pairs₀ pairs k

@@ -1,11 +1,11 @@
 use mathlib.Core.Path.{refl}
-use Rattle.exact_fixed.specs.Arrays.{given}
+use Rattle.rounds.specs.Arrays.{given}
 use borrow.Author.Needs.{needs}
-use Rattle.exact_fixed.proofs.give.Statement.{statement}
-use Rattle.exact_fixed.proofs.give.Tie as tie
-use Rattle.exact_fixed.proofs.give.Reads as reads
-use Rattle.exact_fixed.proofs.give.Lts as lts
-use Rattle.exact_fixed.proofs.put4.Reads as put4-reads
+use Rattle.rounds.proofs.give.Statement.{statement}
+use Rattle.rounds.proofs.give.Tie as tie
+use Rattle.rounds.proofs.give.Reads as reads
+use Rattle.rounds.proofs.give.Lts as lts
+use Rattle.rounds.proofs.put4.Reads as put4-reads
 
 -- src/lib.rt:63:5
 put4-requires : tie.Need-put4-requires

@@ -20,14 +20,14 @@ use Rattle.lgg.specs.Standing.{Midway, midway-begin, turn-midway, Standing}
 use Rattle.quality.specs.Known.{qualityIn, termIn}
 use Rattle.terms.specs.Buffers.{poolOf, part}
 use Rattle.terms.specs.Chains.{Holds}
-use Rattle.exact_fixed.specs.Arrays.{twos, NEW, qualitiesIn, termsIn, given}
-use Rattle.exact_fixed.specs.ArrayLaws.{given-length, qualities-more, terms-more, old-kept}
-use Rattle.exact_fixed.specs.Graphs.{Graphs, Reads, turn-here, choice-here}
+use Rattle.rounds.specs.Arrays.{twos, NEW, qualitiesIn, termsIn, given}
+use Rattle.rounds.specs.ArrayLaws.{given-length, qualities-more, terms-more, old-kept}
+use Rattle.rounds.specs.Graphs.{Graphs, Reads, turn-here, choice-here}
 use Rattle.budget.specs.declared.Budget.{Budget}
-use Rattle.exact_fixed.specs.declared.Step.{Step}
-use Rattle.exact_fixed.specs.declared.Step.the-variants as P
-use Rattle.exact_fixed.specs.declared.Round.{Round}
-use Rattle.exact_fixed.specs.declared.Round.the-variants as R
+use Rattle.rounds.specs.declared.Step.{Step}
+use Rattle.rounds.specs.declared.Step.the-variants as P
+use Rattle.rounds.specs.declared.Round.{Round}
+use Rattle.rounds.specs.declared.Round.the-variants as R
 
 -- ---- one turn
 -- the turn w of pair k, whose term is m: its new numbers, and whether it changes

@@ -2,11 +2,11 @@ use Prim.Native.Nat.{ℕ}
 use mathlib.Core.Path.{ap}
 use lib.ListN.{getD}
 use borrow.Author.Needs.{needs}
-use Rattle.exact_fixed.proofs.reported.Statement.{statement}
-use Rattle.exact_fixed.proofs.reported.Tie as tie
-use Rattle.exact_fixed.proofs.reported.Reads as reads
-use Rattle.exact_fixed.proofs.reported.Lts as lts
-use Rattle.exact_fixed.proofs.num.Reads as num-reads
+use Rattle.rounds.proofs.reported.Statement.{statement}
+use Rattle.rounds.proofs.reported.Tie as tie
+use Rattle.rounds.proofs.reported.Reads as reads
+use Rattle.rounds.proofs.reported.Lts as lts
+use Rattle.rounds.proofs.num.Reads as num-reads
 
 -- src/lib.rt:247:15
 shared-slice-read-t6 : tie.Need-shared-slice-read-t6

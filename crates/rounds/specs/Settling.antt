@@ -8,8 +8,8 @@ use lib.ListN.{length, getD}
 use Rattle.spec.specs.Bytes.{Two}
 use Rattle.terms.specs.Buffers.{part}
 use Rattle.terms.specs.PartLaws.{part-snoc}
-use Rattle.exact_fixed.specs.Arrays.{twos, NEW, qualitiesIn, termsIn, given}
-use Rattle.exact_fixed.specs.ArrayLaws.{twos-snoc, given-other, qualities-more, terms-more}
+use Rattle.rounds.specs.Arrays.{twos, NEW, qualitiesIn, termsIn, given}
+use Rattle.rounds.specs.ArrayLaws.{twos-snoc, given-other, qualities-more, terms-more}
 
 -- the first k pairs have their new numbers
 pub record Settled (pairs₀ pairs : List ℕ) (k : ℕ) : Type 0 where

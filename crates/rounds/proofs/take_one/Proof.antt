@@ -1,13 +1,13 @@
 use Rattle.spec.specs.Image.{tablesOf}
-use Rattle.exact_fixed.specs.TakeLaws.{take-full, take-small, take-moves}
+use Rattle.rounds.specs.TakeLaws.{take-full, take-small, take-moves}
 use native.Mathlib.Omega.{arith}
 use borrow.Author.Needs.{needs}
-use Rattle.exact_fixed.proofs.take_one.Statement.{statement}
-use Rattle.exact_fixed.proofs.take_one.Tie as tie
-use Rattle.exact_fixed.proofs.take_one.Reads as reads
-use Rattle.exact_fixed.proofs.take_one.Lts as lts
-use Rattle.exact_fixed.proofs.give.Reads as give-reads
-use Rattle.exact_fixed.proofs.short.Reads as short-reads
+use Rattle.rounds.proofs.take_one.Statement.{statement}
+use Rattle.rounds.proofs.take_one.Tie as tie
+use Rattle.rounds.proofs.take_one.Reads as reads
+use Rattle.rounds.proofs.take_one.Lts as lts
+use Rattle.rounds.proofs.give.Reads as give-reads
+use Rattle.rounds.proofs.short.Reads as short-reads
 use Rattle.turns.proofs.take_turn.Reads as take-turn-reads
 
 -- src/lib.rt:354:9
@@ -33,7 +33,7 @@ same-length-3 c = search needs
 -- src/lib.rt:372:13
 returns : tie.Need-returns
 returns c =
-    let at-start = c .before .before .before .before .before .before .before .before .before .before .before .before .before .before .before .before .before .before .before .before in
+    let at-start = c .before .before .before .before .before .before .before .before .before .before .before .before .before .before .before .before .before .before .before .before .before in
     let at-take-turn = c .before .before .before .before .before .before .take-turn in
     let a = at-start .args in
     take-full (tablesOf (a .s .now)) (a .index .now) (a .pairs .now) (a .l, a .r) (a .terms .now) (a .runs .now) _ _ (rw (c .enum-told .given .1) at (at-take-turn .ensures .0))
@@ -50,14 +50,14 @@ add-give c = search needs
 short-requires : tie.Need-short-requires
 short-requires c κs =
     let at-take-turn = c .before .before .before .before .before .before .before .before .take-turn in
-    let b = c .before .before .before .before .before .before .before .before .before .before .before .before .before .before .before .before .before .before .before .before .before .before in
+    let b = c .before .before .before .before .before .before .before .before .before .before .before .before .before .before .before .before .before .before .before .before .before .before .before in
     let a = b .args in
-    take-small (tablesOf (a .s .now)) (a .index .now) (a .pairs .now) (a .l, a .r) (a .terms .now) (a .runs .now) _ _ _ (rw (c .before .before .w .given .1) at (at-take-turn .ensures .0)) (a .n) (b .pre .5) (b .pre .7) (b .pre .6)
+    take-small (tablesOf (a .s .now)) (a .index .now) (a .pairs .now) (a .l, a .r) (a .terms .now) (a .runs .now) _ _ _ (rw (c .before .before .w .given .1) at (at-take-turn .ensures .0)) (a .n) (b .pre .5) (b .pre .8) (b .pre .7)
 
 -- src/lib.rt:376:13
 give-requires : tie.Need-give-requires
 give-requires c κs =
-    let b = c .before .before .before .before .before .before .before .before .before .before .before .before .before .before .before .before .before .before .before .before .before .before .before in
+    let b = c .before .before .before .before .before .before .before .before .before .before .before .before .before .before .before .before .before .before .before .before .before .before .before .before in
     omega (arith, b .pre .4, b .pre .5 .long)
 
 -- src/lib.rt:377:13
@@ -78,7 +78,7 @@ returns-2 c =
     let at-w = c .before .before .before .before .before .before .w in
     let at-take-turn = c .before .before .before .before .before .before .before .before .before .before .before .before .take-turn in
     let at-short = c .before .before .before .short in
-    let b = c .before .before .before .before .before .before .before .before .before .before .before .before .before .before .before .before .before .before .before .before .before .before .before .before .before .before in
+    let b = c .before .before .before .before .before .before .before .before .before .before .before .before .before .before .before .before .before .before .before .before .before .before .before .before .before .before .before in
     let a = b .args in
     take-moves (tablesOf (a .s .now)) (a .index .now) (a .pairs .now) (a .l, a .r) (a .terms .now) (a .runs .now) _ _ _ (rw (at-w .given .1) at (at-take-turn .ensures .0)) (a .k) (at-short .result) _ (at-short .ensures) (c .before .before .give .ensures)
 

@@ -9,7 +9,7 @@ use lib.ListN.{length, getD, set, length-set}
 use lib.Seq.{getD-set-same, getD-set-other}
 use Rattle.spec.specs.Bytes.{Two}
 use Rattle.terms.specs.PartLaws.{part-cong, part-snoc}
-use Rattle.exact_fixed.specs.Arrays.{twos, qualitiesIn, termsIn, given}
+use Rattle.rounds.specs.Arrays.{twos, qualitiesIn, termsIn, given}
 
 -- ---- pairs of numbers
 pub twos-length : (a b : List ℕ) (i j n : ℕ) → length (twos a b i j n) ≡ n

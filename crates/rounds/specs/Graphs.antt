@@ -21,8 +21,8 @@ use Rattle.quality.specs.Known.{numberIn, qualityIn, termIn, Known}
 use Rattle.terms.specs.Buffers.{countIn, poolOf}
 use Rattle.terms.specs.PoolLaws.{pool-length}
 use Rattle.terms.specs.PartLaws.{part-at}
-use Rattle.exact_fixed.specs.Arrays.{pairsIn, qualitiesIn, termsIn}
-use Rattle.exact_fixed.specs.ArrayLaws.{twos-length, twos-at}
+use Rattle.rounds.specs.Arrays.{pairsIn, qualitiesIn, termsIn}
+use Rattle.rounds.specs.ArrayLaws.{twos-length, twos-at}
 
 -- every pair is one of classes of the image
 abbrev pub InRange : Tables → List Two → Type 0
