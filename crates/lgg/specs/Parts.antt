@@ -9,7 +9,7 @@ use lib.Dec.{eqb}
 use lib.ListN.{length, getD}
 use borrow.Author.Tests.{ne-eqb}
 use Rattle.spec.specs.Bytes.{pick, both, any, each, Two}
-use Rattle.spec.specs.Image.{Tables, Operation, Member, arities, SPair, NO-IDENTITY, kindOf, identityOf, membersOf, childrenOf}
+use Rattle.spec.specs.Image.{Tables, Operation, Member, arities, SPair, NO-IDENTITY, kindOf, membersOf, childrenOf}
 use Rattle.spec.specs.Monomial.{classes}
 use Rattle.spec.specs.Action.{joins}
 use Rattle.spec.specs.Round.{stay, turnOf}
