@@ -1,6 +1,6 @@
 -- The search as the loop makes it, and what it finds. Assumes nothing.
 use mathlib.Core.Path.{_≡_, refl, ap, _∙_}
-use mathlib.Core.Bool.{Bool, true, false, _||_}
+use mathlib.Core.Bool.{Bool, true, false}
 use mathlib.Core.List.{List, _∷_, map}
 use Prim.Native.Nat.{ℕ, zero, suc, _+_, _-_, _≤_, min}
 use native.Mathlib.Nat.{min-le-right}
@@ -28,18 +28,10 @@ abbrev pub anyFrom : List Pair → Two → ℕ → ℕ → Bool
 anyFrom s p zero i = false
 anyFrom s p (suc n) i = either (sameTwo p (twoOf (getD s i none))) (anyFrom s p n (suc i))
 
--- the records are looked at in their order
+-- the next record is looked at
 pub any-step : (s : List Pair) (p : Two) (n i : ℕ) (t : Bool) → either (either t (sameTwo p (twoOf (getD s i none)))) (anyFrom s p n (i + 1)) ≡ either t (anyFrom s p (suc n) i)
 any-step s p n i true = refl
 any-step s p n i false = ap (λ (j : ℕ). either (sameTwo p (twoOf (getD s i none))) (anyFrom s p n j)) (omega arith)
-
-pub or-is : (a b c : Bool) → b ≡ c → (a || b) ≡ either a c
-or-is true b c e = refl
-or-is false b c e = e
-
-pub any-end : (t : Bool) → either t false ≡ t
-any-end true = refl
-any-end false = refl
 
 -- records that do not hold the pair are passed over
 seek-past : (s : List Pair) (p : Two) (n m i : ℕ) → anyFrom s p n i ≡ false → seek s p (n + m) i ≡ seek s p m (i + n)

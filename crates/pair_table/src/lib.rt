@@ -35,13 +35,14 @@ fn code(left: u16, right: u16) -> u32
     left as u32 + right as u32 * 65536
 }
 
+// Both numbers by one comparison.
 fn is_pair(p: Pair, left: u16, right: u16) -> bool
     ensures { λ r. ⌜ r ≡ sameTwo (left, right) (twoOf p) ⌝ }
 {
     code(left, right) == code(p.left, p.right)
 }
 
-// Whether a pair was there before, or the record is it; with no branch.
+// Whether the pair was seen before, or this record is it; with no branch.
 fn or_pair(any: bool, p: Pair, left: u16, right: u16) -> bool
     ensures { λ r. ⌜ r ≡ either any (sameTwo (left, right) (twoOf p)) ⌝ }
 {

@@ -15,7 +15,8 @@ use denote.Triple.Walked.{needs}
 use denote.Struct.Laws as LL
 use Rattle.spec.specs.Bytes.{either, sameTwo}
 use Rattle.pair_table.specs.Table.{none, twoOf}
-use Rattle.pair_table.specs.Search.{anyFrom, any-step, any-end}
+use Rattle.pair_table.specs.Lists.{either-false}
+use Rattle.pair_table.specs.Search.{anyFrom, any-step}
 use Rattle.pair_table.specs.declared.Pair.{Pair}
 use Rattle.pair_table.proofs.Numbers.{offset-fits, lt-le, below-from, end-from, next-from, step-from}
 use Rattle.pair_table.proofs.Pair as P
@@ -146,7 +147,7 @@ module _ {M : Type 1} (𝓤 : URA M) (H : Heap 𝓤) (A : Atoms 𝓤) (W : Given
         returns ! (look ! 25 refl) $ forget ! 0 refl $ forget ! 1 refl $ forget ! 11 refl $ forget ! 15 refl $ forget ! 17 refl $ forget ! 19 refl $ forget ! 21 refl $ forget ! 23 refl $ forget ! 25 refl $
         move ! (25 ∷ 26 ∷ []) $ free1 ! $ move ! (23 ∷ 24 ∷ []) $ free1 ! $ move ! (21 ∷ 22 ∷ []) $ free1 ! $ move ! (19 ∷ 20 ∷ []) $ free1 ! $ move ! (17 ∷ 18 ∷ []) $ free1 ! $ move ! (15 ∷ 16 ∷ []) $ free1 ! $ move ! (1 ∷ 14 ∷ []) $ free1 ! $ move ! (0 ∷ 12 ∷ []) $ free1 ! $
         move ! (9 ∷ 10 ∷ []) $ free1 ! $ move ! (7 ∷ 8 ∷ []) $ free1 ! $ move ! (5 ∷ 6 ∷ []) $ free1 ! $ move ! (3 ∷ 4 ∷ []) $ free1 ! $ free0 ! $
-        by ! (exits v (sym (any-end v) ∙ f .1))
+        by ! (exits v (sym (either-false v) ∙ f .1))
     turn (suc m) i v f =
         assigns ! (bin ! (load ! (from ! (stop !)) (look ! 0 refl)) (load ! (from ! (stop !)) (look ! 19 refl)) tt) (from ! (stop !)) (init ! 11 refl (tt, tt)) $
         rewrite ! 11 (λ (t : Bool). ‵ (fat fullShare tyBool l₈ 0 (vbool t))) (lt-ltb i end (below-from end i m (f .0))) refl $
