@@ -13,10 +13,11 @@ use Rattle.spec.specs.Listing.{listingOf}
 use Rattle.spec.specs.Merge.{outputAfter}
 use Rattle.listing.specs.Lists as L
 use Rattle.listing.specs.declared.Written.the-variants as W
-use Rattle.exact_fixed.specs.Answers.{outcomeIn, ranOf, Listable, RanTo, listedOf, answerOf, Answers}
-use Rattle.exact_fixed.specs.declared.Outcome.{Outcome}
-use Rattle.exact_fixed.specs.declared.Ran.{Ran}
-use Rattle.exact_fixed.specs.declared.Ran.the-variants as R
+use Rattle.rounds.specs.Outcomes.{outcomeIn, RanTo}
+use Rattle.exact_fixed.specs.Answers.{ranOf, Listable, listedOf, answerOf, Answers}
+use Rattle.rounds.specs.declared.Outcome.{Outcome}
+use Rattle.rounds.specs.declared.Ran.{Ran}
+use Rattle.rounds.specs.declared.Ran.the-variants as R
 use Rattle.exact_fixed.specs.declared.Answer.{Answer}
 use Rattle.exact_fixed.specs.declared.Answer.the-variants as A
 

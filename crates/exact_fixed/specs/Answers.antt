@@ -1,4 +1,4 @@
--- What a run leaves and what is answered: a listing at the output's front, or a refusal.
+-- What is answered of a run: a listing at the output's front, or a refusal.
 use mathlib.Core.Path.{_≡_}
 use mathlib.Core.List.{List}
 use Prim.Native.Nat.{ℕ, _<_}
@@ -8,17 +8,13 @@ use Rattle.spec.specs.Bytes.{Res, ok, refused, _>>=_, rule}
 use Rattle.spec.specs.Run as run
 use Rattle.spec.specs.Listing.{listingOf}
 use Rattle.spec.specs.Merge.{outputAfter}
-use Rattle.terms.specs.Buffers.{poolOf, countIn}
+use Rattle.terms.specs.Buffers.{countIn}
 use Rattle.terms.specs.Chains.{Holds}
-use Rattle.exact_fixed.specs.declared.Outcome.{Outcome}
-use Rattle.exact_fixed.specs.declared.Ran.{Ran}
-use Rattle.exact_fixed.specs.declared.Ran.the-variants as R
+use Rattle.rounds.specs.Outcomes.{outcomeIn}
+use Rattle.rounds.specs.declared.Ran.{Ran}
+use Rattle.rounds.specs.declared.Ran.the-variants as R
 use Rattle.exact_fixed.specs.declared.Answer.{Answer}
 use Rattle.exact_fixed.specs.declared.Answer.the-variants as A
-
--- the outcome of a run whose pool the buffers hold
-abbrev pub outcomeIn : Outcome → List ℕ → List ℕ → run.Outcome
-outcomeIn o terms runs = record { complete = o .complete; pairs = o .pairs; rounds = o .rounds; quality = (o .size, o .mass); pool = poolOf terms runs; root = o .root }
 
 -- what is answered of a run: an outcome whose pool the buffers hold, or a refusal
 abbrev pub ranOf : Ran → List ℕ → List ℕ → Res run.Outcome
@@ -28,11 +24,6 @@ ranOf (R.Done o) terms runs = ok (outcomeIn o terms runs)
 abbrev pub Listable : Ran → List ℕ → List ℕ → Type 0
 Listable (R.Stopped k) terms runs = Unit
 Listable (R.Done o) terms runs = Holds terms runs × (o .root < countIn terms)
-
--- The buffers hold the outcome of a run that came to m; a pool that is larger gives the same listing.
-abbrev pub RanTo : Res run.Outcome → List ℕ → List ℕ → Ran → Type 0
-RanTo m terms runs (R.Stopped k) = m ≡ refused k
-RanTo m terms runs (R.Done o) = (u : run.Outcome) × (m ≡ ok u) × (listingOf u ≡ listingOf (outcomeIn o terms runs)) × Holds terms runs × (o .root < countIn terms)
 
 -- "14: the listing exceeds the output buffer": the tail of `mergeOf`
 unfoldable pub listedOf : Res run.Outcome → ℕ → Res (List ℕ)

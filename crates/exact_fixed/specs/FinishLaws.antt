@@ -21,18 +21,19 @@ use Rattle.terms.specs.Buffers.{poolOf, countIn}
 use Rattle.terms.specs.PoolLaws.{pool-length}
 use Rattle.terms.specs.Chains.{Holds}
 use Rattle.graph.specs.Building.{leftsAfter, rightsAfter, indexAfter, numbered, over}
-use Rattle.exact_fixed.specs.Arrays.{pairsIn}
-use Rattle.exact_fixed.specs.Graphs.{Graphs}
+use Rattle.rounds.specs.Arrays.{pairsIn}
+use Rattle.rounds.specs.Graphs.{Graphs}
 use Rattle.exact_fixed.specs.GraphLaws.{pairs-laid, graphs-built}
 use Rattle.exact_fixed.specs.RunLaws.{startedIn, ran-started}
-use Rattle.exact_fixed.specs.Answers.{RanTo, Answers}
+use Rattle.rounds.specs.Outcomes.{RanTo}
+use Rattle.exact_fixed.specs.Answers.{Answers}
 use Rattle.exact_fixed.specs.Beginning.{begunOf, Ready, Finishes}
 use Rattle.exact_fixed.specs.declared.Answer.{Answer}
-use Rattle.exact_fixed.specs.declared.Ran.{Ran}
-use Rattle.exact_fixed.specs.declared.Ran.the-variants as R
+use Rattle.rounds.specs.declared.Ran.{Ran}
+use Rattle.rounds.specs.declared.Ran.the-variants as R
 use Rattle.exact_fixed.specs.declared.Begun.{Begun}
 use Rattle.exact_fixed.specs.declared.Begun.the-variants as N
-use Rattle.exact_fixed.specs.declared.Outcome.{Outcome}
+use Rattle.rounds.specs.declared.Outcome.{Outcome}
 
 graphs-as : (t : Tables) (ps qs : List Two) (m n : ℕ) (ix : List ℕ) → ps ≡ qs → m ≡ n → Graphs t ps m ix → Graphs t qs n ix
 graphs-as t ps qs m n ix e f G = rw (← e, ← f) G

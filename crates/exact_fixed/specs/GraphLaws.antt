@@ -13,9 +13,9 @@ use Rattle.lgg.specs.BestMembers.{IsPair}
 use Rattle.lgg.specs.Graph.{build-closed}
 use Rattle.graph.specs.Built.{left-at, right-at, built-some, built-few, built-below, built-within, built-number}
 use Rattle.graph.specs.Building.{numbered, over, code}
-use Rattle.exact_fixed.specs.Arrays.{pairsIn}
-use Rattle.exact_fixed.specs.ArrayLaws.{twos-length, twos-at}
-use Rattle.exact_fixed.specs.Graphs.{Graphs}
+use Rattle.rounds.specs.Arrays.{pairsIn}
+use Rattle.rounds.specs.ArrayLaws.{twos-length, twos-at}
+use Rattle.rounds.specs.Graphs.{Graphs}
 
 -- the arrays of classes hold the pairs
 pub pairs-laid : (ps : List Two) (ls rs : List ℕ) → pairsIn (over (map (λ p. p .0) ps) ls) (over (map (λ p. p .1) ps) rs) (length ps) ≡ ps

@@ -1,15 +1,7 @@
-pub mod Arrays
-pub mod ArrayLaws
-pub mod Settling
 pub mod StartSizes
-pub mod Spending
-pub mod Graphs
 pub mod Starting
-pub mod Turning
-pub mod TakeLaws
 pub mod Answers
 pub mod AnswerLaws
-pub mod Running
 pub mod RunLaws
 pub mod Beginning
 pub mod GraphLaws

@@ -19,16 +19,16 @@ use Rattle.lgg.specs.Standing.{Standing, startState, standing-started, listing-
 use Rattle.terms.specs.Buffers.{poolOf}
 use Rattle.terms.specs.PoolLaws.{pool-length}
 use Rattle.terms.specs.Chains.{Holds}
-use Rattle.exact_fixed.specs.Arrays.{termsIn, stateIn}
-use Rattle.exact_fixed.specs.Graphs.{InRange}
+use Rattle.rounds.specs.Arrays.{termsIn, stateIn}
+use Rattle.rounds.specs.Graphs.{InRange}
 use Rattle.exact_fixed.specs.Starting.{Starting, StartsAll, start-done, start-qualities}
 use Rattle.budget.specs.declared.Budget.{Budget}
 use Rattle.exact_fixed.specs.declared.Started.{Started}
 use Rattle.exact_fixed.specs.declared.Started.the-variants as S
-use Rattle.exact_fixed.specs.Answers.{RanTo}
-use Rattle.exact_fixed.specs.declared.Outcome.{Outcome}
-use Rattle.exact_fixed.specs.declared.Ran.{Ran}
-use Rattle.exact_fixed.specs.declared.Ran.the-variants as R
+use Rattle.rounds.specs.Outcomes.{RanTo}
+use Rattle.rounds.specs.declared.Outcome.{Outcome}
+use Rattle.rounds.specs.declared.Ran.{Ran}
+use Rattle.rounds.specs.declared.Ran.the-variants as R
 
 -- what is reported of a run that is cut short before its rounds
 abbrev pub startedIn : Tables → Two → ℕ → ℕ → Outcome

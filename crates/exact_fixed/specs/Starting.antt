@@ -25,9 +25,9 @@ use Rattle.terms.specs.PoolLaws.{pool-length}
 use Rattle.best_terms.specs.Building.{full-told, term-told}
 use Rattle.best_terms.specs.Starting.{Starts}
 use Rattle.terms.specs.declared.Entered.the-variants as E
-use Rattle.exact_fixed.specs.Arrays.{twos, qualitiesIn, termsIn, given}
-use Rattle.exact_fixed.specs.ArrayLaws.{qualities-more, terms-more}
-use Rattle.exact_fixed.specs.Graphs.{InRange}
+use Rattle.rounds.specs.Arrays.{twos, qualitiesIn, termsIn, given}
+use Rattle.rounds.specs.ArrayLaws.{qualities-more, terms-more}
+use Rattle.rounds.specs.Graphs.{InRange}
 use Rattle.exact_fixed.specs.declared.Started.{Started}
 use Rattle.exact_fixed.specs.declared.Started.the-variants as S
 

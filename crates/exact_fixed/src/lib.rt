@@ -1,70 +1,36 @@
-// A run: the root's starting term, building, starting terms, rounds, with one budget of checks through all of it; and its listing (`run`, `run_in` of exact_fixed.rs).
+// A run: the root's starting term, building, starting terms, then its rounds, with one budget of checks through all of it; and its listing (`run`, `run_in` of exact_fixed.rs).
 use budget::Budget;
 use graph::Built;
 use image::Image;
 use listing::Report;
 use listing::Written;
+use rounds::Outcome;
+use rounds::Ran;
 use terms::Entered;
-use turns::Taken;
 ghost use mathlib.Core.Path.{_≡_};
-ghost use Prim.Native.Nat.{_+_, _≤_, _<_};
-ghost use lib.ListN.{length, getD, set, replicate};
+ghost use Prim.Native.Nat.{_≤_, _<_};
+ghost use lib.ListN.{length, replicate};
 ghost use Rattle.spec.specs.Image.{tablesOf};
 ghost use Rattle.spec.specs.Round.{startingQuality};
 ghost use Rattle.laws.specs.Valid.{Valid};
 ghost use Rattle.image.specs.Loaded.{Loaded};
 ghost use Rattle.spec.specs.Bytes.{ok, passed};
-ghost use Rattle.spec.specs.Bytes as bytes;
 ghost use Rattle.spec.specs.Pool.{interned};
 ghost use Rattle.spec.specs.Run.{startingTerms, afterBuilding, runOf};
-ghost use Rattle.lgg.specs.RoundsFrom.{roundAt, roundsOf};
-ghost use Rattle.lgg.specs.Standing.{Standing};
-ghost use Rattle.quality.specs.Known.{Known};
 ghost use Rattle.terms.specs.Buffers.{countIn, poolOf};
 ghost use Rattle.terms.specs.Chains.{Holds};
 ghost use Rattle.best_terms.specs.Bests.{Kept};
-ghost use Rattle.exact_fixed.specs.Arrays.{NEW, pairsIn, qualitiesIn, termsIn, given, stateIn};
-ghost use Rattle.exact_fixed.specs.Graphs.{InRange, Graphs};
+ghost use Rattle.rounds.specs.Arrays.{pairsIn};
+ghost use Rattle.rounds.specs.Graphs.{InRange, Graphs};
+ghost use Rattle.rounds.specs.Outcomes.{outcomeIn, RanTo};
 ghost use Rattle.exact_fixed.specs.Starting.{BeginsOne, StartsAll};
-ghost use Rattle.exact_fixed.specs.TakeLaws.{TermsHeld};
-ghost use Rattle.exact_fixed.specs.Turning.{turnIn, termMade, Steps, Relaxes};
 ghost use Rattle.exact_fixed.specs.RunLaws.{startedIn};
-ghost use Rattle.exact_fixed.specs.Running.{reportedIn};
-ghost use Rattle.exact_fixed.specs.Answers.{outcomeIn, ranOf, Listable, RanTo, Answers};
+ghost use Rattle.exact_fixed.specs.Answers.{ranOf, Listable, Answers};
 ghost use Rattle.exact_fixed.specs.Beginning.{Begins, Ready, Finishes};
-
-// what a run reports; root is its term's number
-struct Outcome {
-    complete: bool,
-    pairs: usize,
-    rounds: u32,
-    size: u32,
-    mass: u32,
-    root: usize,
-}
-
-// an outcome, or a refusal
-enum Ran {
-    Done(Outcome),
-    Stopped(u8),
-}
 
 // starting terms of all pairs, with the budget left; cut short; refusal 13
 enum Started {
     All(Budget),
-    Cut,
-    Full,
-}
-
-// a pair's turn: whether it changed; or refusal 13
-enum Step {
-    To(bool),
-    Full,
-}
-
-// a round: whether a pair changed, with the budget left; cut short; refusal 13
-enum Round {
-    Finished(bool, Budget),
     Cut,
     Full,
 }
@@ -82,62 +48,11 @@ pub enum Answer {
     Refused(u8),
 }
 
-fn put4(s: &mut [u32], at: usize, v: u32)
-    requires { ⌜ at < length (now s) ⌝ }
-    ensures { λ _. ⌜ now (s .exit) ≡ set (now (s .entry)) at v ⌝ }
-{
-    s[at] = v;
-}
-
 fn narrow(x: u64) -> u32
     requires { ⌜ x < 4294967296 ⌝ }
     ensures { λ r. ⌜ r ≡ x ⌝ }
 {
     x as u32
-}
-
-fn num2(x: u16) -> usize
-    ensures { λ r. ⌜ (r ≡ x) × (r < 65536) ⌝ }
-{
-    x as usize
-}
-
-fn num(x: u32) -> usize
-    ensures { λ r. ⌜ (r ≡ x) × (r < 4294967296) ⌝ }
-{
-    x as usize
-}
-
-fn short(x: usize) -> u32
-    requires { ⌜ x < 4294967296 ⌝ }
-    ensures { λ r. ⌜ r ≡ x ⌝ }
-{
-    x as u32
-}
-
-// one pair's size, mass and term
-fn give(pairs: &mut [u32], at: usize, size: u32, mass: u32, term: u32)
-    requires { ⌜ 8192 + at < length (now pairs) ⌝ }
-    ensures { λ _. ⌜ now (pairs .exit) ≡ given (now (pairs .entry)) at size mass term ⌝ }
-{
-    put4(pairs, at, size);
-    put4(pairs, 4096 + at, mass);
-    put4(pairs, 8192 + at, term);
-}
-
-// the round's qualities and terms become those of its pairs
-fn settle(pairs: &mut [u32], n: usize)
-    requires { ⌜ (n ≤ 4096) × (24576 ≤ length (now pairs)) ⌝ }
-    ensures { λ _. ⌜ (qualitiesIn (now (pairs .exit)) 0 n ≡ qualitiesIn (now (pairs .entry)) NEW n) × (termsIn (now (pairs .exit)) 0 n ≡ termsIn (now (pairs .entry)) NEW n) ⌝ }
-{
-    let mut k = 0;
-    while k < n {
-        let size = pairs[12288 + k];
-        let mass = pairs[16384 + k];
-        let term = pairs[20480 + k];
-        give(pairs, k, size, mass, term);
-        k += 1;
-    }
 }
 
 // ---- starting qualities
@@ -166,13 +81,6 @@ fn start_mass(s: &[u8], im: Image, l: usize, r: usize) -> u32
 }
 
 // ---- starting terms
-fn class_at(a: &[u16], k: usize) -> usize
-    requires { ⌜ k < length (now a) ⌝ }
-    ensures { λ r. ⌜ (r ≡ getD (now (a .entry)) k 0) × (r < 65536) ⌝ }
-{
-    num2(a[k])
-}
-
 // pair k's starting term and quality; false where the term is refused
 fn start_one(
     s: &[u8],
@@ -196,7 +104,7 @@ fn start_one(
         Entered::Term(t) => {
             let size = start_size(s, im, l, r);
             let mass = start_mass(s, im, l, r);
-            give(pairs, k, size, mass, short(t));
+            rounds::give(pairs, k, size, mass, rounds::short(t));
             return true;
         }
     }
@@ -226,8 +134,8 @@ fn start_all(
         if !sp.passed {
             return Started::Cut;
         }
-        let l = class_at(lefts, k);
-        let r = class_at(rights, k);
+        let l = rounds::class_at(lefts, k);
+        let r = rounds::class_at(rights, k);
         if !start_one(s, im, l, r, k, pairs, terms, runs, &mut best) {
             return Started::Full;
         }
@@ -237,20 +145,6 @@ fn start_all(
 }
 
 // ---- the outcome
-fn reported(pairs: &[u32], complete: bool, n: usize, rounds: u32) -> Outcome
-    requires { ⌜ 24576 ≤ length (now pairs) ⌝ }
-    ensures { λ o. ⌜ o ≡ reportedIn (now (pairs .entry)) complete n rounds ⌝ }
-{
-    Outcome {
-        complete: complete,
-        pairs: n,
-        rounds: rounds,
-        size: pairs[0],
-        mass: pairs[4096],
-        root: num(pairs[8192]),
-    }
-}
-
 // the listing of an outcome whose pool the buffers hold
 fn list_outcome(
     o: Outcome,
@@ -277,192 +171,6 @@ fn list_outcome(
         }
         Written::Bytes(n) => {
             return Answer::Listing(n);
-        }
-    }
-}
-
-// ---- rounds
-fn either(a: bool, b: bool) -> bool
-    ensures { λ r. ⌜ r ≡ bytes.either a b ⌝ }
-{
-    if a {
-        return true;
-    }
-    b
-}
-
-// pair k's turn over the previous round: its new size, mass and term
-fn take_one(
-    s: &[u8],
-    im: Image,
-    index: &[u16],
-    n: usize,
-    l: usize,
-    r: usize,
-    k: usize,
-    sizes: &mut [u32; 4225],
-    masses: &mut [u32; 4225],
-    costs: &mut [u64; 12675],
-    flow: &mut [u64; 4225],
-    list: &mut [u64; 4225],
-    pairs: &mut [u32],
-    terms: &mut [u32],
-    runs: &mut [u64],
-) -> Step
-    requires { ⌜ Loaded (now s) im × Valid (tablesOf (now s)) × (l < im .classes) × (r < im .classes) × (k < 4096) × Known n (now index) (now pairs) × Holds (now terms) (now runs) × TermsHeld n (now pairs) (now terms) ⌝ }
-    ensures { λ x. ⌜ Steps (turnIn (tablesOf (now (s .entry))) (now (index .entry)) (now (pairs .entry)) (l, r)) (termMade (tablesOf (now (s .entry))) (now (index .entry)) (now (pairs .entry)) (poolOf (now (terms .entry)) (now (runs .entry))) (l, r)) k (now (pairs .entry)) (now (pairs .exit)) (now (terms .exit)) (now (runs .exit)) x ⌝ }
-{
-    let w = turns::take_turn(
-        s,
-        im,
-        index,
-        pairs,
-        n,
-        l,
-        r,
-        sizes,
-        masses,
-        costs,
-        flow,
-        list,
-        terms,
-        runs,
-    );
-    match w {
-        Taken::Full => {
-            return Step::Full;
-        }
-        Taken::To(x) => {
-            let term = x.term;
-            give(pairs, 12288 + k, x.size, x.mass, short(term));
-            return Step::To(x.changed);
-        }
-    }
-}
-
-// A round over the pairs: "one [check] a pair in it".
-fn relax_all(
-    s: &[u8],
-    im: Image,
-    lefts: &[u16],
-    rights: &[u16],
-    index: &[u16],
-    n: usize,
-    sizes: &mut [u32; 4225],
-    masses: &mut [u32; 4225],
-    costs: &mut [u64; 12675],
-    flow: &mut [u64; 4225],
-    list: &mut [u64; 4225],
-    pairs: &mut [u32],
-    terms: &mut [u32],
-    runs: &mut [u64],
-    b: Budget,
-) -> Round
-    requires { ⌜ Loaded (now s) im × Valid (tablesOf (now s)) × (n ≤ length (now lefts)) × (n ≤ length (now rights)) × Graphs (tablesOf (now s)) (pairsIn (now lefts) (now rights) n) n (now index) × (24576 ≤ length (now pairs)) × Holds (now terms) (now runs) × Standing (tablesOf (now s)) (pairsIn (now lefts) (now rights) n) (stateIn (now pairs) (now terms) (now runs) n 0 0) ⌝ }
-    ensures { λ x. ⌜ Relaxes (tablesOf (now (s .entry))) (pairsIn (now (lefts .entry)) (now (rights .entry)) n) (stateIn (now (pairs .entry)) (now (terms .entry)) (now (runs .entry)) n 0 0) (roundAt (tablesOf (now (s .entry))) (pairsIn (now (lefts .entry)) (now (rights .entry)) n) (stateIn (now (pairs .entry)) (now (terms .entry)) (now (runs .entry)) n 0 0) (b .left)) (now (pairs .exit)) (now (terms .exit)) (now (runs .exit)) x ⌝ }
-{
-    let mut changed = false;
-    let mut bud = b;
-    let mut k = 0;
-    while k < n {
-        let sp = bud.spend();
-        bud = sp.budget;
-        if !sp.passed {
-            return Round::Cut;
-        }
-        let l = class_at(lefts, k);
-        let r = class_at(rights, k);
-        let w = take_one(
-            s,
-            im,
-            index,
-            n,
-            l,
-            r,
-            k,
-            sizes,
-            masses,
-            costs,
-            flow,
-            list,
-            pairs,
-            terms,
-            runs,
-        );
-        match w {
-            Step::Full => {
-                return Round::Full;
-            }
-            Step::To(c) => {
-                changed = either(changed, c);
-                k += 1;
-            }
-        }
-    }
-    Round::Finished(changed, bud)
-}
-
-// "The run is complete at the first finished round without change." "The rounds reported are the finished ones that changed a quality."
-fn run_rounds(
-    s: &[u8],
-    im: Image,
-    lefts: &[u16],
-    rights: &[u16],
-    index: &[u16],
-    n: usize,
-    pairs: &mut [u32],
-    terms: &mut [u32],
-    runs: &mut [u64],
-    b: Budget,
-) -> Ran
-    requires { ⌜ Loaded (now s) im × Valid (tablesOf (now s)) × (n ≤ length (now lefts)) × (n ≤ length (now rights)) × Graphs (tablesOf (now s)) (pairsIn (now lefts) (now rights) n) n (now index) × (24576 ≤ length (now pairs)) × Holds (now terms) (now runs) × Standing (tablesOf (now s)) (pairsIn (now lefts) (now rights) n) (stateIn (now pairs) (now terms) (now runs) n 0 (b .left)) ⌝ }
-    ensures { λ x. ⌜ RanTo (roundsOf (tablesOf (now (s .entry))) (pairsIn (now (lefts .entry)) (now (rights .entry)) n) (stateIn (now (pairs .entry)) (now (terms .entry)) (now (runs .entry)) n 0 (b .left))) (now (terms .exit)) (now (runs .exit)) x ⌝ }
-{
-    let mut sizes = [0u32; 4225];
-    let mut masses = [0u32; 4225];
-    let mut costs = [0u64; 12675];
-    let mut flow = [0u64; 4225];
-    let mut list = [0u64; 4225];
-    let mut rounds = 0u32;
-    let mut bud = b;
-    loop {
-        let sp = bud.spend();
-        let rest = sp.budget;
-        if !sp.passed {
-            return Ran::Done(reported(pairs, false, n, rounds));
-        }
-        let x = relax_all(
-            s,
-            im,
-            lefts,
-            rights,
-            index,
-            n,
-            &mut sizes,
-            &mut masses,
-            &mut costs,
-            &mut flow,
-            &mut list,
-            pairs,
-            terms,
-            runs,
-            rest,
-        );
-        match x {
-            Round::Full => {
-                return Ran::Stopped(13);
-            }
-            Round::Cut => {
-                return Ran::Done(reported(pairs, false, n, rounds));
-            }
-            Round::Finished(changed, left) => {
-                if !changed {
-                    return Ran::Done(reported(pairs, true, n, rounds));
-                }
-                settle(pairs, n);
-                bud = left;
-                rounds += 1;
-            }
         }
     }
 }
@@ -511,7 +219,7 @@ fn run_built(
             return Ran::Done(report_started(s, im, l, r, n, root));
         }
         Started::All(c) => {
-            return run_rounds(s, im, lefts, rights, index, n, pairs, terms, runs, c);
+            return rounds::run_rounds(s, im, lefts, rights, index, n, pairs, terms, runs, c);
         }
     }
 }

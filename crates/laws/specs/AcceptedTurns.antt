@@ -90,7 +90,7 @@ unfolding sum
 sum-end f l i h = rw (drop-of-length-le l h) refl
 
 -- ---- the literals of the later classes stand in the later members
-any-append : {A : Type 0} (p : A → Bool) (a b : List A) → any p (a ++ b) ≡ either (any p a) (any p b)
+pub any-append : {A : Type 0} (p : A → Bool) (a b : List A) → any p (a ++ b) ≡ either (any p a) (any p b)
 unfolding any
 any-append p [] b = refl
 any-append p (x ∷ a) b = any-cons p x (a ++ b) ∙ ap (either (p x)) (any-append p a b) ∙ regroup (p x) (any p a) (any p b) ∙ ap (λ (c : Bool). either c (any p b)) (sym (any-cons p x a))

@@ -8,3 +8,5 @@ pub mod AcceptedLiterals
 pub mod Accepted
 pub mod AcceptedUses
 pub mod AcceptedTurns
+pub mod Scans
+pub mod Buffers

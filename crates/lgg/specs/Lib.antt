@@ -37,6 +37,7 @@ pub mod OrderPools
 pub mod OrderListing
 pub mod TurnAgree
 pub mod TurnAgain
+pub mod Parts
 pub mod TurnBounds
 pub mod TurnPlaces
 pub mod TurnsFrom

@@ -1,4 +1,4 @@
-use Rattle.exact_fixed.specs.Answers.{outcomeIn}
+use Rattle.rounds.specs.Outcomes.{outcomeIn}
 use Rattle.exact_fixed.specs.AnswerLaws.{answer-bytes, answer-full}
 use mathlib.Core.Path.{sym, _∙_}
 use borrow.Author.Needs.{needs}

@@ -1,7 +1,7 @@
 use Rattle.spec.specs.Image.{tablesOf}
 use Rattle.terms.specs.Buffers.{poolOf}
 use Rattle.terms.specs.PoolLaws.{pool-length}
-use Rattle.exact_fixed.specs.Arrays.{pairsIn}
+use Rattle.rounds.specs.Arrays.{pairsIn}
 use Rattle.exact_fixed.specs.RunLaws.{starts-full, starts-cut, starts-holds, starts-stands, starts-rounds}
 use native.Mathlib.Omega.{arith}
 use borrow.Author.Needs.{needs}
@@ -10,7 +10,7 @@ use Rattle.exact_fixed.proofs.run_built.Tie as tie
 use Rattle.exact_fixed.proofs.run_built.Reads as reads
 use Rattle.exact_fixed.proofs.run_built.Lts as lts
 use Rattle.exact_fixed.proofs.report_started.Reads as report-started-reads
-use Rattle.exact_fixed.proofs.run_rounds.Reads as run-rounds-reads
+use Rattle.rounds.proofs.run_rounds.Reads as run-rounds-reads
 use Rattle.exact_fixed.proofs.start_all.Reads as start-all-reads
 
 -- src/lib.rt:522:9

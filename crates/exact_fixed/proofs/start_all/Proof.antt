@@ -3,11 +3,11 @@ use Rattle.spec.specs.Run.{startingTerms}
 use Rattle.terms.specs.Buffers.{poolOf}
 use Rattle.best_terms.specs.Bests.{Kept}
 use Rattle.image.specs.Loaded.{classes-many}
-use Rattle.exact_fixed.specs.Arrays.{pairsIn}
-use Rattle.exact_fixed.specs.ArrayLaws.{twos-length}
-use Rattle.exact_fixed.specs.Graphs.{pair-at, pair-ranged}
+use Rattle.rounds.specs.Arrays.{pairsIn}
+use Rattle.rounds.specs.ArrayLaws.{twos-length}
+use Rattle.rounds.specs.Graphs.{pair-at, pair-ranged}
 use Rattle.exact_fixed.specs.Starting.{Starting, starting-none, start-cut, start-full, start-more, kept-none}
-use Rattle.exact_fixed.specs.Spending.{expired, spent, was-false, was-true}
+use Rattle.rounds.specs.Spending.{expired, spent, was-false, was-true}
 use borrow.Author.Needs.{needs}
 use Prim.Native.Nat.{_≤_, _-_}
 use native.Mathlib.Omega.{arith}
@@ -18,7 +18,7 @@ use Rattle.exact_fixed.proofs.start_all.Tie as tie
 use Rattle.exact_fixed.proofs.start_all.Reads as reads
 use Rattle.exact_fixed.proofs.start_all.Lts as lts
 use Rattle.budget.proofs.Budget.spend.Reads as spend-reads
-use Rattle.exact_fixed.proofs.class_at.Reads as class-at-reads
+use Rattle.rounds.proofs.class_at.Reads as class-at-reads
 use Rattle.exact_fixed.proofs.start_one.Reads as start-one-reads
 
 abbrev Inv-loop : tie.InvT-loop

@@ -8,8 +8,8 @@ use Rattle.exact_fixed.proofs.start_one.Tie as tie
 use Rattle.exact_fixed.proofs.start_one.Reads as reads
 use Rattle.exact_fixed.proofs.start_one.Lts as lts
 use Rattle.best_terms.proofs.evaluate_generalize_action.Reads as evaluate-generalize-action-reads
-use Rattle.exact_fixed.proofs.give.Reads as give-reads
-use Rattle.exact_fixed.proofs.short.Reads as short-reads
+use Rattle.rounds.proofs.give.Reads as give-reads
+use Rattle.rounds.proofs.short.Reads as short-reads
 use Rattle.exact_fixed.proofs.start_mass.Reads as start-mass-reads
 use Rattle.exact_fixed.proofs.start_size.Reads as start-size-reads
 

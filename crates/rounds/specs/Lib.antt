@@ -1,0 +1,9 @@
+pub mod Arrays
+pub mod ArrayLaws
+pub mod Settling
+pub mod Spending
+pub mod Graphs
+pub mod Turning
+pub mod TakeLaws
+pub mod Outcomes
+pub mod Running
