@@ -211,8 +211,8 @@ module _ (supply demand sizes masses ones costs flow : List ℕ) (r c : ℕ) whe
         sizesLong = rw (u, v) (length-take-le (r * c) sizes (omega arith));
         massesLong = rw (u, v) (length-take-le (r * c) masses (omega arith));
         allowedLong = rw (u, v) (length-take-le (r * c) ones (omega arith));
-        costsLong = g;
-        flowLong = h;
+        costsLong = rw (u, v) (omega (arith, g, k));
+        flowLong = rw (u, v) (omega (arith, h, k));
       })
 
   pub parts-solved : (costs′ flow′ : List ℕ) (z : Bool) → Solves (take (r - 0) supply) (take (c - 0) demand) (take (r * c - 0) sizes) (take (r * c - 0) masses) (take (r * c - 0) ones) costs flow costs′ flow′ z
