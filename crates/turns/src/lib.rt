@@ -40,10 +40,8 @@ use quality::How;
 use terms::Entered;
 use wide::Wide;
 
-// the largest numbers of rows and of columns, and of cells
+// the largest number of rows and of columns
 const SIDE: usize = 65;
-
-const CELLS: usize = 4225;
 
 fn num(x: u64) -> usize
     ensures { λ r. ⌜ r ≡ x ⌝ }
@@ -626,6 +624,7 @@ pub fn take_turn(
     n: usize,
     l: usize,
     r: usize,
+    ones: &[u8],
     sizes: &mut [u32; 4225],
     masses: &mut [u32; 4225],
     costs: &mut [u64; 12675],
@@ -634,13 +633,12 @@ pub fn take_turn(
     terms: &mut [u32],
     runs: &mut [u64],
 ) -> Taken
-    requires { ⌜ Loaded (now s) im × Valid (tablesOf (now s)) × (l < im .classes) × (r < im .classes) × Known n (now index) (now pairs) × Holds (now terms) (now runs)
+    requires { ⌜ Loaded (now s) im × Valid (tablesOf (now s)) × (l < im .classes) × (r < im .classes) × Known n (now index) (now pairs) × (now ones ≡ replicate 4225 1) × Holds (now terms) (now runs)
         × ((k : ℕ) → k < n → getD (now pairs) (8192 + k) 0 < countIn (now terms)) ⌝ }
     ensures { λ x. ⌜ Takes (tablesOf (now (s .entry))) (qualityIn (now (index .entry)) (now (pairs .entry))) (termIn (now (index .entry)) (now (pairs .entry))) (l, r) (now (terms .entry)) (now (runs .entry)) (now (terms .exit)) (now (runs .exit)) x
         × Leaves (tablesOf (now (s .entry))) (qualityIn (now (index .entry)) (now (pairs .entry))) (termIn (now (index .entry)) (now (pairs .entry))) (l, r) (now (terms .entry)) (now (runs .entry))
         (now (sizes .entry)) (now (masses .entry)) (now (costs .entry)) (now (flow .entry)) (now (list .entry)) (now (sizes .exit)) (now (masses .exit)) (now (costs .exit)) (now (flow .exit)) (now (list .exit)) ⌝ }
 {
-    let ones = [1u8; CELLS];
     let best = turn(
         s,
         im,
@@ -649,7 +647,7 @@ pub fn take_turn(
         n,
         l,
         r,
-        &ones,
+        ones,
         sizes,
         masses,
         costs,

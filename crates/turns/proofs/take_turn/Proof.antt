@@ -1,4 +1,3 @@
-use mathlib.Core.Path.{refl}
 use native.Mathlib.Omega.{arith}
 use borrow.Author.Needs.{needs}
 use Rattle.spec.specs.Image.{tablesOf}
@@ -7,23 +6,19 @@ use Rattle.turns.specs.Ending.{takes-full, takes-to, turn-leaves}
 use Rattle.turns.proofs.take_turn.Statement.{statement}
 use Rattle.turns.proofs.take_turn.Tie as tie
 
--- src/lib.rt:645:9
-slice-aggregate-turn : tie.Need-slice-aggregate-turn
-slice-aggregate-turn c = search needs
-
 -- src/lib.rt:637:9
 turn-requires : tie.Need-turn-requires
 turn-requires c κs =
     let b = c .before .before .before .before .before .before .before .before .before .before .before in
     let a = b .args in
-    (b .pre .0, b .pre .1, b .pre .2, b .pre .3, b .pre .4, refl, omega (arith, c .before .before .before .before .turn-arg .given .0 .1), omega (arith, c .before .before .before .turn-arg2 .given .0 .1), omega (arith, c .before .before .turn-arg3 .given .0 .1), omega (arith, c .before .turn-arg4 .given .0 .1), omega (arith, c .turn-arg5 .given .0 .1))
+    (b .pre .0, b .pre .1, b .pre .2, b .pre .3, b .pre .4, b .pre .5, omega (arith, c .before .before .before .before .turn-arg .given .0 .1), omega (arith, c .before .before .before .turn-arg2 .given .0 .1), omega (arith, c .before .before .turn-arg3 .given .0 .1), omega (arith, c .before .turn-arg4 .given .0 .1), omega (arith, c .turn-arg5 .given .0 .1))
 
 -- src/lib.rt:653:9
 turn-term-requires : tie.Need-turn-term-requires
 turn-term-requires c κs =
     let b = c .before .before .before .before .before .before .before .before .before .before .before .before .before .before .before in
     let a = b .args in
-    (b .pre .0, b .pre .1, b .pre .2, b .pre .3, b .pre .4, b .pre .5, b .pre .6, search needs, c .before .before .before .turn .ensures .0 .chosen)
+    (b .pre .0, b .pre .1, b .pre .2, b .pre .3, b .pre .4, b .pre .6, b .pre .7, search needs, c .before .before .before .turn .ensures .0 .chosen)
 
 -- src/lib.rt:655:26
 enum-told : tie.Need-enum-told
@@ -91,7 +86,6 @@ pub take-turn-spec : {M : Type 1} → statement M
 take-turn-spec =
     tie.close
     (tie.spec
-    slice-aggregate-turn
     turn-requires
     turn-term-requires
     enum-told
