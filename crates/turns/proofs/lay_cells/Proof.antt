@@ -45,7 +45,7 @@ size-of-requires c κs =
 
 -- src/lib.rt:108:9
 put4-requires : tie.Need-put4-requires Inv-loop μ-loop
-put4-requires c κs = let b = c .before .before .before .before .before .before .before .before .before .before .before in let a = b .args in omega (arith, c .before .before .before .before .loop .inv .2, c .before .before .before .before .loop .inv .3 .long, b .pre .6, c .before .before .before .loop-test .taken)
+put4-requires c κs = let b = c .before .before .before .before .before .before .before .before .before .before .before in let a = b .args in omega (arith, c .before .before .before .before .loop .inv .1, c .before .before .before .before .loop .inv .3 .long, b .pre .6, c .before .before .before .loop-test .taken)
 
 -- src/lib.rt:109:25
 mass-of-requires : tie.Need-mass-of-requires Inv-loop μ-loop
@@ -56,7 +56,7 @@ mass-of-requires c κs =
 
 -- src/lib.rt:109:9
 put4-requires-2 : tie.Need-put4-requires-2 Inv-loop μ-loop
-put4-requires-2 c κs = let b = c .before .before .before .before .before .before .before .before .before .before .before .before .before .before .before .before in let a = b .args in omega (arith, c .before .before .before .before .before .before .before .before .before .loop .inv .2, c .before .before .before .before .before .before .before .before .before .loop .inv .4 .long, b .pre .7, c .before .before .before .before .before .before .before .before .loop-test .taken)
+put4-requires-2 c κs = let b = c .before .before .before .before .before .before .before .before .before .before .before .before .before .before .before .before in let a = b .args in omega (arith, c .before .before .before .before .before .before .before .before .before .loop .inv .1, c .before .before .before .before .before .before .before .before .before .loop .inv .4 .long, b .pre .7, c .before .before .before .before .before .before .before .before .loop-test .taken)
 
 -- src/lib.rt:110:9
 add-k : tie.Need-add-k Inv-loop μ-loop
