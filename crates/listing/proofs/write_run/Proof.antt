@@ -1,6 +1,5 @@
 use Rattle.spec.specs.Bytes.{text}
 use Rattle.listing.specs.PieceLaws.{run-first, run-second, run-wrote}
-use native.Mathlib.Omega.{arith}
 use borrow.Author.Needs.{needs}
 use Rattle.listing.proofs.write_run.Statement.{statement}
 use Rattle.listing.proofs.write_run.Tie as tie
