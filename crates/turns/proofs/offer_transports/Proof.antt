@@ -72,7 +72,7 @@ offer-walk-requires c κs =
     let q = qualityIn (a .index .now) (a .pairs .now) in
     let of = termIn (a .index .now) (a .pairs .now) in
     let t = tablesOf (a .s .now) in
-    (b .pre .0, b .pre .1, b .pre .2, b .pre .3, rw (← operations-many (a .s .now) (a .im) (b .pre .0)) (walking-within t q of (a .l) (a .r) (workOf (a .sizes .now) (a .masses .now) (a .costs .now) (a .flow .now) (a .list .now) (a .b)) (workOf (c .before .before .before .before .before .before .before .before .loop .sizes) (c .before .before .before .before .before .before .before .before .loop .masses) (c .before .before .before .before .before .before .before .before .loop .costs) (c .before .before .before .before .before .before .before .before .loop .flow) (c .before .before .before .before .before .before .before .before .loop .list) (c .before .before .before .before .before .before .before .before .loop .best)) (c .before .before .before .before .before .before .before .before .loop .x) (c .before .before .before .before .before .before .x .given .0 .0) (c .before .before .before .before .before .before .x .given .1) (c .before .before .before .before .before .before .before .before .loop .inv .0) .0), b .pre .4, b .pre .5, walking-joined t q of (a .l) (a .r) (workOf (a .sizes .now) (a .masses .now) (a .costs .now) (a .flow .now) (a .list .now) (a .b)) (workOf (c .before .before .before .before .before .before .before .before .loop .sizes) (c .before .before .before .before .before .before .before .before .loop .masses) (c .before .before .before .before .before .before .before .before .loop .costs) (c .before .before .before .before .before .before .before .before .loop .flow) (c .before .before .before .before .before .before .before .before .loop .list) (c .before .before .before .before .before .before .before .before .loop .best)) (c .before .before .before .before .before .before .before .before .loop .x) (c .before .before .before .before .before .before .x .given .0 .0) (c .before .before .before .before .before .before .x .given .1) (c .before .before .before .before .before .before .before .before .loop .inv .0), omega (arith, c .before .before .before .before .before .before .before .before .loop .inv .1, b .pre .6), omega (arith, c .before .before .before .before .before .before .before .before .loop .inv .2, b .pre .7), omega (arith, c .before .before .before .before .before .before .before .before .loop .inv .3, b .pre .8), omega (arith, c .before .before .before .before .before .before .before .before .loop .inv .4, b .pre .9), omega (arith, c .before .before .before .before .before .before .before .before .loop .inv .5, b .pre .10))
+    (b .pre .0, b .pre .1, b .pre .2, b .pre .3, rw (← operations-many (a .s .now) (a .im) (b .pre .0)) (walking-within t q of (a .l) (a .r) (workOf (a .sizes .now) (a .masses .now) (a .costs .now) (a .flow .now) (a .list .now) (a .b)) (workOf (c .before .before .before .before .before .before .before .before .loop .sizes) (c .before .before .before .before .before .before .before .before .loop .masses) (c .before .before .before .before .before .before .before .before .loop .costs) (c .before .before .before .before .before .before .before .before .loop .flow) (c .before .before .before .before .before .before .before .before .loop .list) (c .before .before .before .before .before .before .before .before .loop .best)) (c .before .before .before .before .before .before .before .before .loop .x) (c .before .before .before .before .before .before .x .given .0 .0) (c .before .before .before .before .before .before .x .given .1) (c .before .before .before .before .before .before .before .before .loop .inv .0) .0), b .pre .4, b .pre .5, walking-joined t q of (a .l) (a .r) (workOf (a .sizes .now) (a .masses .now) (a .costs .now) (a .flow .now) (a .list .now) (a .b)) (workOf (c .before .before .before .before .before .before .before .before .loop .sizes) (c .before .before .before .before .before .before .before .before .loop .masses) (c .before .before .before .before .before .before .before .before .loop .costs) (c .before .before .before .before .before .before .before .before .loop .flow) (c .before .before .before .before .before .before .before .before .loop .list) (c .before .before .before .before .before .before .before .before .loop .best)) (c .before .before .before .before .before .before .before .before .loop .x) (c .before .before .before .before .before .before .x .given .0 .0) (c .before .before .before .before .before .before .x .given .1) (c .before .before .before .before .before .before .before .before .loop .inv .0) (b .pre .1) (length (a .index .now)) (omega (arith, b .pre .11, classes-many (a .s .now) (a .im) (b .pre .0))), omega (arith, c .before .before .before .before .before .before .before .before .loop .inv .1, b .pre .6), omega (arith, c .before .before .before .before .before .before .before .before .loop .inv .2, b .pre .7), omega (arith, c .before .before .before .before .before .before .before .before .loop .inv .3, b .pre .8), omega (arith, c .before .before .before .before .before .before .before .before .loop .inv .4, b .pre .9), omega (arith, c .before .before .before .before .before .before .before .before .loop .inv .5, b .pre .10))
 
 -- src/lib.rt:492:17
 next-requires : tie.Need-next-requires Inv-loop μ-loop

@@ -16,14 +16,14 @@ turn-requires : tie.Need-turn-requires
 turn-requires c κs =
     let b = c .before .before .before .before .before .before .before .before .before .before .before in
     let a = b .args in
-    (b .pre .0, b .pre .1, b .pre .2, b .pre .3, b .pre .4, refl, omega (arith, c .before .before .before .before .turn-arg .given .0 .1), omega (arith, c .before .before .before .turn-arg2 .given .0 .1), omega (arith, c .before .before .turn-arg3 .given .0 .1), omega (arith, c .before .turn-arg4 .given .0 .1), omega (arith, c .turn-arg5 .given .0 .1))
+    (b .pre .0, b .pre .1, b .pre .2, b .pre .3, b .pre .4, refl, omega (arith, c .before .before .before .before .turn-arg .given .0 .1), omega (arith, c .before .before .before .turn-arg2 .given .0 .1), omega (arith, c .before .before .turn-arg3 .given .0 .1), omega (arith, c .before .turn-arg4 .given .0 .1), omega (arith, c .turn-arg5 .given .0 .1), b .pre .7)
 
 -- src/lib.rt:653:9
 turn-term-requires : tie.Need-turn-term-requires
 turn-term-requires c κs =
     let b = c .before .before .before .before .before .before .before .before .before .before .before .before .before .before .before in
     let a = b .args in
-    (b .pre .0, b .pre .1, b .pre .2, b .pre .3, b .pre .4, b .pre .5, b .pre .6, search needs, c .before .before .before .turn .ensures .0 .chosen)
+    (b .pre .0, b .pre .1, b .pre .2, b .pre .3, b .pre .4, b .pre .5, b .pre .6, search needs, c .before .before .before .turn .ensures .0 .chosen, b .pre .7)
 
 -- src/lib.rt:655:26
 enum-told : tie.Need-enum-told
