@@ -7,7 +7,7 @@ use listing::Written;
 use terms::Entered;
 use turns::Taken;
 ghost use mathlib.Core.Path.{_≡_};
-ghost use Prim.Native.Nat.{_+_, _≤_, _<_};
+ghost use Prim.Native.Nat.{_+_, _*_, _≤_, _<_};
 ghost use lib.ListN.{length, getD, set, replicate};
 ghost use Rattle.spec.specs.Image.{tablesOf};
 ghost use Rattle.spec.specs.Round.{startingQuality};
@@ -309,7 +309,7 @@ fn take_one(
     terms: &mut [u32],
     runs: &mut [u64],
 ) -> Step
-    requires { ⌜ Loaded (now s) im × Valid (tablesOf (now s)) × (l < im .classes) × (r < im .classes) × (k < 4096) × Known n (now index) (now pairs) × Holds (now terms) (now runs) × TermsHeld n (now pairs) (now terms) ⌝ }
+    requires { ⌜ Loaded (now s) im × Valid (tablesOf (now s)) × (l < im .classes) × (r < im .classes) × (k < 4096) × Known n (now index) (now pairs) × Holds (now terms) (now runs) × TermsHeld n (now pairs) (now terms) × (256 * im .classes ≤ length (now index)) ⌝ }
     ensures { λ x. ⌜ Steps (turnIn (tablesOf (now (s .entry))) (now (index .entry)) (now (pairs .entry)) (l, r)) (termMade (tablesOf (now (s .entry))) (now (index .entry)) (now (pairs .entry)) (poolOf (now (terms .entry)) (now (runs .entry))) (l, r)) k (now (pairs .entry)) (now (pairs .exit)) (now (terms .exit)) (now (runs .exit)) x ⌝ }
 {
     let w = turns::take_turn(

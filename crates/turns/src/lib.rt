@@ -133,7 +133,7 @@ fn lay_cells(
     masses: &mut [u32],
 )
     requires { ⌜ Known n (now index) (now pairs) × (length (now left) ≡ NUMBERS) × (length (now right) ≡ NUMBERS) × (rows ≤ TERMS) × (cols ≤ TERMS)
-        × Joined (pairOf (held rows (now left)) (held cols (now right))) × (rows * cols ≤ length (now sizes)) × (rows * cols ≤ length (now masses)) ⌝ }
+        × Joined (length (now index)) (pairOf (held rows (now left)) (held cols (now right))) × (rows * cols ≤ length (now sizes)) × (rows * cols ≤ length (now masses)) ⌝ }
     ensures { λ _. ⌜ (now (sizes .exit) ≡ over (sizesAt (qualityIn (now (index .entry)) (now (pairs .entry))) (pairOf (held rows (now (left .entry))) (held cols (now (right .entry))))) (now (sizes .entry)))
         × (now (masses .exit) ≡ over (massesAt (qualityIn (now (index .entry)) (now (pairs .entry))) (pairOf (held rows (now (left .entry))) (held cols (now (right .entry))))) (now (masses .entry))) ⌝ }
 {
@@ -193,7 +193,7 @@ fn list_cell(
     list: &mut [u64],
     m: usize,
 ) -> usize
-    requires { ⌜ Known n (now index) (now pairs) × (p .left < 256) × (p .right < 256) × (x < 2 ^ 32) × (m < length (now list)) ⌝ }
+    requires { ⌜ Known n (now index) (now pairs) × (p .left * 256 + p .right < length (now index)) × (x < 2 ^ 32) × (m < length (now list)) ⌝ }
     ensures { λ r. ⌜ (r ≡ manyAfter m x) × (now (list .exit) ≡ cellAfter (now (list .entry)) m x (termIn (now (index .entry)) (now (pairs .entry)) (with (p .left) (p .right)))) ⌝ }
 {
     if x == 0 {
@@ -220,7 +220,7 @@ fn list_plan(
     list: &mut [u64],
 ) -> usize
     requires { ⌜ Known n (now index) (now pairs) × (length (now left) ≡ NUMBERS) × (length (now right) ≡ NUMBERS) × (rows ≤ TERMS) × (cols ≤ TERMS)
-        × Joined (pairOf (held rows (now left)) (held cols (now right))) × (length (now x) ≡ rows * cols) × ((k : ℕ) → k < length (now x) → getD (now x) k 0 < 2 ^ 32) × (rows * cols ≤ length (now list)) ⌝ }
+        × Joined (length (now index)) (pairOf (held rows (now left)) (held cols (now right))) × (length (now x) ≡ rows * cols) × ((k : ℕ) → k < length (now x) → getD (now x) k 0 < 2 ^ 32) × (rows * cols ≤ length (now list)) ⌝ }
     ensures { λ m. ⌜ (m ≡ length (runsAt (termIn (now (index .entry)) (now (pairs .entry))) (pairOf (held rows (now (left .entry))) (held cols (now (right .entry)))) (now (x .entry))))
         × (now (list .exit) ≡ over (runsAt (termIn (now (index .entry)) (now (pairs .entry))) (pairOf (held rows (now (left .entry))) (held cols (now (right .entry)))) (now (x .entry))) (now (list .entry))) ⌝ }
 {
@@ -281,7 +281,7 @@ fn offer_plan(
     best: Best,
 ) -> Best
     requires { ⌜ Known n (now index) (now pairs) × (length (now left) ≡ NUMBERS) × (length (now right) ≡ NUMBERS) × (rows ≤ TERMS) × (cols ≤ TERMS)
-        × Joined (pairOf (held rows (now left)) (held cols (now right))) × (length (now x) ≡ rows * cols) × ((k : ℕ) → k < length (now x) → getD (now x) k 0 < 2 ^ 32) × (rows * cols ≤ length (now list))
+        × Joined (length (now index)) (pairOf (held rows (now left)) (held cols (now right))) × (length (now x) ≡ rows * cols) × ((k : ℕ) → k < length (now x) → getD (now x) k 0 < 2 ^ 32) × (rows * cols ≤ length (now list))
         × (now sizes ≡ sizesAt (qualityIn (now index) (now pairs)) (pairOf (held rows (now left)) (held cols (now right)))) × (now masses ≡ massesAt (qualityIn (now index) (now pairs)) (pairOf (held rows (now left)) (held cols (now right)))) ⌝ }
     ensures { λ r. ⌜ (r ≡ bestAfter (qualityIn (now (index .entry)) (now (pairs .entry))) (termIn (now (index .entry)) (now (pairs .entry))) (actionOf op (pairOf (held rows (now (left .entry))) (held cols (now (right .entry))))) (some (now (x .entry))) best)
         × (now (list .exit) ≡ listAfter (qualityIn (now (index .entry)) (now (pairs .entry))) (termIn (now (index .entry)) (now (pairs .entry))) (actionOf op (pairOf (held rows (now (left .entry))) (held cols (now (right .entry))))) (some (now (x .entry))) best (now (list .entry))) ⌝ }
@@ -315,7 +315,7 @@ fn plan_transport(
     flow: &mut [u64],
 ) -> bool
     requires { ⌜ Known n (now index) (now pairs) × (length (now left) ≡ NUMBERS) × (length (now right) ≡ NUMBERS) × (rows ≤ TERMS) × (cols ≤ TERMS)
-        × Joined (pairOf (held rows (now left)) (held cols (now right))) × (narrow (held rows (now left)) ≡ true) × (narrow (held cols (now right)) ≡ true) × (now ones ≡ replicate (length (now ones)) 1)
+        × Joined (length (now index)) (pairOf (held rows (now left)) (held cols (now right))) × (narrow (held rows (now left)) ≡ true) × (narrow (held cols (now right)) ≡ true) × (now ones ≡ replicate (length (now ones)) 1)
         × (rows * cols ≤ length (now ones)) × (rows * cols ≤ length (now sizes)) × (rows * cols ≤ length (now masses)) × (3 * (rows * cols) ≤ length (now costs)) × (rows * cols ≤ length (now flow)) ⌝ }
     ensures { λ b. ⌜ Tried (qualityIn (now (index .entry)) (now (pairs .entry))) (pairOf (held rows (now (left .entry))) (held cols (now (right .entry)))) (now (sizes .entry)) (now (masses .entry)) (now (costs .entry)) (now (flow .entry))
         (now (sizes .exit)) (now (masses .exit)) (now (costs .exit)) (now (flow .exit)) b ⌝ }
@@ -363,7 +363,7 @@ fn offer_transport(
     best: Best,
 ) -> Offered
     requires { ⌜ Known n (now index) (now pairs) × (length (now left) ≡ NUMBERS) × (length (now right) ≡ NUMBERS) × (rows ≤ TERMS) × (cols ≤ TERMS)
-        × Joined (pairOf (held rows (now left)) (held cols (now right))) × (narrow (held rows (now left)) ≡ true) × (narrow (held cols (now right)) ≡ true)
+        × Joined (length (now index)) (pairOf (held rows (now left)) (held cols (now right))) × (narrow (held rows (now left)) ≡ true) × (narrow (held cols (now right)) ≡ true)
         × Roomy (now ones) (now sizes) (now masses) (now costs) (now flow) (now list) ⌝ }
     ensures { λ r. ⌜ Enough (length (now (sizes .entry))) r (λ x. workOf (now (sizes .exit)) (now (masses .exit)) (now (costs .exit)) (now (flow .exit)) (now (list .exit)) x
         ≡ offerIn (qualityIn (now (index .entry)) (now (pairs .entry))) (termIn (now (index .entry)) (now (pairs .entry))) (actionOf op (pairOf (held rows (now (left .entry))) (held cols (now (right .entry)))))
@@ -426,7 +426,7 @@ fn offer_walk(
     best: Best,
 ) -> Offered
     requires { ⌜ Loaded (now s) im × Valid (tablesOf (now s)) × (l < im .classes) × (r < im .classes) × (w .op < im .operations) × Known n (now index) (now pairs)
-        × ((a : TransportAction) → In a (actionsAt (tablesOf (now s)) l r w) → Joined (a .sides)) × Roomy (now ones) (now sizes) (now masses) (now costs) (now flow) (now list) ⌝ }
+        × ((a : TransportAction) → In a (actionsAt (tablesOf (now s)) l r w) → Joined (length (now index)) (a .sides)) × Roomy (now ones) (now sizes) (now masses) (now costs) (now flow) (now list) ⌝ }
     ensures { λ o. ⌜ Enough (length (now (sizes .entry))) o (λ x. workOf (now (sizes .exit)) (now (masses .exit)) (now (costs .exit)) (now (flow .exit)) (now (list .exit)) x
         ≡ offersIn (qualityIn (now (index .entry)) (now (pairs .entry))) (termIn (now (index .entry)) (now (pairs .entry))) (actionsAt (tablesOf (now (s .entry))) l r w)
         (workOf (now (sizes .entry)) (now (masses .entry)) (now (costs .entry)) (now (flow .entry)) (now (list .entry)) best)) ⌝ }
@@ -474,7 +474,7 @@ fn offer_transports(
     b: Best,
 ) -> Offered
     requires { ⌜ Loaded (now s) im × Valid (tablesOf (now s)) × (l < im .classes) × (r < im .classes) × Known n (now index) (now pairs)
-        × Roomy (now ones) (now sizes) (now masses) (now costs) (now flow) (now list) ⌝ }
+        × Roomy (now ones) (now sizes) (now masses) (now costs) (now flow) (now list) × (256 * im .classes ≤ length (now index)) ⌝ }
     ensures { λ o. ⌜ Enough (length (now (sizes .entry))) o (λ x. workOf (now (sizes .exit)) (now (masses .exit)) (now (costs .exit)) (now (flow .exit)) (now (list .exit)) x
         ≡ offersIn (qualityIn (now (index .entry)) (now (pairs .entry))) (termIn (now (index .entry)) (now (pairs .entry))) (transports (tablesOf (now (s .entry))) l r)
         (workOf (now (sizes .entry)) (now (masses .entry)) (now (costs .entry)) (now (flow .entry)) (now (list .entry)) b)) ⌝ }
@@ -536,7 +536,7 @@ fn turn(
     list: &mut [u64],
 ) -> Offered
     requires { ⌜ Loaded (now s) im × Valid (tablesOf (now s)) × (l < im .classes) × (r < im .classes) × Known n (now index) (now pairs)
-        × Roomy (now ones) (now sizes) (now masses) (now costs) (now flow) (now list) ⌝ }
+        × Roomy (now ones) (now sizes) (now masses) (now costs) (now flow) (now list) × (256 * im .classes ≤ length (now index)) ⌝ }
     ensures { λ o. ⌜ Enough (length (now (sizes .entry))) o (λ x. Agrees (tablesOf (now (s .entry))) (termIn (now (index .entry)) (now (pairs .entry))) (now (list .exit)) x (round.turnOf (tablesOf (now (s .entry))) (qualityIn (now (index .entry)) (now (pairs .entry))) (l, r))
         × Same (workOf (now (sizes .exit)) (now (masses .exit)) (now (costs .exit)) (now (flow .exit)) (now (list .exit)) x)
         (turnIn (tablesOf (now (s .entry))) (qualityIn (now (index .entry)) (now (pairs .entry))) (termIn (now (index .entry)) (now (pairs .entry))) (l, r) (now (sizes .entry)) (now (masses .entry)) (now (costs .entry)) (now (flow .entry)) (now (list .entry)))
@@ -595,7 +595,7 @@ fn turn_term(
 ) -> Entered
     requires { ⌜ Loaded (now s) im × Valid (tablesOf (now s)) × (l < im .classes) × (r < im .classes) × Known n (now index) (now pairs) × Holds (now terms) (now runs)
         × ((k : ℕ) → k < n → getD (now pairs) (8192 + k) 0 < countIn (now terms)) × (64 ≤ length (now list))
-        × Chosen (tablesOf (now s)) (termIn (now index) (now pairs)) (now list) how (round.turnOf (tablesOf (now s)) (qualityIn (now index) (now pairs)) (l, r) .choice) ⌝ }
+        × Chosen (tablesOf (now s)) (termIn (now index) (now pairs)) (now list) how (round.turnOf (tablesOf (now s)) (qualityIn (now index) (now pairs)) (l, r) .choice) × (256 * im .classes ≤ length (now index)) ⌝ }
     ensures { λ x. ⌜ Unless (now (terms .entry)) (now (runs .entry)) x ((now (terms .exit) ≡ now (terms .entry)) × (now (runs .exit) ≡ now (runs .entry)))
         (Ended (tablesOf (now (s .entry))) (termIn (now (index .entry)) (now (pairs .entry))) (now (terms .entry)) (now (runs .entry)) (termIn (now (index .entry)) (now (pairs .entry)) (l, r))
         (round.turnOf (tablesOf (now (s .entry))) (qualityIn (now (index .entry)) (now (pairs .entry))) (l, r) .choice) (now (list .entry)) (now (terms .exit)) (now (runs .exit)) (now (list .exit)) x) ⌝ }
@@ -652,7 +652,7 @@ fn end_turn(
 ) -> Taken
     requires { ⌜ Loaded (now s) im × Valid (tablesOf (now s)) × (l < im .classes) × (r < im .classes) × Known n (now index) (now pairs) × Holds (now terms) (now runs)
         × ((k : ℕ) → k < n → getD (now pairs) (8192 + k) 0 < countIn (now terms)) × (64 ≤ length (now list))
-        × Agrees (tablesOf (now s)) (termIn (now index) (now pairs)) (now list) best (round.turnOf (tablesOf (now s)) (qualityIn (now index) (now pairs)) (l, r)) × (best .size < 2 ^ 32) × (best .mass < 2 ^ 32) ⌝ }
+        × Agrees (tablesOf (now s)) (termIn (now index) (now pairs)) (now list) best (round.turnOf (tablesOf (now s)) (qualityIn (now index) (now pairs)) (l, r)) × (best .size < 2 ^ 32) × (best .mass < 2 ^ 32) × (256 * im .classes ≤ length (now index)) ⌝ }
     ensures { λ x. ⌜ UnlessShort 4225 (now (terms .entry)) (now (runs .entry)) x ((now (terms .exit) ≡ now (terms .entry)) × (now (runs .exit) ≡ now (runs .entry)))
         (Takes (tablesOf (now (s .entry))) (qualityIn (now (index .entry)) (now (pairs .entry))) (termIn (now (index .entry)) (now (pairs .entry))) (l, r) (now (terms .entry)) (now (runs .entry)) (now (terms .exit)) (now (runs .exit)) x
         × (now (list .exit) ≡ termList (tablesOf (now (s .entry))) (termIn (now (index .entry)) (now (pairs .entry))) (now (terms .entry)) (now (runs .entry)) (round.turnOf (tablesOf (now (s .entry))) (qualityIn (now (index .entry)) (now (pairs .entry))) (l, r) .choice) (now (list .entry)))) ⌝ }
@@ -690,7 +690,7 @@ pub fn take_turn(
     runs: &mut [u64],
 ) -> Taken
     requires { ⌜ Loaded (now s) im × Valid (tablesOf (now s)) × (l < im .classes) × (r < im .classes) × Known n (now index) (now pairs) × Roomy (now ones) (now sizes) (now masses) (now costs) (now flow) (now list) × Holds (now terms) (now runs)
-        × ((k : ℕ) → k < n → getD (now pairs) (8192 + k) 0 < countIn (now terms)) ⌝ }
+        × ((k : ℕ) → k < n → getD (now pairs) (8192 + k) 0 < countIn (now terms)) × (256 * im .classes ≤ length (now index)) ⌝ }
     ensures { λ x. ⌜ UnlessShort (length (now (sizes .entry))) (now (terms .entry)) (now (runs .entry)) x ((now (terms .exit) ≡ now (terms .entry)) × (now (runs .exit) ≡ now (runs .entry)))
         (Takes (tablesOf (now (s .entry))) (qualityIn (now (index .entry)) (now (pairs .entry))) (termIn (now (index .entry)) (now (pairs .entry))) (l, r) (now (terms .entry)) (now (runs .entry)) (now (terms .exit)) (now (runs .exit)) x
         × Leaves (tablesOf (now (s .entry))) (qualityIn (now (index .entry)) (now (pairs .entry))) (termIn (now (index .entry)) (now (pairs .entry))) (l, r) (now (terms .entry)) (now (runs .entry))

@@ -2,6 +2,7 @@ use Rattle.spec.specs.Image.{tablesOf}
 use Rattle.terms.specs.Buffers.{poolOf}
 use Rattle.image.specs.Loaded.{classes-many}
 use Rattle.lgg.specs.RoundsFrom.{roundAt}
+use Rattle.quality.specs.Within.{wide-all}
 use Rattle.exact_fixed.specs.Arrays.{pairsIn, stateIn}
 use Rattle.exact_fixed.specs.ArrayLaws.{twos-length}
 use Rattle.exact_fixed.specs.Graphs.{Reads, graphs-length, pair-at, pair-ranged, known-here, terms-here}
@@ -84,7 +85,7 @@ take-one-requires c κs =
     let h = at-loop-test .taken in
     let r = pair-ranged (tablesOf (a .s .now)) (a .lefts .now) (a .rights .now) (a .n) (l .k) h (b .pre .4 .pairs) (at-class-at .result) (at-class-at2 .result) (at-class-at .ensures .0) (at-class-at2 .ensures .0) in
     let R : Reads (stateIn (a .pairs .now) (a .terms .now) (a .runs .now) (a .n) 0 0) (l .pairs) (a .n) = rw n at (l .inv .4 .reads) in
-    (b .pre .0, b .pre .1, omega (arith, r .0, m), omega (arith, r .1, m), omega (arith, h, b .pre .4 .few), known-here (tablesOf (a .s .now)) (pairsIn (a .lefts .now) (a .rights .now) (a .n)) (a .n) (a .index .now) (b .pre .4) (stateIn (a .pairs .now) (a .terms .now) (a .runs .now) (a .n) 0 0) (l .pairs) R (b .pre .7), l .inv .4 .holds, terms-here (tablesOf (a .s .now)) (pairsIn (a .lefts .now) (a .rights .now) (a .n)) (a .n) (a .index .now) (b .pre .4) (stateIn (a .pairs .now) (a .terms .now) (a .runs .now) (a .n) 0 0) (l .pairs) R (b .pre .7) (poolOf (a .terms .now) (a .runs .now)) (l .k) _ (l .terms) (l .runs) refl (l .inv .4 .midway))
+    (b .pre .0, b .pre .1, omega (arith, r .0, m), omega (arith, r .1, m), omega (arith, h, b .pre .4 .few), known-here (tablesOf (a .s .now)) (pairsIn (a .lefts .now) (a .rights .now) (a .n)) (a .n) (a .index .now) (b .pre .4) (stateIn (a .pairs .now) (a .terms .now) (a .runs .now) (a .n) 0 0) (l .pairs) R (b .pre .7), l .inv .4 .holds, terms-here (tablesOf (a .s .now)) (pairsIn (a .lefts .now) (a .rights .now) (a .n)) (a .n) (a .index .now) (b .pre .4) (stateIn (a .pairs .now) (a .terms .now) (a .runs .now) (a .n) 0 0) (l .pairs) R (b .pre .7) (poolOf (a .terms .now) (a .runs .now)) (l .k) _ (l .terms) (l .runs) refl (l .inv .4 .midway), wide-all (a .s .now) (a .im) (b .pre .0) (b .pre .1) (length (a .index .now)) (b .pre .4 .wide))
 
 -- src/lib.rt:432:17
 enum-told : tie.Need-enum-told Inv-loop μ-loop

@@ -44,7 +44,7 @@ list-cell-requires c κs =
     let b = c .before .before .before .before .before .before .before .before .before .before .before in
     let a = b .args in
     let m = pairOf (held (a .rows) (a .left .now)) (held (a .cols) (a .right .now)) in
-    let j = cell-joined m (b .pre .5) (c .before .before .before .before .loop .k) (omega (arith, b .pre .6, c .before .before .before .loop-test .taken, (cells-length m ∙ (λ i. held-length (a .left .now) (a .rows) (b .pre .1) (b .pre .3) i * held-length (a .right .now) (a .cols) (b .pre .2) (b .pre .4) i)))) (c .before .before .cell .result .left) (c .before .before .cell .result .right) (c .before .before .cell .ensures) in (b .pre .0, j .0, j .1, b .pre .7 (c .before .before .before .before .loop .k) (c .before .before .before .loop-test .taken), omega (arith, c .before .before .before .before .loop .inv .few, c .before .before .before .before .loop .inv .long, b .pre .8, b .pre .6, c .before .before .before .loop-test .taken))
+    let j = cell-joined m (b .pre .5) (c .before .before .before .before .loop .k) (omega (arith, b .pre .6, c .before .before .before .loop-test .taken, (cells-length m ∙ (λ i. held-length (a .left .now) (a .rows) (b .pre .1) (b .pre .3) i * held-length (a .right .now) (a .cols) (b .pre .2) (b .pre .4) i)))) (c .before .before .cell .result .left) (c .before .before .cell .result .right) (c .before .before .cell .ensures) in (b .pre .0, j, b .pre .7 (c .before .before .before .before .loop .k) (c .before .before .before .loop-test .taken), omega (arith, c .before .before .before .before .loop .inv .few, c .before .before .before .before .loop .inv .long, b .pre .8, b .pre .6, c .before .before .before .loop-test .taken))
 
 -- src/lib.rt:187:9
 add-k : tie.Need-add-k Inv-loop μ-loop

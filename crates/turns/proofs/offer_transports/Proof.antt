@@ -72,7 +72,7 @@ offer-walk-requires c κs =
     let b = c .before .before .before .before .before .before .before .before .before .before .before .before .before .before .before .before .before .before .before in
     let a = b .args in
     let i = c .before .before .before .before .before .before .before .before .loop .inv in
-    (b .pre .0, b .pre .1, b .pre .2, b .pre .3, rw (← operations-many (a .s .now) (a .im) (b .pre .0)) (walking-within (tablesOf (a .s .now)) (qualityIn (a .index .now) (a .pairs .now)) (termIn (a .index .now) (a .pairs .now)) (a .l) (a .r) (workOf (a .sizes .now) (a .masses .now) (a .costs .now) (a .flow .now) (a .list .now) (a .b)) (workOf (c .before .before .before .before .before .before .before .before .loop .sizes) (c .before .before .before .before .before .before .before .before .loop .masses) (c .before .before .before .before .before .before .before .before .loop .costs) (c .before .before .before .before .before .before .before .before .loop .flow) (c .before .before .before .before .before .before .before .before .loop .list) (c .before .before .before .before .before .before .before .before .loop .best)) (c .before .before .before .before .before .before .before .before .loop .x) (c .before .before .before .before .before .before .x .given .0 .0) (c .before .before .before .before .before .before .x .given .1) (c .before .before .before .before .before .before .before .before .loop .inv .0) .0), b .pre .4, walking-joined (tablesOf (a .s .now)) (qualityIn (a .index .now) (a .pairs .now)) (termIn (a .index .now) (a .pairs .now)) (a .l) (a .r) (workOf (a .sizes .now) (a .masses .now) (a .costs .now) (a .flow .now) (a .list .now) (a .b)) (workOf (c .before .before .before .before .before .before .before .before .loop .sizes) (c .before .before .before .before .before .before .before .before .loop .masses) (c .before .before .before .before .before .before .before .before .loop .costs) (c .before .before .before .before .before .before .before .before .loop .flow) (c .before .before .before .before .before .before .before .before .loop .list) (c .before .before .before .before .before .before .before .before .loop .best)) (c .before .before .before .before .before .before .before .before .loop .x) (c .before .before .before .before .before .before .x .given .0 .0) (c .before .before .before .before .before .before .x .given .1) (c .before .before .before .before .before .before .before .before .loop .inv .0), roomy-kept (b .pre .5) (i .1) (i .2) (i .3) (i .4) (i .5))
+    (b .pre .0, b .pre .1, b .pre .2, b .pre .3, rw (← operations-many (a .s .now) (a .im) (b .pre .0)) (walking-within (tablesOf (a .s .now)) (qualityIn (a .index .now) (a .pairs .now)) (termIn (a .index .now) (a .pairs .now)) (a .l) (a .r) (workOf (a .sizes .now) (a .masses .now) (a .costs .now) (a .flow .now) (a .list .now) (a .b)) (workOf (c .before .before .before .before .before .before .before .before .loop .sizes) (c .before .before .before .before .before .before .before .before .loop .masses) (c .before .before .before .before .before .before .before .before .loop .costs) (c .before .before .before .before .before .before .before .before .loop .flow) (c .before .before .before .before .before .before .before .before .loop .list) (c .before .before .before .before .before .before .before .before .loop .best)) (c .before .before .before .before .before .before .before .before .loop .x) (c .before .before .before .before .before .before .x .given .0 .0) (c .before .before .before .before .before .before .x .given .1) (c .before .before .before .before .before .before .before .before .loop .inv .0) .0), b .pre .4, walking-joined (tablesOf (a .s .now)) (qualityIn (a .index .now) (a .pairs .now)) (termIn (a .index .now) (a .pairs .now)) (a .l) (a .r) (workOf (a .sizes .now) (a .masses .now) (a .costs .now) (a .flow .now) (a .list .now) (a .b)) (workOf (c .before .before .before .before .before .before .before .before .loop .sizes) (c .before .before .before .before .before .before .before .before .loop .masses) (c .before .before .before .before .before .before .before .before .loop .costs) (c .before .before .before .before .before .before .before .before .loop .flow) (c .before .before .before .before .before .before .before .before .loop .list) (c .before .before .before .before .before .before .before .before .loop .best)) (c .before .before .before .before .before .before .before .before .loop .x) (c .before .before .before .before .before .before .x .given .0 .0) (c .before .before .before .before .before .before .x .given .1) (c .before .before .before .before .before .before .before .before .loop .inv .0) (b .pre .1) (length (a .index .now)) (omega (arith, b .pre .6, classes-many (a .s .now) (a .im) (b .pre .0))), roomy-kept (b .pre .5) (i .1) (i .2) (i .3) (i .4) (i .5))
 
 -- src/lib.rt:509:25
 enum-told-2 : tie.Need-enum-told-2 Inv-loop μ-loop

@@ -11,7 +11,7 @@ use Rattle.turns.proofs.take_turn.Tie as tie
 
 -- src/lib.rt:699:9
 turn-requires : tie.Need-turn-requires
-turn-requires c κs = let b = c .before .before .before .before .before .before .before .before .before .before .before .before .before .before .before .before in (b .pre .0, b .pre .1, b .pre .2, b .pre .3, b .pre .4, b .pre .5)
+turn-requires c κs = let b = c .before .before .before .before .before .before .before .before .before .before .before .before .before .before .before .before in (b .pre .0, b .pre .1, b .pre .2, b .pre .3, b .pre .4, b .pre .5, b .pre .8)
 
 -- src/lib.rt:715:27
 enum-told : tie.Need-enum-told
@@ -28,7 +28,7 @@ end-turn-requires c κs =
     let the-o = c .before .before .before .before .o in
     let the-turn = c .before .before .before .before .before .before .before .before .before .before .before .before .before .before .before .before .turn in
     let u = rw (the-o .given .1) at (the-turn .ensures) in
-    (b .pre .0, b .pre .1, b .pre .2, b .pre .3, b .pre .4, b .pre .6, b .pre .7, omega (arith, the-turn .kept, b .pre .5 .runsLong), u .0, u .2, u .3)
+    (b .pre .0, b .pre .1, b .pre .2, b .pre .3, b .pre .4, b .pre .6, b .pre .7, omega (arith, the-turn .kept, b .pre .5 .runsLong), u .0, u .2, u .3, b .pre .8)
 
 -- src/lib.rt:675:1
 same-length : tie.Need-same-length

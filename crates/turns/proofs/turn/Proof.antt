@@ -11,11 +11,11 @@ use Rattle.turns.proofs.turn.Tie as tie
 
 -- src/lib.rt:522:9
 best-aligned-requires : tie.Need-best-aligned-requires
-best-aligned-requires c κs = let b = c .before .before .before .before .before .before .before .before .before in (b .pre .0, b .pre .1, b .pre .2, b .pre .3, b .pre .4)
+best-aligned-requires c κs = let b = c .before .before .before .before .before .before .before .before .before in (b .pre .0, b .pre .1, b .pre .2, b .pre .3, b .pre .4, b .pre .6)
 
 -- src/lib.rt:523:5
 offer-transports-requires : tie.Need-offer-transports-requires
-offer-transports-requires c κs = let b = c .before .before .before .before .before .before .before .before .before .before .before .before .before .before .before in (b .pre .0, b .pre .1, b .pre .2, b .pre .3, b .pre .4, b .pre .5)
+offer-transports-requires c κs = let b = c .before .before .before .before .before .before .before .before .before .before .before .before .before .before .before in (b .pre .0, b .pre .1, b .pre .2, b .pre .3, b .pre .4, b .pre .5, b .pre .6)
 
 -- src/lib.rt:500:1
 same-length : tie.Need-same-length

@@ -1,5 +1,6 @@
 use mathlib.Core.Path.{_∙_}
 use native.Mathlib.Omega.{arith}
+use lib.ListN.{length}
 use borrow.Author.Needs.{needs}
 use Rattle.spec.specs.Image.{tablesOf}
 use Rattle.spec.specs.Round.{turnOf, ones}
@@ -7,7 +8,7 @@ use Rattle.lgg.specs.TurnPlaces.{turn-placed}
 use Rattle.image.specs.Loaded.{operations-many}
 use Rattle.actions.specs.Remaining.{actionAt}
 use Rattle.terms.specs.ShortLaws.{unless-map}
-use Rattle.quality.specs.Within.{class-few}
+use Rattle.quality.specs.Within.{place-fits}
 use Rattle.quality.specs.Known.{qualityIn, termIn}
 use Rattle.quality.specs.declared.How.the-variants as H
 use Rattle.turns.specs.Listing.{runsOver}
@@ -25,7 +26,7 @@ term-of-requires : tie.Need-term-of-requires
 term-of-requires c κs =
     let b = c .before .before .before .before .before .before .before .before in
     let a = b .args in
-    (b .pre .4, class-few (a .s .now) (a .im) (b .pre .0) (b .pre .1) (a .l) (b .pre .2), class-few (a .s .now) (a .im) (b .pre .0) (b .pre .1) (a .r) (b .pre .3))
+    (b .pre .4, place-fits (a .s .now) (a .im) (b .pre .0) (b .pre .1) (length (a .index .now)) (b .pre .9) (a .l) (a .r) (b .pre .2) (b .pre .3))
 
 -- src/lib.rt:579:36
 num4-requires : tie.Need-num4-requires
@@ -41,7 +42,7 @@ list-action-requires c κs =
     let b = c .before .before .before .before .before .before .before .before .before .before in
     let a = b .args in
     let t = tablesOf (a .s .now) in
-    let h : Chosen t (termIn (a .index .now) (a .pairs .now)) (a .list .now) (H.Aligned (c .before .before .how .given .0 .0)) (turnOf t (qualityIn (a .index .now) (a .pairs .now)) (a .l, a .r) .choice) = rw (c .before .before .how .given .1) at (b .pre .8) in (b .pre .0, b .pre .1, h .0, b .pre .4, b .pre .7)
+    let h : Chosen t (termIn (a .index .now) (a .pairs .now)) (a .list .now) (H.Aligned (c .before .before .how .given .0 .0)) (turnOf t (qualityIn (a .index .now) (a .pairs .now)) (a .l, a .r) .choice) = rw (c .before .before .how .given .1) at (b .pre .8) in (b .pre .0, b .pre .1, h .0, b .pre .4, b .pre .7, b .pre .9)
 
 -- src/lib.rt:582:34
 op-requires : tie.Need-op-requires
