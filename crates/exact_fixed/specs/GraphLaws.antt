@@ -41,7 +41,7 @@ graphs-built t v p i b c ps e m wide = record {
   few = built-few t p b c ps e;
   wide = omega (arith, numbered-length 0 ps (replicate m 0), length-replicate {A = ℕ} m 0);
   below = built-below t p b c ps e m;
-  numbers = built-number t p b c ps e v i (replicate m 0) (omega (arith, length-replicate {A = ℕ} m 0));
+  numbers = built-number t p b c ps e v i (replicate m 0) (omega (arith, length-replicate {A = ℕ} m 0, v .counts .fewClasses));
   closed = build-closed t p b c ps e;
   pairs = built-within t p b c ps e v i;
 }

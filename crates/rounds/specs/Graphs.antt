@@ -78,7 +78,6 @@ module _ (t : Tables) (ps : List Two) (n : ℕ) (index : List ℕ) (G : Graphs t
   module _ (S : Standing t ps s) where
     pub known-here : Known n index pairs
     known-here = record {
-      wide = G .wide;
       long = R .long;
       few = G .few;
       below = G .below;

@@ -1,4 +1,5 @@
 use Rattle.spec.specs.Image.{tablesOf}
+use Rattle.image.specs.Loaded.{classes-many}
 use Rattle.terms.specs.Chains.{Holds}
 use Rattle.terms.specs.Emptying.{emptied-holds}
 use Rattle.exact_fixed.specs.Starting.{kept-none}
@@ -58,7 +59,9 @@ enum-known-e c = search needs
 
 -- src/lib.rt:699:17
 build-requires : tie.Need-build-requires
-build-requires c κs = search needs
+build-requires c κs =
+    let b = c .before .before .before .before .before .before .before .before .before .before .before .before .before .before .before .before .before .before .before .before .before .before .before .before .before in
+    (b .pre .0, b .pre .1, b .pre .2, b .pre .3, b .pre .4, b .pre .5, omega (arith, b .pre .6, classes-many (b .args .s .now) (b .args .im) (b .pre .0), b .pre .1 .counts .fewClasses))
 
 -- src/lib.rt:702:21
 enum-told-2 : tie.Need-enum-told-2

@@ -1,6 +1,7 @@
 use Rattle.rounds.specs.Outcomes.{outcomeIn}
 use Rattle.exact_fixed.specs.AnswerLaws.{answer-bytes, answer-full}
 use mathlib.Core.Path.{sym, _∙_}
+use native.Mathlib.Omega.{arith}
 use borrow.Author.Needs.{needs}
 use Rattle.exact_fixed.proofs.list_outcome.Statement.{statement}
 use Rattle.exact_fixed.proofs.list_outcome.Tie as tie
@@ -22,7 +23,9 @@ cast-t13 c = search needs
 
 -- src/lib.rt:272:9
 list-requires : tie.Need-list-requires
-list-requires c κs = search needs
+list-requires c κs =
+    let s = c .before .before .before .before .before .before .before .before .before in
+    (s .pre .0, s .pre .1, omega (arith, s .pre .0 .few, s .pre .2))
 
 -- src/lib.rt:275:13
 enum-told : tie.Need-enum-told

@@ -63,7 +63,7 @@ add-result c = search needs
 runs-width-requires : tie.Need-runs-width-requires
 runs-width-requires c κs =
     let s = c .before .before .before .before .before .before .before .before .before .before in
-    (s .pre .1 .room, line-rises (s .args .terms .now) (s .args .runs .now) (s .args .marks .now) (s .args .n) (s .args .k) (s .pre .0) (s .pre .1) (s .pre .2) (c .before .before .before .before .before .before .term-at .ensures) (c .before .before .before .before .before .first .ensures .0) (c .before .before .before .before .first2 .ensures .0), line-ends (s .args .terms .now) (s .args .runs .now) (s .args .marks .now) (s .args .n) (s .args .k) (s .pre .0) (s .pre .1) (s .pre .2) (c .before .before .before .before .before .before .term-at .ensures) (c .before .before .before .before .before .first .ensures .0) (c .before .before .before .before .first2 .ensures .0), line-within (s .args .terms .now) (s .args .runs .now) (s .args .marks .now) (s .args .n) (s .args .k) (s .pre .0) (s .pre .1) (s .pre .2) (c .before .before .before .before .before .before .term-at .ensures) (c .before .before .before .before .before .first .ensures .0) (c .before .before .before .before .first2 .ensures .0), line-named (s .args .terms .now) (s .args .runs .now) (s .args .marks .now) (s .args .n) (s .args .k) (s .pre .0) (s .pre .1) (s .pre .2) (c .before .before .before .before .before .before .term-at .ensures) (c .before .before .before .before .before .first .ensures .0) (c .before .before .before .before .first2 .ensures .0))
+    (line-rises (s .args .terms .now) (s .args .runs .now) (s .args .marks .now) (s .args .n) (s .args .k) (s .pre .0) (s .pre .1) (s .pre .2) (c .before .before .before .before .before .before .term-at .ensures) (c .before .before .before .before .before .first .ensures .0) (c .before .before .before .before .first2 .ensures .0), line-ends (s .args .terms .now) (s .args .runs .now) (s .args .marks .now) (s .args .n) (s .args .k) (s .pre .0) (s .pre .1) (s .pre .2) (c .before .before .before .before .before .before .term-at .ensures) (c .before .before .before .before .before .first .ensures .0) (c .before .before .before .before .first2 .ensures .0), line-within (s .args .terms .now) (s .args .runs .now) (s .args .marks .now) (s .args .n) (s .args .k) (s .pre .0) (s .pre .1) (s .pre .2) (c .before .before .before .before .before .before .term-at .ensures) (c .before .before .before .before .before .first .ensures .0) (c .before .before .before .before .first2 .ensures .0), line-named (s .args .terms .now) (s .args .runs .now) (s .args .marks .now) (s .args .n) (s .args .k) (s .pre .0) (s .pre .1) (s .pre .2) (c .before .before .before .before .before .before .term-at .ensures) (c .before .before .before .before .before .first .ensures .0) (c .before .before .before .before .first2 .ensures .0))
 
 -- src/lib.rt:169:5
 add-result-2 : tie.Need-add-result-2

@@ -65,7 +65,7 @@ write-head-requires c κs =
 write-runs-requires : tie.Need-write-runs-requires
 write-runs-requires c κs =
     let s = c .before .before .before .before .before .before .before .before .before .before .before .before .before .before .before .before .before .before in
-    (s .pre .1 .room, line-rises (s .args .terms .now) (s .args .runs .now) (s .args .marks .now) (s .args .n) (s .args .k) (s .pre .0) (s .pre .1) (s .pre .2) (c .before .before .before .before .before .before .before .before .before .before .before .before .before .term-at .ensures) (c .before .before .before .before .before .before .before .before .before .before .before .before .first .ensures .0) (c .before .before .before .before .before .before .before .before .before .before .before .first2 .ensures .0), line-within (s .args .terms .now) (s .args .runs .now) (s .args .marks .now) (s .args .n) (s .args .k) (s .pre .0) (s .pre .1) (s .pre .2) (c .before .before .before .before .before .before .before .before .before .before .before .before .before .term-at .ensures) (c .before .before .before .before .before .before .before .before .before .before .before .before .first .ensures .0) (c .before .before .before .before .before .before .before .before .before .before .before .first2 .ensures .0), line-named (s .args .terms .now) (s .args .runs .now) (s .args .marks .now) (s .args .n) (s .args .k) (s .pre .0) (s .pre .1) (s .pre .2) (c .before .before .before .before .before .before .before .before .before .before .before .before .before .term-at .ensures) (c .before .before .before .before .before .before .before .before .before .before .before .before .first .ensures .0) (c .before .before .before .before .before .before .before .before .before .before .before .first2 .ensures .0), runs-room (s .args .terms .now) (s .args .runs .now) (s .args .marks .now) (s .args .n) (s .args .k) (s .pre .0) (s .pre .1) (s .pre .2) (c .before .before .before .before .before .before .before .before .before .before .before .before .before .term-at .ensures) (c .before .before .before .before .before .before .before .before .before .before .before .before .first .ensures .0) (c .before .before .before .before .before .before .before .before .before .before .before .first2 .ensures .0) (c .before .before .before .before .before .head .ensures) (c .before .before .before .before .value .ensures) (s .args .out .now) (s .args .at) (s .pre .3) (c .before .before .before .before .before .before .before .before .before .decimal .ensures) (c .before .before .before .write-head .ensures))
+    (line-rises (s .args .terms .now) (s .args .runs .now) (s .args .marks .now) (s .args .n) (s .args .k) (s .pre .0) (s .pre .1) (s .pre .2) (c .before .before .before .before .before .before .before .before .before .before .before .before .before .term-at .ensures) (c .before .before .before .before .before .before .before .before .before .before .before .before .first .ensures .0) (c .before .before .before .before .before .before .before .before .before .before .before .first2 .ensures .0), line-within (s .args .terms .now) (s .args .runs .now) (s .args .marks .now) (s .args .n) (s .args .k) (s .pre .0) (s .pre .1) (s .pre .2) (c .before .before .before .before .before .before .before .before .before .before .before .before .before .term-at .ensures) (c .before .before .before .before .before .before .before .before .before .before .before .before .first .ensures .0) (c .before .before .before .before .before .before .before .before .before .before .before .first2 .ensures .0), line-named (s .args .terms .now) (s .args .runs .now) (s .args .marks .now) (s .args .n) (s .args .k) (s .pre .0) (s .pre .1) (s .pre .2) (c .before .before .before .before .before .before .before .before .before .before .before .before .before .term-at .ensures) (c .before .before .before .before .before .before .before .before .before .before .before .before .first .ensures .0) (c .before .before .before .before .before .before .before .before .before .before .before .first2 .ensures .0), runs-room (s .args .terms .now) (s .args .runs .now) (s .args .marks .now) (s .args .n) (s .args .k) (s .pre .0) (s .pre .1) (s .pre .2) (c .before .before .before .before .before .before .before .before .before .before .before .before .before .term-at .ensures) (c .before .before .before .before .before .before .before .before .before .before .before .before .first .ensures .0) (c .before .before .before .before .before .before .before .before .before .before .before .first2 .ensures .0) (c .before .before .before .before .before .head .ensures) (c .before .before .before .before .value .ensures) (s .args .out .now) (s .args .at) (s .pre .3) (c .before .before .before .before .before .before .before .before .before .decimal .ensures) (c .before .before .before .write-head .ensures))
 
 -- src/lib.rt:323:18
 slice-aggregate-text : tie.Need-slice-aggregate-text
