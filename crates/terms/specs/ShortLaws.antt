@@ -1,6 +1,9 @@
 -- Answers that may be `Short`.
+use mathlib.Core.Path.{_≡_}
 use mathlib.Core.List.{List}
 use Prim.Native.Nat.{ℕ}
+use native.Mathlib.Omega.{arith}
+use lib.ListN.{length}
 use Rattle.terms.specs.Chains.{Whole}
 use Rattle.terms.specs.Interning.{Unless}
 use Rattle.terms.specs.declared.Entered.{Entered}
@@ -18,3 +21,7 @@ module _ (terms runs : List ℕ) where
   unless-whole E.Short S w u = absurd (u .0 w)
   unless-whole (E.Term t) S w u = u
   unless-whole E.Full S w u = u
+
+-- buffers of the same lengths are as short
+pub as-short : (terms runs terms₁ runs₁ : List ℕ) → length terms₁ ≡ length terms → length runs₁ ≡ length runs → (Whole terms₁ runs₁ → ⊥) → Whole terms runs → ⊥
+as-short terms runs terms₁ runs₁ e f u w = u (omega (arith, w .0), omega (arith, w .1))
