@@ -41,3 +41,13 @@ next-from n i k e l = omega (arith, e, l)
 
 pub step-from : (n i k : ℕ) → n - i ≡ suc k → n - (i + 1) ≡ k
 step-from n i k e = omega (arith, e)
+
+-- a block of 16
+pub block-fits : (len n i : ℕ) → i ≤ n → n ≤ len → len * 4 < 2 ^ 63 → i + 16 < 2 ^ 64
+block-fits len n i h k l = omega (arith, h, k, l)
+
+pub block-after : (i : ℕ) → i ≤ i + 16
+block-after i = omega arith
+
+pub block-less : (n i t : ℕ) → i + 16 ≤ n → n - i ≡ t → n - (i + 16) < t
+block-less n i t h e = omega (arith, h, e)

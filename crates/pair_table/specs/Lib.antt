@@ -1,4 +1,5 @@
 pub mod Clear
+pub mod Code
 pub mod Enter
 pub mod From
 pub mod Lists

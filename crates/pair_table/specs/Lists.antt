@@ -1,6 +1,6 @@
 -- Laws of lists and numbers that the table rests on. Assumes nothing.
 use mathlib.Core.Path.{_≡_, refl, sym, ap, _∙_}
-use mathlib.Core.Bool.{Bool, true, false, not}
+use mathlib.Core.Bool.{Bool, true, false, not, _||_}
 use mathlib.Core.List.{List, [], _∷_, _++_}
 use Prim.Native.Nat.{ℕ, zero, suc, _≤_, _<_, min}
 use native.Mathlib.Nat.{zero-min, min-zero, suc-min-suc, not-suc-le-zero, le-of-suc-le-suc}
@@ -8,7 +8,7 @@ use native.Mathlib.Omega.{arith}
 use lib.Dec.{T, eqb, ltb}
 use lib.ListN.{length, getD, take, drop, set}
 use borrow.Author.Tests.{eqb-true, ltb-false}
-use Rattle.spec.specs.Bytes.{any, place, Two, sameTwo}
+use Rattle.spec.specs.Bytes.{either, any, place, Two, sameTwo}
 
 -- ---- truth values
 pub is-true : (t : Bool) → T t → t ≡ true
@@ -18,6 +18,14 @@ is-true false a = absurd a
 pub is-false : (t : Bool) → T (not t) → t ≡ false
 is-false true a = absurd a
 is-false false _ = refl
+
+pub or-either : (a b c : Bool) → b ≡ c → (a || b) ≡ either a c
+or-either true b c e = refl
+or-either false b c e = e
+
+pub either-false : (t : Bool) → either t false ≡ t
+either-false true = refl
+either-false false = refl
 
 pub not-less : (a b : ℕ) → T (not (ltb a b)) → b ≤ a
 not-less a b h = ltb-false a b (is-false (ltb a b) h)

@@ -1,14 +1,14 @@
--- `pair_table::find` meets its contract: a walk of its MIR, by hand: a call for the end, then a loop with a call in its turn.
+-- `pair_table::find` meets its contract: a walk of its MIR, by hand: a call for the end, one for the blocks, then a loop with a call in its turn.
 -- The slice is looked into and shut again in each turn, so the invariant has what the slice owns whole. What a record is compared by is `is_pair`, a covered function.
 -- Assumes nothing.
-use Rattle.pair_table.proofs.Walk.{_≡_, refl, sym, _∙_, ap, ℕ, zero, suc, _+_, _<_, _*_, _^_, lt-suc-self, arith, Bool, List, [], _∷_, length, getD, Nat·lt-wfRel, lit<, URA, fullShare}
-use Rattle.pair_table.proofs.Walk.{Ty, Body, assign, place, op2, add, unsigned, copy, int, named, imm, w16, w64, tyInt, tyBool, tyPtr, tyRef, Val, vint, vptr, vbool}
-use Rattle.pair_table.proofs.Walk.{SProp, ent, emp, fst∗, id⊢, via, snd∗, exI, exE, guardI, Lft, GName, Share, Fml, ftrue, fsep, fat, froom, fdies, flft, Memory, Routine, Heap, Calls, Loops, Env, Wp, WpFn, Tables, atReturn, afterSeq, afterBlock, afterTurn}
-use Rattle.pair_table.proofs.Walk.{Atoms, sem, Fun, fact, givenOf, tables, tablesOf, Given, Item, ‵, raw, some, given, later, _⊛_, ⋆, anyQ, atRet, runs, Sq, _$_, _∵_, !, qed, by, move, drop, use0, use1, split, join, pick, learn, await, rewrite, fsplit, fjoin, suffices, frame, done}
-use Rattle.pair_table.proofs.Walk.{whole, sub, look-in, look, look-raw, init, store, forget, stop, hop, fld, from, load, lit, of-opd, bin, assigns, assigns-last, and-then, no-more, land, first, blocks, branches, skips, stays, leaves-loop, returns, returns-within, exec, Below, again, loops, enter, alloc1, alloc0, params1, pass1, pass0, free1, free0, WpFn-mono, fmOf}
-use Rattle.pair_table.proofs.Walk.{RattleType, Is, shows, pointee, uint-vals, uint-tells, uint-makes, uint-lawful, bool-lawful, u16, usize, bool, RefT, now, sliceTy, sliceVal, ShrSlice, Room, slice-vals, shr-slice-tells, place-is, elem-out, elem-back, looks-slice, shuts-slice, plain, only, nothing, owned, facts, heard}
-use Rattle.pair_table.proofs.Walk.{Contract, Triple, calls-at, ensured, lasts, Vals, onEntry, Meets, tripleOf, entered, cited, says, Stays, stay-none-slice, stay-none, walkOf, Walks, ends-at, walked, goes-none-slice, goes-none, walk-meets, yes, lt-ltb, le-ltb}
-use Prim.Native.Nat.{min}
+use Rattle.pair_table.proofs.Walk.{_*_, _+_, _<_, _^_, _≤_, suc, zero, ℕ, Fml, GName, Lft, Share, fat, fdies, flft, froom, fsep, ftrue, SProp, emp, ent, exE, exI, fst∗, guardI, id⊢, sep, snd∗, via, le-ltb, lt-ltb, Fun, fact, givenOf, tables, tablesOf, bool, u16, usize, yes}
+use Rattle.pair_table.proofs.Walk.{elem-back, elem-out, looks-slice, place-is, shuts-slice, Is, shows, pointee, bool-lawful, uint-lawful, uint-makes, uint-tells, uint-vals, RattleType, RefT, now, plain, Room, ShrSlice, shr-slice-copy, shr-slice-tells, slice-vals, sliceTy}
+use Rattle.pair_table.proofs.Walk.{sliceVal, facts, heard, nothing, only, owned, calls-at, ensured, lasts, Vals, onEntry, Meets, tripleOf, Contract, Triple, cited, entered, Stays, Walks, ends-at, goes-none, goes-none-slice, says, stay-none, stay-none-slice, walk-meets}
+use Rattle.pair_table.proofs.Walk.{walkOf, walked, Atoms, sem, fullShare, URA, getD, length, Nat·lt-wfRel, Bool, List, [], _∷_, _∙_, _≡_, ap, refl, sym, Body, Ty, add, assign, copy, imm, int, named, op2, place, tyBool, tyInt, tyPtr, tyRef, unsigned, w16, w64, Val, vbool}
+use Rattle.pair_table.proofs.Walk.{vint, vptr, lt-suc-self, arith, Memory, Routine, Calls, Env, Heap, Loops, Tables, Wp, WpFn, afterBlock, afterSeq, atReturn, afterTurn, WpFn-mono, fmOf, !, Given, Item, Sq, _$_, _∵_, _⊛_, anyQ, atRet, await, by, done, drop, fjoin, frame}
+use Rattle.pair_table.proofs.Walk.{fsplit, given, join, later, learn, move, pick, qed, raw, rewrite, runs, some, split, suffices, use0, use1, use2, ‵, ⋆, look-in, sub, whole, Below, again, alloc0, alloc1, and-then, assigns, assigns-last, bin, blocks, branches, enter, exec}
+use Rattle.pair_table.proofs.Walk.{first, fld, forget, free0, free1, from, hop, init, land, leaves-loop, lit, load, look, look-raw, loops, no-more, of-opd, params1, pass0, pass1, returns, returns-within, skips, stays, stop, store}
+use Prim.Native.Nat.{min, _-_}
 use native.Mathlib.Nat.{min-le-left, min-le-right}
 use types.Kit as Kit
 use denote.Struct.Laws as LL
@@ -28,6 +28,10 @@ use Rattle.pair_table.proofs.least as least′
 use Rattle.pair_table.proofs.least.Symbol as least-def
 use Rattle.pair_table.proofs.least.Symbol.{name as #least}
 use Rattle.pair_table.proofs.least.Met as least-thm
+use Rattle.pair_table.proofs.find_block as block′
+use Rattle.pair_table.proofs.find_block.Symbol as block-def
+use Rattle.pair_table.proofs.find_block.Symbol.{name as #find-block}
+use Rattle.pair_table.proofs.find_block.Met as block-thm
 use Rattle.pair_table.proofs.find.Key.{name as #find}
 use Rattle.pair_table.proofs.find as f
 use Rattle.pair_table.proofs.find.Statement as stated
@@ -57,6 +61,10 @@ slice = sliceTy (tyRef (named 0) imm (pointee (R .written)))
 abbrev onward : Body
 onward = assign (place 6 []) (op2 (add unsigned) (copy (place 6 [])) (int w64 1))
 
+-- what the blocks leave: the search from n is the search from the start
+abbrev Left : List Pair → ℕ → ℕ → ℕ → ℕ → Type 0
+Left ys e l r n = (n ≤ e) × (seek ys (l, r) (e - n) n ≡ seek ys (l, r) e 0)
+
 module _ {M : Type 1} (𝓤 : URA M) (H : Heap 𝓤) (A : Atoms 𝓤) (mem : Memory → SProp 𝓤) (run : Routine → Fun 𝓤) where
   -- the contracts that the proof cites
   abbrev IsPair : Contract 𝓤
@@ -65,11 +73,17 @@ module _ {M : Type 1} (𝓤 : URA M) (H : Heap 𝓤) (A : Atoms 𝓤) (mem : Mem
   abbrev Least : Contract 𝓤
   Least = tripleOf 𝓤 H A least′.signature (least′.spec 𝓤 H A mem run)
 
+  abbrev FindBlock : Contract 𝓤
+  FindBlock = tripleOf 𝓤 H A block′.signature (block′.spec 𝓤 H A mem run)
+
   said-of : (p : Pair) (l r : ℕ) (t : Bool) → ent 𝓤 (ensured 𝓤 H A is′.ended (is′.clauses 𝓤 H A mem run) tt (p, (l, (r, tt))) tt t) (fact 𝓤 (t ≡ sameTwo (l, r) (twoOf p)))
   said-of p l r t = exE 𝓤 _ (λ ws. snd∗ 𝓤 (sem 𝓤 H A (lasts is′.ended tt (p, (l, (r, tt))) ws)) (fact 𝓤 (t ≡ sameTwo (l, r) (twoOf p))))
 
   least-of : (a c n : ℕ) → ent 𝓤 (ensured 𝓤 H A least′.ended (least′.clauses 𝓤 H A mem run) tt (a, (c, tt)) tt n) (fact 𝓤 (n ≡ min a c))
   least-of a c n = exE 𝓤 _ (λ ws. snd∗ 𝓤 (sem 𝓤 H A (lasts least′.ended tt (a, (c, tt)) ws)) (fact 𝓤 (n ≡ min a c)))
+
+  block-of : (κ : Lft) (x : RefT (List Pair)) (e l r n : ℕ) → ent 𝓤 (ensured 𝓤 H A block′.ended (block′.clauses 𝓤 H A mem run) (κ, tt) (x, (e, (l, (r, tt)))) tt n) (fact 𝓤 (Left (now x) e l r n))
+  block-of κ x e l r n = exE 𝓤 _ (λ ws. snd∗ 𝓤 (sem 𝓤 H A (lasts block′.ended (κ, tt) (x, (e, (l, (r, tt)))) ws)) (fact 𝓤 (Left (now x) e l r n)))
 
 module _ {M : Type 1} (𝓤 : URA M) (H : Heap 𝓤) (A : Atoms 𝓤) (W : Given 𝓤 H A) (mem : Memory → SProp 𝓤) (run : Routine → Fun 𝓤) (κ : Lft) (q : Share) (b o : ℕ) (γ : GName) (ys : List Pair) (c l r : ℕ)
     (gn : Room R (length ys)) (gc : c < 2 ^ 64) (gl : l < 2 ^ 16) (gr : r < 2 ^ 16) where
@@ -114,6 +128,16 @@ module _ {M : Type 1} (𝓤 : URA M) (H : Heap 𝓤) (A : Atoms 𝓤) (W : Given
   goes-least =
       qed W [] ∵ nothing ! $ owned ! usize (Is usize) (uint-makes 𝓤 H A W w64) (length ys) _ (refl, gn .0) $ fjoin ! $ owned ! usize (Is usize) (uint-makes 𝓤 H A W w64) c _ (refl, gc) $ fjoin ! $ nothing ! $ join ! $ frame ! $ done !
 
+  -- the call of `find_block`
+  abbrev to-block : FindBlock 𝓤 H A mem run .Ghost
+  to-block = (((κ, tt), (q, tt), tt, (x .0, (end, (l, (r, tt)))), (s ∷ [], (vint w64 end ∷ [], (vint w16 l ∷ [], (vint w16 r ∷ [], tt))))), tt)
+
+  goes-block : ent 𝓤 (sep 𝓤 (sep 𝓤 (A .lft κ q) (sem 𝓤 H A ftrue)) (sem 𝓤 H A Own)) (FindBlock 𝓤 H A mem run .pre to-block)
+  goes-block =
+      qed W ((‵ (flft κ q) ⊛ ‵ ftrue) ∷ ‵ Own ∷ []) ∵ says ! (min-le-right c (length ys)) $ frame ! $
+      nothing ! $ owned ! u16 (Is u16) (uint-makes 𝓤 H A W w16) r _ (refl, gr) $ fjoin ! $ owned ! u16 (Is u16) (uint-makes 𝓤 H A W w16) l _ (refl, gl) $ fjoin ! $
+      owned ! usize (Is usize) (uint-makes 𝓤 H A W w64) end _ (refl, end-fits) $ fjoin ! $ move ! (1 ∷ 0 ∷ []) $ fjoin ! $ done !
+
   -- the call of `is_pair`
   abbrev mach : Pair → Val
   mach p = LL.val P.the-type P′.the-laws p
@@ -126,7 +150,7 @@ module _ {M : Type 1} (𝓤 : URA M) (H : Heap 𝓤) (A : Atoms 𝓤) (W : Given
       qed W [] ∵ nothing ! $ owned ! u16 (Is u16) (uint-makes 𝓤 H A W w16) r _ (refl, gr) $ fjoin ! $ owned ! u16 (Is u16) (uint-makes 𝓤 H A W w16) l _ (refl, gl) $ fjoin ! $
       owned ! R (Is R) (LL.makes P.the-type P′.the-plain 𝓤 H A) p _ g $ fjoin ! $ nothing ! $ join ! $ frame ! $ done !
 
-  module _ (𝓣 : Tables 𝓤 H) (known-least : Triple 𝓤 (𝓣 .C #least) (Least 𝓤 H A mem run)) (known-is : Triple 𝓤 (𝓣 .C #is-pair) (IsPair 𝓤 H A mem run)) (l₀ l₁ l₂ l₃ l₄ l₅ l₆ l₇ l₈ l₉ l₁₀ l₁₁ l₁₂ : ℕ) where
+  module _ (𝓣 : Tables 𝓤 H) (known-least : Triple 𝓤 (𝓣 .C #least) (Least 𝓤 H A mem run)) (known-block : Triple 𝓤 (𝓣 .C #find-block) (FindBlock 𝓤 H A mem run)) (known-is : Triple 𝓤 (𝓣 .C #is-pair) (IsPair 𝓤 H A mem run)) (l₀ l₁ l₂ l₃ l₄ l₅ l₆ l₇ l₈ l₉ l₁₀ l₁₁ l₁₂ : ℕ) where
     abbrev C : Calls 𝓤 H
     C = 𝓣 .C
 
@@ -221,11 +245,11 @@ module _ {M : Type 1} (𝓤 : URA M) (H : Heap 𝓤) (A : Atoms 𝓤) (W : Given
     turns : (t : ℕ) → Sq W (Inv t) (runs C Λ En m.turn-1 (Turn t))
     turns t = pick ! (λ i. learn ! (λ f. turn t i f))
 
-    loop-runs : Sq W (Inv end) (runs C Λ En m.s-4 (anyQ (afterSeq 𝓤 H (Wp 𝓤 H C Λ En m.t-5 (atReturn 𝓤 H En Post)) (atReturn 𝓤 H En Post))))
-    loop-runs = blocks ! $ loops ! 𝓣 _<_ (Nat·lt-wfRel .wf) Inv turns end
+    loop-runs : (t : ℕ) → Sq W (Inv t) (runs C Λ En m.s-4 (anyQ (afterSeq 𝓤 H (Wp 𝓤 H C Λ En m.t-5 (atReturn 𝓤 H En Post)) (atReturn 𝓤 H En Post))))
+    loop-runs t = blocks ! $ loops ! 𝓣 _<_ (Nat·lt-wfRel .wf) Inv turns t
 
-    at-start : Facts end 0
-    at-start = (omega arith, refl)
+    at-start : (n : ℕ) → Left ys end l r n → Facts (end - n) n
+    at-start n h = (omega (arith, h .0), h .1)
 
     -- the body, once the parameters are passed: [0 _12; 2 _11; 4 _10; 6 _9; 8 _8; 10 _7; 12 _6; 14 _5; 16 _4; 18 _3; 20 _2; 22 _1; 24 _0; 26 the token; 27 what the parameters own]
     starts : Sq W (‵ (froom P′.mir l₁₂ 0) ∷ ‵ (fdies P′.mir l₁₂) ∷ ‵ (froom tyPtr l₁₁ 0) ∷ ‵ (fdies tyPtr l₁₁) ∷ ‵ (froom word l₁₀ 0) ∷ ‵ (fdies word l₁₀)
@@ -240,27 +264,33 @@ module _ {M : Type 1} (𝓤 : URA M) (H : Heap 𝓤) (A : Atoms 𝓤) (W : Given
         split ! $ move ! (1 ∷ []) $ use1 W (raw (fact 𝓤 (n ≡ end))) (least-of 𝓤 H A mem run c (length ys) n) $ heard ! (n ≡ end) (λ e. split ! $ drop ! $
         facts ! usize (Is usize) (shows 𝓤 H A usize) n (v ∷ []) (λ is.
         land ! (from ! (stop !)) (init ! 14 refl (uint-lawful 𝓤 H A W w64 .typed n _ is .0)) $ rewrite ! 14 (λ (u : Val). ‵ (fat fullShare word l₅ 0 u)) (ap only (is .0) ∙ ap (vint w64) e) refl $
-        assigns ! (of-opd ! (lit ! tt)) (from ! (stop !)) (init ! 12 refl (tt, record { fits = lit< tt })) $ forget ! 10 refl $
-        -- into the invariant's order
-        move ! (12 ∷ []) $ use1 W (some (λ (j : ℕ). given (Facts end j) (AtI j))) (packs end 0 at-start) $
-        move ! (27 ∷ []) $ fsplit ! $ move ! (28 ∷ []) $ split ! $ move ! (4 ∷ 0 ∷ 2 ∷ 3 ∷ []) $ move ! (4 ∷ []) $ drop ! $
-        first ! $ loop-runs))))
+        -- the slice is Copy, and one copy is passed
+        move ! (27 ∷ []) $ fsplit ! $ use1 W (‵ Own ⊛ ‵ Own) (shr-slice-copy 𝓤 H A W (named 0) κ R .twice (x .0) (s ∷ [])) $ split ! $ move ! (29 ∷ 0 ∷ []) $ use2 W (raw (FindBlock 𝓤 H A mem run .pre to-block)) goes-block $
+        -- [`find_block`'s pre; the slice; the others; 3 _12; …; 13 _7; 15 _6; 17 _5; 19 _4; 21 _3; 23 _2; 25 _1; 27 _0]
+        calls-at ! (fmOf 𝓤 H (W .laws) 𝓣) (FindBlock 𝓤 H A mem run) known-block to-block (and-then ! (load ! (from ! (stop !)) (look ! 25 refl)) (and-then ! (load ! (from ! (stop !)) (look ! 17 refl)) (and-then ! (load ! (from ! (stop !)) (look ! 21 refl)) (and-then ! (load ! (from ! (stop !)) (look ! 19 refl)) (no-more !))))) (λ w.
+        use1 W (later (some (λ (n : ℕ). ((‵ (flft κ q) ⊛ ‵ ftrue) ⊛ ‵ (usize .own n (w ∷ []))) ⊛ raw (ensured 𝓤 H A block′.ended (block′.clauses 𝓤 H A mem run) (κ, tt) (x .0, (end, (l, (r, tt)))) tt n)))) (id⊢ 𝓤 _) $ await ! tt $ pick ! (λ n₂.
+        split ! $ move ! (1 ∷ []) $ use1 W (raw (fact 𝓤 (Left ys end l r n₂))) (block-of 𝓤 H A mem run κ (x .0) end l r n₂) $ heard ! (Left ys end l r n₂) (λ h. split ! $ move ! (1 ∷ []) $
+        facts ! usize (Is usize) (shows 𝓤 H A usize) n₂ (w ∷ []) (λ is₂.
+        land ! (from ! (stop !)) (init ! 15 refl (uint-lawful 𝓤 H A W w64 .typed n₂ _ is₂ .0)) $ rewrite ! 15 (λ (u : Val). ‵ (fat fullShare word l₆ 0 u)) (ap only (is₂ .0)) refl $ forget ! 13 refl $
+        -- into the invariant's order: [the token; the slice; the others; 3 _12; …; 15 _6; …], then i first
+        split ! $ move ! (1 ∷ []) $ drop ! $ move ! (15 ∷ []) $ use1 W (some (λ (j : ℕ). given (Facts (end - n₂) j) (AtI j))) (packs (end - n₂) n₂ (at-start n₂ h)) $
+        first ! $ loop-runs (end - n₂)))))))))
 
-  walk : (𝓣 : Tables 𝓤 H) → Triple 𝓤 (𝓣 .C #least) (Least 𝓤 H A mem run) → Triple 𝓤 (𝓣 .C #is-pair) (IsPair 𝓤 H A mem run) → ent 𝓤 (onEntry 𝓤 H A f.signature (κ, tt) (q, tt) x at)
+  walk : (𝓣 : Tables 𝓤 H) → Triple 𝓤 (𝓣 .C #least) (Least 𝓤 H A mem run) → Triple 𝓤 (𝓣 .C #find-block) (FindBlock 𝓤 H A mem run) → Triple 𝓤 (𝓣 .C #is-pair) (IsPair 𝓤 H A mem run) → ent 𝓤 (onEntry 𝓤 H A f.signature (κ, tt) (q, tt) x at)
       (WpFn 𝓤 H (𝓣 .C) (𝓣 .Λ) code.function (s ∷ vint w64 c ∷ vint w16 l ∷ vint w16 r ∷ []) Post)
-  walk 𝓣 known-least known-is =
+  walk 𝓣 known-least known-block known-is =
       qed W ((‵ (flft κ q) ⊛ ‵ ftrue) ∷ ‵ (fsep Own Others) ∷ []) ∵ enter ! (𝓣 .C) (𝓣 .Λ) code.function (s ∷ vint w64 c ∷ vint w16 l ∷ vint w16 r ∷ []) _ $
       alloc1 ! (λ l₀. alloc1 ! (λ l₁. alloc1 ! (λ l₂. alloc1 ! (λ l₃. alloc1 ! (λ l₄. alloc1 ! (λ l₅. alloc1 ! (λ l₆. alloc1 ! (λ l₇. alloc1 ! (λ l₈. alloc1 ! (λ l₉. alloc1 ! (λ l₁₀. alloc1 ! (λ l₁₁. alloc1 ! (λ l₁₂. alloc0 ! $ params1 ! $
       pass1 ! (init ! 22 refl (tt, (tt, (record { fits = gn .0 }, tt)))) $ pass1 ! (init ! 20 refl (tt, record { fits = gc })) $ pass1 ! (init ! 18 refl (tt, record { fits = gl })) $ pass1 ! (init ! 16 refl (tt, record { fits = gr })) $ pass0 ! $
-      starts 𝓣 known-least known-is l₀ l₁ l₂ l₃ l₄ l₅ l₆ l₇ l₈ l₉ l₁₀ l₁₁ l₁₂)))))))))))))
+      starts 𝓣 known-least known-block known-is l₀ l₁ l₂ l₃ l₄ l₅ l₆ l₇ l₈ l₉ l₁₀ l₁₁ l₁₂)))))))))))))
 
 module _ {M : Type 1} (𝓤 : URA M) (H : Heap 𝓤) (A : Atoms 𝓤) (W : Given 𝓤 H A) (mem : Memory → SProp 𝓤) (run : Routine → Fun 𝓤) (𝓣 : Tables 𝓤 H)
-    (known-least : Triple 𝓤 (𝓣 .C #least) (Least 𝓤 H A mem run)) (known-is : Triple 𝓤 (𝓣 .C #is-pair) (IsPair 𝓤 H A mem run)) where
+    (known-least : Triple 𝓤 (𝓣 .C #least) (Least 𝓤 H A mem run)) (known-block : Triple 𝓤 (𝓣 .C #find-block) (FindBlock 𝓤 H A mem run)) (known-is : Triple 𝓤 (𝓣 .C #is-pair) (IsPair 𝓤 H A mem run)) where
   find-walks : Walks 𝓤 H A f.ended stayed (WpFn 𝓤 H (𝓣 .C) (𝓣 .Λ) code.function) (f.clauses 𝓤 H A mem run)
   find-walks = walked 𝓤 H A f.ended stayed (f.clauses 𝓤 H A mem run) (WpFn 𝓤 H (𝓣 .C) (𝓣 .Λ) code.function)
       (λ κs. (slice-vals, (uint-vals w64, (uint-vals w16, (uint-vals w16, tt))))) (λ κs. (shr-slice-tells (named 0) (κs .0) R, (uint-tells w64, (uint-tells w16, (uint-tells w16, tt)))))
       (λ κs qs bounds a g are. via 𝓤 _ (fst∗ 𝓤 _ (emp 𝓤))
-      (walk 𝓤 H A W mem run (κs .0) (qs .0) (a .0 .ptr .0) (a .0 .ptr .1) (a .0 .name) (a .0 .now) (a .1 .0) (a .1 .1 .0) (a .1 .1 .1 .0) (are .0 .0 .1) (are .1 .0 .1) (are .1 .1 .0 .1) (are .1 .1 .1 .0 .1) 𝓣 known-least known-is))
+      (walk 𝓤 H A W mem run (κs .0) (qs .0) (a .0 .ptr .0) (a .0 .ptr .1) (a .0 .name) (a .0 .now) (a .1 .0) (a .1 .1 .0) (a .1 .1 .1 .0) (are .0 .0 .1) (are .1 .0 .1) (are .1 .1 .0 .1) (are .1 .1 .1 .0 .1) 𝓣 known-least known-block known-is))
 
   find-meets : Meets 𝓤 H A f.signature (WpFn 𝓤 H (𝓣 .C) (𝓣 .Λ) code.function) (f.spec 𝓤 H A mem run)
   find-meets =
@@ -274,4 +304,5 @@ find-spec 𝓤 H 𝓜 𝓖 𝓡 =
     (tables 𝓤 H 𝓜 𝓡 code.env .C) (tables 𝓤 H 𝓜 𝓡 code.env .Λ) #find code.function (code.unfolded 𝓤 H 𝓜 𝓡)
     (find-meets 𝓤 H (𝓖 .A) (givenOf 𝓤 H 𝓜 𝓖) (𝓜 .mem) (𝓡 .run) (tablesOf 𝓤 H 𝓜 (tables 𝓤 H 𝓜 𝓡 code.env))
     (cited 𝓤 H (Least 𝓤 H (𝓖 .A) (𝓜 .mem) (𝓡 .run)) 𝓜 𝓡 code.env #least least-def.routine code.calls-pair-table·least (least-thm.met 𝓤 H 𝓜 𝓖 𝓡))
+    (cited 𝓤 H (FindBlock 𝓤 H (𝓖 .A) (𝓜 .mem) (𝓡 .run)) 𝓜 𝓡 code.env #find-block block-def.routine code.calls-pair-table·find-block (block-thm.met 𝓤 H 𝓜 𝓖 𝓡))
     (cited 𝓤 H (IsPair 𝓤 H (𝓖 .A) (𝓜 .mem) (𝓡 .run)) 𝓜 𝓡 code.env #is-pair is-def.routine code.calls-pair-table·is-pair (is-thm.met 𝓤 H 𝓜 𝓖 𝓡)))
