@@ -11,7 +11,7 @@ use Rattle.spec.specs.Graph.{build}
 use Rattle.laws.specs.Valid.{Valid}
 use Rattle.lgg.specs.BestMembers.{IsPair}
 use Rattle.lgg.specs.Graph.{build-closed}
-use Rattle.graph.specs.Built.{left-at, right-at, built-some, built-few, built-below, built-within, built-number}
+use Rattle.graph.specs.Built.{left-at, right-at, built-distinct, built-some, built-few, built-below, built-within, built-number}
 use Rattle.graph.specs.Building.{numbered, over, code}
 use Rattle.rounds.specs.Arrays.{pairsIn}
 use Rattle.rounds.specs.ArrayLaws.{twos-length, twos-at}
@@ -43,5 +43,6 @@ graphs-built t v p i b c ps e m wide = record {
   below = built-below t p b c ps e m;
   numbers = built-number t p b c ps e v i (replicate m 0) (omega (arith, length-replicate {A = ℕ} m 0, v .counts .fewClasses));
   closed = build-closed t p b c ps e;
+  once = built-distinct t p b c ps e;
   pairs = built-within t p b c ps e v i;
 }

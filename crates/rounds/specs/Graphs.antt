@@ -12,7 +12,7 @@ use Rattle.spec.specs.Pool.{Pool}
 use Rattle.spec.specs.Meaning.{In}
 use Rattle.lgg.specs.BestMembers.{IsPair}
 use Rattle.lgg.specs.Rounds.{Closed}
-use Rattle.lgg.specs.Lists.{get-in}
+use Rattle.lgg.specs.Lists.{get-in, Distinct}
 use Rattle.lgg.specs.Standing.{Standing, place-in, Midway}
 use Rattle.lgg.specs.PoolIntern.{extends-within}
 use Rattle.lgg.specs.TurnsFrom.{turnTerm}
@@ -37,6 +37,7 @@ pub record Graphs (t : Tables) (ps : List Two) (n : ℕ) (index : List ℕ) : Ty
   pub below : (i : ℕ) → getD index i 0 < n
   pub numbers : (p : Two) → In p ps → numberIn index p ≡ place (sameTwo p) ps
   pub closed : Closed t ps
+  pub once : Distinct ps
   pub pairs : InRange t ps
 
 pub graphs-length : (t : Tables) (ps : List Two) (n : ℕ) (index : List ℕ) → Graphs t ps n index → Graphs t ps (length ps) index
@@ -59,7 +60,7 @@ module _ (t : Tables) (ps : List Two) (n : ℕ) (index : List ℕ) (G : Graphs t
   term-here k h = sym (part-at pairs 8192 n k h) ∙ ap (λ (l : List ℕ). getD l k 0) (R .terms)
 
   -- what the code reads of a pair is what the state has of it
-  agree-quality : (c : Two) → In c ps → qualityIn index pairs c ≡ lookUp (0, 0) ps (s .qualities) c
+  pub agree-quality : (c : Two) → In c ps → qualityIn index pairs c ≡ lookUp (0, 0) ps (s .qualities) c
   agree-quality c i =
       ap (λ (k : ℕ). (getD pairs k 0, getD pairs (4096 + k) 0)) (G .numbers c i)
       ∙ quality-here (place (sameTwo c) ps) (omega (arith, place-in c ps i, G .many))

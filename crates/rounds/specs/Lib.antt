@@ -5,5 +5,6 @@ pub mod Spending
 pub mod Graphs
 pub mod Turning
 pub mod TakeLaws
+pub mod Quiet
 pub mod Outcomes
 pub mod Running

@@ -13,6 +13,10 @@ use Rattle.spec.specs.Round.{changes, Terms}
 use Rattle.spec.specs.Run as run
 use Rattle.spec.specs.Run.{State, outcome}
 use Rattle.spec.specs.Listing.{listingOf}
+use Rattle.laws.specs.Valid.{Valid}
+use Rattle.laws.specs.Buffers.{over}
+use Rattle.changes.specs.Marks.{liveOf}
+use Rattle.changes.specs.MarkLaws.{live-at}
 use Rattle.lgg.specs.PoolIntern.{Extends, extends-refl, extends-within}
 use Rattle.lgg.specs.Rounds.{Closed}
 use Rattle.lgg.specs.RoundsFrom.{turnsAt, roundAt, stateAfter, roundsOf, rounds-expired, rounds-refused, rounds-cut, rounds-quiet, rounds-next, round-left as rounds-left}
@@ -23,7 +27,8 @@ use Rattle.terms.specs.Chains.{Holds}
 use Rattle.rounds.specs.Arrays.{NEW, qualitiesIn, termsIn, stateIn}
 use Rattle.rounds.specs.ArrayLaws.{twos-at}
 use Rattle.terms.specs.PartLaws.{part-at}
-use Rattle.rounds.specs.Graphs.{Reads}
+use Rattle.rounds.specs.Graphs.{InRange, Reads}
+use Rattle.rounds.specs.Quiet.{Quiet, Marks, marks-finished, quiet-next}
 use Rattle.budget.specs.declared.Budget.{Budget}
 use Rattle.rounds.specs.Turning.{Turning, Relaxes, relaxes-full, relaxes-cut, relaxes-finished, turns-done, turns-changed, turns-qualities}
 use Rattle.rounds.specs.Outcomes.{RanTo}
@@ -145,3 +150,11 @@ module _ (t : Tables) (ps : List Two) (n : ℕ) (many : length ps ≡ n) (some :
 
       pub round-next : Closed t ps → changed ≡ true → (pairs″ : List ℕ) → length pairs″ ≡ length pairs′ → qualitiesIn pairs″ 0 n ≡ qualitiesIn pairs′ NEW n → termsIn pairs″ 0 n ≡ termsIn pairs′ NEW n → Running t ps n m pairs″ terms′ runs′ (rounds + 1) (d .left)
       round-next = run-next c left pairs′ terms′ runs′ (d .left) changed turned
+
+      -- the classes that are live in the next round
+      pub round-quiets : Valid t → InRange t ps → Closed t ps → (left right ll ll′ rl rl′ : List ℕ) → Marks t ps (Read .qualities) left right x → ll′ ≡ over (liveOf t left) ll → rl′ ≡ over (liveOf t right) rl
+          → (pairs″ : List ℕ) → qualitiesIn pairs″ 0 n ≡ qualitiesIn pairs′ NEW n → Quiet t ps (qualitiesIn pairs″ 0 n) ll′ rl′
+      round-quiets v i closed left right ll ll′ rl rl′ Z el er pairs″ eq =
+          quiet-next t v ps i closed (Read .qualities) (qualitiesIn pairs″ 0 n)
+          (eq ∙ ap (λ (k : ℕ). qualitiesIn pairs′ NEW k) (sym many) ∙ turns-qualities t ps Read (roundAt t ps Read c) pairs′ terms′ runs′ (d .left) changed turned)
+          left right (marks-finished t ps (Read .qualities) left right x Z changed d e) ll′ rl′ (live-at t left ll ll′ el) (live-at t right rl rl′ er)

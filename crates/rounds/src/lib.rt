@@ -3,6 +3,7 @@ use budget::Budget;
 use image::Image;
 use turns::Taken;
 ghost use mathlib.Core.Path.{_≡_};
+ghost use mathlib.Core.Bool.{false};
 ghost use Prim.Native.Nat.{_+_, _≤_, _<_};
 ghost use lib.ListN.{length, getD, set, replicate};
 ghost use Rattle.spec.specs.Image.{tablesOf};
@@ -11,13 +12,16 @@ ghost use Rattle.image.specs.Loaded.{Loaded};
 ghost use Rattle.spec.specs.Bytes as bytes;
 ghost use Rattle.lgg.specs.RoundsFrom.{roundAt, roundsOf};
 ghost use Rattle.lgg.specs.Standing.{Standing};
-ghost use Rattle.quality.specs.Known.{Known};
+ghost use Rattle.quality.specs.Known.{Known, numberIn, qualityIn};
 ghost use Rattle.terms.specs.Buffers.{poolOf};
 ghost use Rattle.terms.specs.Chains.{Holds};
+ghost use Rattle.changes.specs.Marks.{liveOf};
+ghost use Rattle.laws.specs.Buffers.{over};
 ghost use Rattle.rounds.specs.Arrays.{NEW, pairsIn, qualitiesIn, termsIn, given, stateIn};
 ghost use Rattle.rounds.specs.Graphs.{Graphs};
 ghost use Rattle.rounds.specs.TakeLaws.{TermsHeld};
 ghost use Rattle.rounds.specs.Turning.{turnIn, termMade, Steps, Relaxes};
+ghost use Rattle.rounds.specs.Quiet.{unturned, liveIn, Quiet, Marks, markedBy, keptAt};
 ghost use Rattle.rounds.specs.Running.{reportedIn};
 ghost use Rattle.rounds.specs.Outcomes.{RanTo};
 
@@ -184,14 +188,40 @@ fn take_one(
     }
 }
 
-// A round over the pairs: "one [check] a pair in it".
-fn relax_all(
+// ---- turns that cannot improve
+// pair (l, r) is live: both classes are over one that changed
+fn live(llive: &[u8; 256], rlive: &[u8; 256], l: usize, r: usize) -> bool
+    requires { ⌜ (l < 256) × (r < 256) ⌝ }
+    ensures { λ x. ⌜ x ≡ liveIn (now (llive .entry)) (now (rlive .entry)) (l, r) ⌝ }
+{
+    if 0 < llive[l] {
+        return 0 < rlive[r];
+    }
+    false
+}
+
+// pair k keeps its size, mass and term
+fn keep_one(pairs: &mut [u32], k: usize)
+    requires { ⌜ (k < 4096) × (24576 ≤ length (now pairs)) ⌝ }
+    ensures { λ _. ⌜ now (pairs .exit) ≡ keptAt (now (pairs .entry)) k ⌝ }
+{
+    let size = pairs[k];
+    let mass = pairs[4096 + k];
+    let term = pairs[8192 + k];
+    give(pairs, 12288 + k, size, mass, term);
+}
+
+// pair k's turn; a pair that is not live keeps what it has
+fn visit(
     s: &[u8],
     im: Image,
-    lefts: &[u16],
-    rights: &[u16],
     index: &[u16],
     n: usize,
+    l: usize,
+    r: usize,
+    k: usize,
+    llive: &[u8; 256],
+    rlive: &[u8; 256],
     ones: &[u8],
     sizes: &mut [u32; 4225],
     masses: &mut [u32; 4225],
@@ -201,23 +231,13 @@ fn relax_all(
     pairs: &mut [u32],
     terms: &mut [u32],
     runs: &mut [u64],
-    b: Budget,
-) -> Round
-    requires { ⌜ Loaded (now s) im × Valid (tablesOf (now s)) × (n ≤ length (now lefts)) × (n ≤ length (now rights)) × Graphs (tablesOf (now s)) (pairsIn (now lefts) (now rights) n) n (now index) × (now ones ≡ replicate 4225 1) × (24576 ≤ length (now pairs)) × Holds (now terms) (now runs) × Standing (tablesOf (now s)) (pairsIn (now lefts) (now rights) n) (stateIn (now pairs) (now terms) (now runs) n 0 0) ⌝ }
-    ensures { λ x. ⌜ Relaxes (tablesOf (now (s .entry))) (pairsIn (now (lefts .entry)) (now (rights .entry)) n) (stateIn (now (pairs .entry)) (now (terms .entry)) (now (runs .entry)) n 0 0) (roundAt (tablesOf (now (s .entry))) (pairsIn (now (lefts .entry)) (now (rights .entry)) n) (stateIn (now (pairs .entry)) (now (terms .entry)) (now (runs .entry)) n 0 0) (b .left)) (now (pairs .exit)) (now (terms .exit)) (now (runs .exit)) x ⌝ }
+) -> Step
+    requires { ⌜ Loaded (now s) im × Valid (tablesOf (now s)) × (l < im .classes) × (r < im .classes) × (k < 4096) × Known n (now index) (now pairs) × (now ones ≡ replicate 4225 1) × Holds (now terms) (now runs) × TermsHeld n (now pairs) (now terms)
+        × (numberIn (now index) (l, r) ≡ k) × (liveIn (now llive) (now rlive) (l, r) ≡ false → turnIn (tablesOf (now s)) (now index) (now pairs) (l, r) ≡ unturned (qualityIn (now index) (now pairs) (l, r))) ⌝ }
+    ensures { λ x. ⌜ Steps (turnIn (tablesOf (now (s .entry))) (now (index .entry)) (now (pairs .entry)) (l, r)) (termMade (tablesOf (now (s .entry))) (now (index .entry)) (now (pairs .entry)) (poolOf (now (terms .entry)) (now (runs .entry))) (l, r)) k (now (pairs .entry)) (now (pairs .exit)) (now (terms .exit)) (now (runs .exit)) x ⌝ }
 {
-    let mut changed = false;
-    let mut bud = b;
-    let mut k = 0;
-    while k < n {
-        let sp = bud.spend();
-        bud = sp.budget;
-        if !sp.passed {
-            return Round::Cut;
-        }
-        let l = class_at(lefts, k);
-        let r = class_at(rights, k);
-        let w = take_one(
+    if live(llive, rlive, l, r) {
+        return take_one(
             s,
             im,
             index,
@@ -235,17 +255,113 @@ fn relax_all(
             terms,
             runs,
         );
+    }
+    keep_one(pairs, k);
+    Step::To(false)
+}
+
+// a pair that changed marks its classes
+fn mark(changed: bool, l: usize, r: usize, lmarks: &mut [u8], rmarks: &mut [u8])
+    requires { ⌜ (l < length (now lmarks)) × (r < length (now rmarks)) ⌝ }
+    ensures { λ _. ⌜ (now (lmarks .exit) ≡ markedBy changed (now (lmarks .entry)) l) × (now (rmarks .exit) ≡ markedBy changed (now (rmarks .entry)) r) ⌝ }
+{
+    if changed {
+        lmarks[l] = 1;
+        rmarks[r] = 1;
+    }
+}
+
+// A round over the pairs: "one [check] a pair in it".
+fn relax_all(
+    s: &[u8],
+    im: Image,
+    lefts: &[u16],
+    rights: &[u16],
+    index: &[u16],
+    n: usize,
+    llive: &[u8; 256],
+    rlive: &[u8; 256],
+    lmarks: &mut [u8],
+    rmarks: &mut [u8],
+    ones: &[u8],
+    sizes: &mut [u32; 4225],
+    masses: &mut [u32; 4225],
+    costs: &mut [u64; 12675],
+    flow: &mut [u64; 4225],
+    list: &mut [u64; 4225],
+    pairs: &mut [u32],
+    terms: &mut [u32],
+    runs: &mut [u64],
+    b: Budget,
+) -> Round
+    requires { ⌜ Loaded (now s) im × Valid (tablesOf (now s)) × (n ≤ length (now lefts)) × (n ≤ length (now rights)) × Graphs (tablesOf (now s)) (pairsIn (now lefts) (now rights) n) n (now index) × (now ones ≡ replicate 4225 1) × (24576 ≤ length (now pairs)) × Holds (now terms) (now runs) × Standing (tablesOf (now s)) (pairsIn (now lefts) (now rights) n) (stateIn (now pairs) (now terms) (now runs) n 0 0)
+        × Quiet (tablesOf (now s)) (pairsIn (now lefts) (now rights) n) (qualitiesIn (now pairs) 0 n) (now llive) (now rlive) × (256 ≤ length (now lmarks)) × (256 ≤ length (now rmarks)) ⌝ }
+    ensures { λ x. ⌜ Relaxes (tablesOf (now (s .entry))) (pairsIn (now (lefts .entry)) (now (rights .entry)) n) (stateIn (now (pairs .entry)) (now (terms .entry)) (now (runs .entry)) n 0 0) (roundAt (tablesOf (now (s .entry))) (pairsIn (now (lefts .entry)) (now (rights .entry)) n) (stateIn (now (pairs .entry)) (now (terms .entry)) (now (runs .entry)) n 0 0) (b .left)) (now (pairs .exit)) (now (terms .exit)) (now (runs .exit)) x
+        × Marks (tablesOf (now (s .entry))) (pairsIn (now (lefts .entry)) (now (rights .entry)) n) (qualitiesIn (now (pairs .entry)) 0 n) (now (lmarks .exit)) (now (rmarks .exit)) x ⌝ }
+{
+    let mut changed = false;
+    let mut bud = b;
+    let mut k = 0;
+    while k < n {
+        let sp = bud.spend();
+        bud = sp.budget;
+        if !sp.passed {
+            return Round::Cut;
+        }
+        let l = class_at(lefts, k);
+        let r = class_at(rights, k);
+        let w = visit(
+            s,
+            im,
+            index,
+            n,
+            l,
+            r,
+            k,
+            llive,
+            rlive,
+            ones,
+            sizes,
+            masses,
+            costs,
+            flow,
+            list,
+            pairs,
+            terms,
+            runs,
+        );
         match w {
             Step::Full => {
                 return Round::Full;
             }
             Step::To(c) => {
+                mark(c, l, r, lmarks, rmarks);
                 changed = either(changed, c);
                 k += 1;
             }
         }
     }
     Round::Finished(changed, bud)
+}
+
+// After a round: its qualities and terms become those of its pairs, and the classes over a marked one are live.
+fn end_round(
+    s: &[u8],
+    im: Image,
+    lmarks: &[u8; 256],
+    rmarks: &[u8; 256],
+    llive: &mut [u8; 256],
+    rlive: &mut [u8; 256],
+    pairs: &mut [u32],
+    n: usize,
+)
+    requires { ⌜ Loaded (now s) im × Valid (tablesOf (now s)) × (n ≤ 4096) × (24576 ≤ length (now pairs)) ⌝ }
+    ensures { λ _. ⌜ (qualitiesIn (now (pairs .exit)) 0 n ≡ qualitiesIn (now (pairs .entry)) NEW n) × (termsIn (now (pairs .exit)) 0 n ≡ termsIn (now (pairs .entry)) NEW n)
+        × (now (llive .exit) ≡ over (liveOf (tablesOf (now (s .entry))) (now (lmarks .entry))) (now (llive .entry))) × (now (rlive .exit) ≡ over (liveOf (tablesOf (now (s .entry))) (now (rmarks .entry))) (now (rlive .entry))) ⌝ }
+{
+    changes::touch_all(s, im, lmarks, llive);
+    changes::touch_all(s, im, rmarks, rlive);
+    settle(pairs, n);
 }
 
 // "The run is complete at the first finished round without change." "The rounds reported are the finished ones that changed a quality."
@@ -264,6 +380,8 @@ pub fn run_rounds(
     requires { ⌜ Loaded (now s) im × Valid (tablesOf (now s)) × (n ≤ length (now lefts)) × (n ≤ length (now rights)) × Graphs (tablesOf (now s)) (pairsIn (now lefts) (now rights) n) n (now index) × (24576 ≤ length (now pairs)) × Holds (now terms) (now runs) × Standing (tablesOf (now s)) (pairsIn (now lefts) (now rights) n) (stateIn (now pairs) (now terms) (now runs) n 0 (b .left)) ⌝ }
     ensures { λ x. ⌜ RanTo (roundsOf (tablesOf (now (s .entry))) (pairsIn (now (lefts .entry)) (now (rights .entry)) n) (stateIn (now (pairs .entry)) (now (terms .entry)) (now (runs .entry)) n 0 (b .left))) (now (terms .exit)) (now (runs .exit)) x ⌝ }
 {
+    let mut llive = [1u8; 256];
+    let mut rlive = [1u8; 256];
     let ones = [1u8; 4225];
     let mut sizes = [0u32; 4225];
     let mut masses = [0u32; 4225];
@@ -278,6 +396,8 @@ pub fn run_rounds(
         if !sp.passed {
             return Ran::Done(reported(pairs, false, n, rounds));
         }
+        let mut lmarks = [0u8; 256];
+        let mut rmarks = [0u8; 256];
         let x = relax_all(
             s,
             im,
@@ -285,6 +405,10 @@ pub fn run_rounds(
             rights,
             index,
             n,
+            &llive,
+            &rlive,
+            &mut lmarks,
+            &mut rmarks,
             &ones,
             &mut sizes,
             &mut masses,
@@ -307,7 +431,7 @@ pub fn run_rounds(
                 if !changed {
                     return Ran::Done(reported(pairs, true, n, rounds));
                 }
-                settle(pairs, n);
+                end_round(s, im, &lmarks, &rmarks, &mut llive, &mut rlive, pairs, n);
                 bud = left;
                 rounds += 1;
             }
