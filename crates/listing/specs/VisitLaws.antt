@@ -15,7 +15,7 @@ use Rattle.lgg.specs.Lists.{in-map}
 use Rattle.terms.specs.Buffers.{part, unpack, firstIn, lengthIn, partIn, poolOf, countIn}
 use Rattle.terms.specs.Chains.{Holds}
 use Rattle.terms.specs.PartLaws.{part-cons}
-use Rattle.terms.specs.PoolLaws.{pool-length, pool-at, runs-fit}
+use Rattle.terms.specs.PoolLaws.{pool-length, pool-at, first-inside}
 use Rattle.listing.specs.Numbering.{orderFrom, orderIn, settle, settleAll, cleared, numbersOf, Numbered, Walk, Listed}
 use Rattle.listing.specs.WalkLaws.{not-seen, visit-seen, visit-fresh, visit-fuel, children-new}
 use Rattle.listing.specs.NumberLaws.{order-length, order-is, seen, fresh, walk-length, one-more, walk-none, walk-then, walk-more, numbered-none}
@@ -38,7 +38,7 @@ module _ (terms runs : List ℕ) (H : Holds terms runs) (t : ℕ) (b : t < count
   child-below i h k = H .valid .nodes t (rw (pool-length terms runs) b) .below .earlier (unpack (getD runs i 0)) (run-in i h k)
 
   pub within : firstIn terms (t + 1) ≤ length runs
-  within = omega (arith, runs-fit terms runs H t b, H .rises t b, H .roomy)
+  within = first-inside terms runs H (t + 1) (omega (arith, b))
 
 -- the loop over t's runs, before place i
 pub record Visiting (terms runs v : List ℕ) (n0 t end : ℕ) (w : List ℕ) (i n : ℕ) : Type 0 where
