@@ -1,6 +1,5 @@
 use mathlib.Core.Path.{sym, _∙_}
 use native.Mathlib.Omega.{arith}
-use borrow.Author.Needs.{needs}
 use Rattle.spec.specs.Image.{tablesOf}
 use Rattle.image.specs.Loaded.{classes-many}
 use Rattle.rounds.specs.Quiet.{kept-moves}
