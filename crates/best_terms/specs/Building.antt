@@ -143,6 +143,13 @@ shift t c e f h = rw (e, ← f) h
 pub grown-to : {x y z : Pool} → y ≡ z → Extends x z → Extends x y
 grown-to e g = rw e g
 
+-- what stands in the buffers where building stops short
+pub record Leaves (t : Tables) (terms₀ runs₀ best₀ terms′ runs′ best′ : List ℕ) : Type 0 where
+  pub holds : Holds terms′ runs′
+  pub kept : Kept t (poolOf terms′ runs′) best′
+  pub grows : Grows terms₀ runs₀ terms′ runs′ (poolOf terms′ runs′)
+  pub keeps : Keeps t best₀ best′
+
 -- what `build_best_term` gives
 pub record Builds (t : Tables) (terms₀ runs₀ best₀ : List ℕ) (class : ℕ) (terms′ runs′ best′ : List ℕ) (r : Entered) : Type 0 where
   pub answer : r ≡ enteredOf (bestTerm t (poolOf terms₀ runs₀) class)
@@ -164,6 +171,10 @@ term-told (refused n) a e = let z : _≡_ {A = ℕ} 0 1 = cc in absurd (omega ar
 pub walk-start : (t : Tables) (class : ℕ) (terms runs best : List ℕ) → Holds terms runs → Kept t (poolOf terms runs) best → class < length (t .classes) → getD best class 0 ≡ 0
     → (waiting : List ℕ) → getD waiting class 0 ≡ 0 → Walk t terms runs best class terms runs best waiting class
 walk-start t class terms runs best H K h u waiting z = record { stack = []; holds = H; kept = K; within = h; unbuilt = u; linked = bottom z; same = sym (onward-end t (bestTerm t (poolOf terms runs) class)); grows = grows-none terms runs H; keeps = keeps-refl t best; marks = sym (reach-on-end t (reach t (marksOf best) class)) }
+
+pub walk-short : {t : Tables} {terms₀ runs₀ best₀ : List ℕ} {class : ℕ} {terms runs best waiting : List ℕ} {c : ℕ} → Walk t terms₀ runs₀ best₀ class terms runs best waiting c
+    → {terms′ runs′ : List ℕ} → (terms′ ≡ terms) × (runs′ ≡ runs) → Leaves t terms₀ runs₀ best₀ terms′ runs′ best
+walk-short W s = rw (s .0, s .1) (record { holds = W .holds; kept = W .kept; grows = W .grows; keeps = W .keeps })
 
 -- child number i of the class at hand, all earlier ones built
 split-kids : (l : List Two) (i : ℕ) → i < length l → l ≡ take i l ++ (getD l i (0, 0) ∷ drop (suc i) l)

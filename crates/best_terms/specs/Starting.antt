@@ -18,8 +18,9 @@ use Rattle.lgg.specs.Results.{ok-inj, refused-ok}
 use Rattle.lgg.specs.Pool.{PoolValid, variants-valid}
 use Rattle.lgg.specs.PoolIntern.{Extends, extends-within, intern-enters}
 use Rattle.terms.specs.Buffers.{poolOf, nodesIn, countIn}
-use Rattle.terms.specs.Chains.{Holds}
-use Rattle.terms.specs.Interning.{enteredOf, poolAfter}
+use Rattle.terms.specs.Chains.{Holds, Whole}
+use Rattle.terms.specs.Interning.{enteredOf, poolAfter, Unless}
+use Rattle.terms.specs.ShortLaws.{as-short}
 use Rattle.terms.specs.Growing.{laidOver, Grows}
 use Rattle.terms.specs.GrowLaws.{grows-then}
 use Rattle.best_terms.specs.Reaching.{mark, marksOf, reachAll, reachIn, reach, numberOf, bestAfter, bestsAfter}
@@ -27,9 +28,13 @@ use Rattle.best_terms.specs.ReachLaws.{reach-marked, reach-there, mark-n
 use Rattle.best_terms.specs.Bests.{Gives, Kept}
 use Rattle.terms.specs.PoolLaws.{pool-length}
 use Rattle.best_terms.specs.BestLaws.{Again, best-again}
-use Rattle.best_terms.specs.Building.{Builds, Keeps, keeps-then, full-told, term-told, kept-grows, grown-to}
+use Rattle.best_terms.specs.Building.{Leaves, Builds, Keeps, keeps-then, full-told, term-told, kept-grows, grown-to}
 use Rattle.terms.specs.declared.Entered.{Entered}
 use Rattle.terms.specs.declared.Entered.the-variants as E
+
+-- every number is zero
+abbrev pub Cleared : List ℕ → List ℕ → List ℕ → List ℕ → List ℕ → List ℕ → Type 0
+Cleared terms runs best terms′ runs′ best′ = (terms′ ≡ replicate (length terms) 0) × (runs′ ≡ replicate (length runs) 0) × (best′ ≡ replicate (length best) 0)
 
 -- The starting term of a pair of classes: entered, or refusal 13 with every number zero.
 pub record Starts (t : Tables) (c : Two) (terms runs best terms′ runs′ best′ : List ℕ) (r : Entered) : Type 0 where
@@ -37,7 +42,7 @@ pub record Starts (t : Tables) (c : Two) (terms runs best terms′ runs′ best�
   pub grows : (a : Interned) → startingTerm t (poolOf terms runs) c ≡ ok a → Grows terms runs terms′ runs′ (a .pool)
   pub bestIs : (a : Interned) → startingTerm t (poolOf terms runs) c ≡ ok a → best′ ≡ bestsAfter t (a .pool) best c
   pub kept : (a : Interned) → startingTerm t (poolOf terms runs) c ≡ ok a → Kept t (a .pool) best′
-  pub cleared : (n : ℕ) → startingTerm t (poolOf terms runs) c ≡ refused n → (terms′ ≡ replicate (length terms) 0) × (runs′ ≡ replicate (length runs) 0) × (best′ ≡ replicate (length best) 0)
+  pub cleared : (n : ℕ) → startingTerm t (poolOf terms runs) c ≡ refused n → Cleared terms runs best terms′ runs′ best′
 
 -- the same before a refusal clears the buffers
 pub record Makes (t : Tables) (c : Two) (terms runs best terms′ runs′ best′ : List ℕ) (r : Entered) : Type 0 where
@@ -61,6 +66,10 @@ module _ (t : Tables) (p : Pool) (l r : ℕ) where
 from-refused : {t : Tables} {c : Two} {terms runs best terms′ runs′ best′ : List ℕ} {n : ℕ} → startingTerm t (poolOf terms runs) c ≡ refused n → Holds terms′ runs′ → Kept t (poolOf terms′ runs′) best′
     → Grows terms runs terms′ runs′ (poolOf terms′ runs′) → Keeps t best best′ → Makes t c terms runs best terms′ runs′ best′ E.Full
 from-refused q h k g s = record { answer = rw q refl; holds = h; kept = k; pool = λ a z. absurd (refused-ok (sym q ∙ z)); grows = g; keeps = s; marks = λ a z. absurd (refused-ok (sym q ∙ z)) }
+
+-- one after the other
+leaves-then : {t : Tables} {terms runs best : List ℕ} {l : ℕ} {terms₁ runs₁ best₁ terms₂ runs₂ best₂ : List ℕ} {r : Entered} → Builds t terms runs best l terms₁ runs₁ best₁ r → Leaves t terms₁ runs₁ best₁ terms₂ runs₂ best₂ → Leaves t terms runs best terms₂ runs₂ best₂
+leaves-then X Y = record { holds = Y .holds; kept = Y .kept; grows = grows-then (X .grows) (Y .grows); keeps = keeps-then (X .keeps) (Y .keeps) }
 
 module _ (t : Tables) (terms runs best : List ℕ) (l r : ℕ) (terms₁ runs₁ best₁ : List ℕ) where
   abbrev p : Pool
@@ -88,6 +97,10 @@ module _ (t : Tables) (terms runs best : List ℕ) (l r : ℕ) (terms₁ runs₁
     one : (x : Interned) × (bestTerm t p l ≡ ok x) × (x .term ≡ a) × (poolOf terms₁ runs₁ ≡ x .pool)
     one = let (x, e, f) = term-told _ a (X .answer) in (x, e, f, X .pool x e)
 
+    pub start-short-second : length terms₁ ≡ length terms → length runs₁ ≡ length runs → (terms₂ runs₂ best₂ : List ℕ) → (Whole terms₁ runs₁ → ⊥) × Leaves t terms₁ runs₁ best₁ terms₂ runs₂ best₂
+        → (Whole terms runs → ⊥) × Leaves t terms runs best terms₂ runs₂ best₂
+    start-short-second lt lr terms₂ runs₂ best₂ u = (as-short terms runs terms₁ runs₁ lt lr (u .0), leaves-then X (u .1))
+
     module _ (d : l ≡ r → ⊥) (terms₂ runs₂ best₂ : List ℕ) where
       pub start-full-second : Builds t terms₁ runs₁ best₁ r terms₂ runs₂ best₂ E.Full → Makes t (l, r) terms runs best terms₂ runs₂ best₂ E.Full
       start-full-second Y =
@@ -109,7 +122,7 @@ module _ (t : Tables) (terms runs best : List ℕ) (l r : ℕ) (terms₁ runs₁
             let i : x .term < length (poolOf terms₁ runs₁) = omega (arith, A .within, ap length g) in
             (omega (arith, extends-within (B .grown) (x .term) i, ap length n, pool-length terms₂ runs₂), omega (arith, B .within, ap length n, pool-length terms₂ runs₂))
 
-        pub start-marked : (terms₃ runs₃ : List ℕ) (o : Entered) → Gives terms₂ runs₂ terms₃ runs₃ (intern (poolOf terms₂ runs₂) (variantsNode a b)) o → Makes t (l, r) terms runs best terms₃ runs₃ best₂ o
+        start-marked : (terms₃ runs₃ : List ℕ) (o : Entered) → Gives terms₂ runs₂ terms₃ runs₃ (intern (poolOf terms₂ runs₂) (variantsNode a b)) o → Makes t (l, r) terms runs best terms₃ runs₃ best₂ o
         start-marked terms₃ runs₃ o G = record {
           answer = G .answer ∙ sym (ap enteredOf is);
           holds = G .holds;
@@ -133,6 +146,12 @@ module _ (t : Tables) (terms runs best : List ℕ) (l r : ℕ) (terms₁ runs₁
                 let N = intern-enters (poolOf terms₂ runs₂) (variantsNode a b) x (Y .holds .valid) (variants-valid (length (poolOf terms₂ runs₂)) a b (omega (arith, pool-length terms₂ runs₂)) (omega (arith, pool-length terms₂ runs₂))) e in
                 kept-grows t v (poolOf terms₂ runs₂) (poolOf terms₃ runs₃) best₂ (Y .holds .valid) (G .holds .valid) (grown-to (G .pool ∙ ap (poolAfter (poolOf terms₂ runs₂)) e) (N .grown)) (Y .kept)
             keeps (refused n) e = rw (G .pool ∙ ap (poolAfter (poolOf terms₂ runs₂)) e) (Y .kept)
+
+        pub start-answer : length terms₂ ≡ length terms → length runs₂ ≡ length runs → (terms₃ runs₃ : List ℕ) (o : Entered) → Unless terms₂ runs₂ o ((terms₃ ≡ terms₂) × (runs₃ ≡ runs₂)) (Gives terms₂ runs₂ terms₃ runs₃ (intern (poolOf terms₂ runs₂) (variantsNode a b)) o)
+            → Unless terms runs o (Leaves t terms runs best terms₃ runs₃ best₂) (Makes t (l, r) terms runs best terms₃ runs₃ best₂ o)
+        start-answer lt lr terms₃ runs₃ E.Short u = (as-short terms runs terms₂ runs₂ lt lr (u .0), rw (u .1 .0, u .1 .1) (leaves-then X (record { holds = Y .holds; kept = Y .kept; grows = Y .grows; keeps = Y .keeps })))
+        start-answer lt lr terms₃ runs₃ (E.Term x) u = start-marked terms₃ runs₃ (E.Term x) u
+        start-answer lt lr terms₃ runs₃ E.Full u = start-marked terms₃ runs₃ E.Full u
 
 -- ---- the kept numbers
 up-length : (a n : ℕ) → length (upFrom a n) ≡ n
@@ -163,7 +182,10 @@ bests-are t p best best′ c long S K M =
     at i (yes u) (yes z) = rw (eq-eqb (getD best i 0) 0 u, ← M, mark-none best′ i z) z
     at i (yes u) (no z) = rw (eq-eqb (getD best i 0) 0 u, ← M, mark-some best′ i (omega arith)) (number i u z (decLt i (length (t .classes))))
 
--- ---- the two ways out
+-- ---- the ways out
+pub starts-cleared : (terms runs best terms₁ runs₁ best₁ : List ℕ) → length terms₁ ≡ length terms → length runs₁ ≡ length runs → length best₁ ≡ length best → (terms₂ runs₂ best₂ : List ℕ) → Cleared terms₁ runs₁ best₁ terms₂ runs₂ best₂ → Cleared terms runs best terms₂ runs₂ best₂
+starts-cleared terms runs best terms₁ runs₁ best₁ lt lr lb terms₂ runs₂ best₂ z = (z .0 ∙ ap (λ (k : ℕ). replicate k 0) lt, z .1 ∙ ap (λ (k : ℕ). replicate k 0) lr, z .2 ∙ ap (λ (k : ℕ). replicate k 0) lb)
+
 module _ (t : Tables) (c : Two) (terms runs best terms₁ runs₁ best₁ : List ℕ) where
   pub starts-made : (a : ℕ) → length best₁ ≡ length best → Makes t c terms runs best terms₁ runs₁ best₁ (E.Term a) → Starts t c terms runs best terms₁ runs₁ best₁ (E.Term a)
   starts-made a long X =
@@ -176,14 +198,14 @@ module _ (t : Tables) (c : Two) (terms runs best terms₁ runs₁ best₁ : List
       }
 
   pub starts-full : length terms₁ ≡ length terms → length runs₁ ≡ length runs → length best₁ ≡ length best → Makes t c terms runs best terms₁ runs₁ best₁ E.Full
-      → (terms₂ runs₂ best₂ : List ℕ) → terms₂ ≡ replicate (length terms₁) 0 → runs₂ ≡ replicate (length runs₁) 0 → best₂ ≡ replicate (length best₁) 0 → Starts t c terms runs best terms₂ runs₂ best₂ E.Full
-  starts-full lt lr lb X terms₂ runs₂ best₂ et er eb =
+      → (terms₂ runs₂ best₂ : List ℕ) → Cleared terms₁ runs₁ best₁ terms₂ runs₂ best₂ → Starts t c terms runs best terms₂ runs₂ best₂ E.Full
+  starts-full lt lr lb X terms₂ runs₂ best₂ z =
       let (n, e) = full-told _ (X .answer) in record {
         answer = X .answer;
         grows = λ x q. absurd (refused-ok (sym e ∙ q));
         bestIs = λ x q. absurd (refused-ok (sym e ∙ q));
         kept = λ x q. absurd (refused-ok (sym e ∙ q));
-        cleared = λ n q. (et ∙ ap (λ (k : ℕ). replicate k 0) lt, er ∙ ap (λ (k : ℕ). replicate k 0) lr, eb ∙ ap (λ (k : ℕ). replicate k 0) lb);
+        cleared = λ n q. starts-cleared terms runs best terms₁ runs₁ best₁ lt lr lb terms₂ runs₂ best₂ z;
       }
 
 -- nothing is kept in zeros

@@ -11,9 +11,10 @@ ghost use Rattle.laws.specs.Valid.{Valid};
 ghost use Rattle.image.specs.Loaded.{Loaded, theChild};
 ghost use Rattle.terms.specs.Buffers.{countIn, poolOf};
 ghost use Rattle.terms.specs.Chains.{Holds};
+ghost use Rattle.terms.specs.Interning.{Unless};
 ghost use Rattle.best_terms.specs.Bests.{Kept, Gives, keptRun, keptNumber, memberNode, MemberReady};
-ghost use Rattle.best_terms.specs.Building.{Builds};
-ghost use Rattle.best_terms.specs.Starting.{Makes, Starts};
+ghost use Rattle.best_terms.specs.Building.{Leaves, Builds};
+ghost use Rattle.best_terms.specs.Starting.{Cleared, Makes, Starts};
 
 // the numbers of `best`
 pub const CLASSES: usize = 256;
@@ -94,7 +95,7 @@ fn kept_runs(s: &[u8], im: Image, best: &[u16], list: &mut [u64], k: usize, n: u
 
 fn lit_term(terms: &mut [u32], runs: &mut [u64], op: usize, v: u64) -> Entered
     requires { ⌜ Holds (now terms) (now runs) × (op < 64) × (v < 4294967296) ⌝ }
-    ensures { λ r. ⌜ Gives (now (terms .entry)) (now (runs .entry)) (now (terms .exit)) (now (runs .exit)) (intern (poolOf (now (terms .entry)) (now (runs .entry))) (litNode op v)) r ⌝ }
+    ensures { λ r. ⌜ Unless (now (terms .entry)) (now (runs .entry)) r ((now (terms .exit) ≡ now (terms .entry)) × (now (runs .exit) ≡ now (runs .entry))) (Gives (now (terms .entry)) (now (runs .entry)) (now (terms .exit)) (now (runs .exit)) (intern (poolOf (now (terms .entry)) (now (runs .entry))) (litNode op v)) r) ⌝ }
 {
     let list = [0u64; 1];
     terms::intern(terms, runs, &list, 0, short(64 + op), v as u32)
@@ -110,7 +111,7 @@ fn op_term(
     op: usize,
 ) -> Entered
     requires { ⌜ Holds (now terms) (now runs) × Loaded (now s) im × (m < im .members) × (op < 64) × MemberReady (tablesOf (now s)) (now best) (countIn (now terms)) m ⌝ }
-    ensures { λ r. ⌜ Gives (now (terms .entry)) (now (runs .entry)) (now (terms .exit)) (now (runs .exit)) (intern (poolOf (now (terms .entry)) (now (runs .entry))) (opNode op (map (keptRun (now (best .entry))) (childrenOf (tablesOf (now (s .entry))) (theMember (tablesOf (now (s .entry))) m))))) r ⌝ }
+    ensures { λ r. ⌜ Unless (now (terms .entry)) (now (runs .entry)) r ((now (terms .exit) ≡ now (terms .entry)) × (now (runs .exit) ≡ now (runs .entry))) (Gives (now (terms .entry)) (now (runs .entry)) (now (terms .exit)) (now (runs .exit)) (intern (poolOf (now (terms .entry)) (now (runs .entry))) (opNode op (map (keptRun (now (best .entry))) (childrenOf (tablesOf (now (s .entry))) (theMember (tablesOf (now (s .entry))) m))))) r) ⌝ }
 {
     let mut list = [0u64; 64];
     let k = image::first_child(s, im, m);
@@ -130,7 +131,7 @@ fn best_of(
     m: usize,
 ) -> Entered
     requires { ⌜ Holds (now terms) (now runs) × Loaded (now s) im × (m < im .members) × (theMember (tablesOf (now s)) m .op < im .operations) × (im .operations ≤ 64) × MemberReady (tablesOf (now s)) (now best) (countIn (now terms)) m ⌝ }
-    ensures { λ r. ⌜ Gives (now (terms .entry)) (now (runs .entry)) (now (terms .exit)) (now (runs .exit)) (intern (poolOf (now (terms .entry)) (now (runs .entry))) (memberNode (tablesOf (now (s .entry))) (now (best .entry)) (theMember (tablesOf (now (s .entry))) m))) r ⌝ }
+    ensures { λ r. ⌜ Unless (now (terms .entry)) (now (runs .entry)) r ((now (terms .exit) ≡ now (terms .entry)) × (now (runs .exit) ≡ now (runs .entry))) (Gives (now (terms .entry)) (now (runs .entry)) (now (terms .exit)) (now (runs .exit)) (intern (poolOf (now (terms .entry)) (now (runs .entry))) (memberNode (tablesOf (now (s .entry))) (now (best .entry)) (theMember (tablesOf (now (s .entry))) m))) r) ⌝ }
 {
     let op = image::member_op(s, im, m);
     let k = image::kind(s, im, op);
@@ -151,7 +152,7 @@ fn build_best_term(
     class: usize,
 ) -> Entered
     requires { ⌜ Holds (now terms) (now runs) × Loaded (now s) im × Valid (tablesOf (now s)) × (class < im .classes) × (length (now best) ≡ 256) × Kept (tablesOf (now s)) (poolOf (now terms) (now runs)) (now best) × (getD (now best) class 0 ≡ 0) ⌝ }
-    ensures { λ r. ⌜ Builds (tablesOf (now (s .entry))) (now (terms .entry)) (now (runs .entry)) (now (best .entry)) class (now (terms .exit)) (now (runs .exit)) (now (best .exit)) r ⌝ }
+    ensures { λ r. ⌜ Unless (now (terms .entry)) (now (runs .entry)) r (Leaves (tablesOf (now (s .entry))) (now (terms .entry)) (now (runs .entry)) (now (best .entry)) (now (terms .exit)) (now (runs .exit)) (now (best .exit))) (Builds (tablesOf (now (s .entry))) (now (terms .entry)) (now (runs .entry)) (now (best .entry)) class (now (terms .exit)) (now (runs .exit)) (now (best .exit)) r) ⌝ }
 {
     let mut waiting = [0u16; 256];
     let mut c = class;
@@ -166,6 +167,9 @@ fn build_best_term(
                 match e {
                     Entered::Full => {
                         return Entered::Full;
+                    }
+                    Entered::Short => {
+                        return Entered::Short;
                     }
                     Entered::Term(a) => {
                         break 'inner a;
@@ -199,7 +203,7 @@ fn best_term(
     class: usize,
 ) -> Entered
     requires { ⌜ Holds (now terms) (now runs) × Loaded (now s) im × Valid (tablesOf (now s)) × (class < im .classes) × (length (now best) ≡ 256) × Kept (tablesOf (now s)) (poolOf (now terms) (now runs)) (now best) ⌝ }
-    ensures { λ r. ⌜ Builds (tablesOf (now (s .entry))) (now (terms .entry)) (now (runs .entry)) (now (best .entry)) class (now (terms .exit)) (now (runs .exit)) (now (best .exit)) r ⌝ }
+    ensures { λ r. ⌜ Unless (now (terms .entry)) (now (runs .entry)) r (Leaves (tablesOf (now (s .entry))) (now (terms .entry)) (now (runs .entry)) (now (best .entry)) (now (terms .exit)) (now (runs .exit)) (now (best .exit))) (Builds (tablesOf (now (s .entry))) (now (terms .entry)) (now (runs .entry)) (now (best .entry)) class (now (terms .exit)) (now (runs .exit)) (now (best .exit)) r) ⌝ }
 {
     let b = kept(best, class);
     if b == 0 {
@@ -211,7 +215,7 @@ fn best_term(
 // the marked place of two terms
 fn variants(terms: &mut [u32], runs: &mut [u64], a: usize, b: usize) -> Entered
     requires { ⌜ Holds (now terms) (now runs) × (a < countIn (now terms)) × (b < countIn (now terms)) ⌝ }
-    ensures { λ r. ⌜ Gives (now (terms .entry)) (now (runs .entry)) (now (terms .exit)) (now (runs .exit)) (intern (poolOf (now (terms .entry)) (now (runs .entry))) (variantsNode a b)) r ⌝ }
+    ensures { λ r. ⌜ Unless (now (terms .entry)) (now (runs .entry)) r ((now (terms .exit) ≡ now (terms .entry)) × (now (runs .exit) ≡ now (runs .entry))) (Gives (now (terms .entry)) (now (runs .entry)) (now (terms .exit)) (now (runs .exit)) (intern (poolOf (now (terms .entry)) (now (runs .entry))) (variantsNode a b)) r) ⌝ }
 {
     let mut list = [0u64; 2];
     put8(&mut list, 0, 16384 + long(a));
@@ -231,12 +235,15 @@ fn starting_term(
     r: usize,
 ) -> Entered
     requires { ⌜ Holds (now terms) (now runs) × Loaded (now s) im × Valid (tablesOf (now s)) × (l < im .classes) × (r < im .classes) × (length (now best) ≡ 256) × Kept (tablesOf (now s)) (poolOf (now terms) (now runs)) (now best) ⌝ }
-    ensures { λ o. ⌜ Makes (tablesOf (now (s .entry))) (l, r) (now (terms .entry)) (now (runs .entry)) (now (best .entry)) (now (terms .exit)) (now (runs .exit)) (now (best .exit)) o ⌝ }
+    ensures { λ o. ⌜ Unless (now (terms .entry)) (now (runs .entry)) o (Leaves (tablesOf (now (s .entry))) (now (terms .entry)) (now (runs .entry)) (now (best .entry)) (now (terms .exit)) (now (runs .exit)) (now (best .exit))) (Makes (tablesOf (now (s .entry))) (l, r) (now (terms .entry)) (now (runs .entry)) (now (best .entry)) (now (terms .exit)) (now (runs .exit)) (now (best .exit)) o) ⌝ }
 {
     let x = best_term(s, im, terms, runs, best, l);
     match x {
         Entered::Full => {
             return Entered::Full;
+        }
+        Entered::Short => {
+            return Entered::Short;
         }
         Entered::Term(a) => {
             if l == r {
@@ -246,6 +253,9 @@ fn starting_term(
             match y {
                 Entered::Full => {
                     return Entered::Full;
+                }
+                Entered::Short => {
+                    return Entered::Short;
                 }
                 Entered::Term(b) => {
                     return variants(terms, runs, a, b);
@@ -286,7 +296,15 @@ fn clear2(s: &mut [u16])
     }
 }
 
-// The starting term of a pair of classes; best keeps the best terms that it was made of. A refusal clears the buffers.
+fn clear(terms: &mut [u32], runs: &mut [u64], best: &mut [u16])
+    ensures { λ _. ⌜ Cleared (now (terms .entry)) (now (runs .entry)) (now (best .entry)) (now (terms .exit)) (now (runs .exit)) (now (best .exit)) ⌝ }
+{
+    clear4(terms);
+    clear8(runs);
+    clear2(best);
+}
+
+// The starting term of a pair of classes; best keeps the best terms that it was made of. A refusal clears the buffers, and so does `Short`.
 pub fn evaluate_generalize_action(
     s: &[u8],
     im: Image,
@@ -297,15 +315,17 @@ pub fn evaluate_generalize_action(
     r: usize,
 ) -> Entered
     requires { ⌜ Holds (now terms) (now runs) × Loaded (now s) im × Valid (tablesOf (now s)) × (l < im .classes) × (r < im .classes) × (length (now best) ≡ 256) × Kept (tablesOf (now s)) (poolOf (now terms) (now runs)) (now best) ⌝ }
-    ensures { λ o. ⌜ Starts (tablesOf (now (s .entry))) (l, r) (now (terms .entry)) (now (runs .entry)) (now (best .entry)) (now (terms .exit)) (now (runs .exit)) (now (best .exit)) o ⌝ }
+    ensures { λ o. ⌜ Unless (now (terms .entry)) (now (runs .entry)) o (Cleared (now (terms .entry)) (now (runs .entry)) (now (best .entry)) (now (terms .exit)) (now (runs .exit)) (now (best .exit))) (Starts (tablesOf (now (s .entry))) (l, r) (now (terms .entry)) (now (runs .entry)) (now (best .entry)) (now (terms .exit)) (now (runs .exit)) (now (best .exit)) o) ⌝ }
 {
     let e = starting_term(s, im, terms, runs, best, l, r);
     match e {
         Entered::Full => {
-            clear4(terms);
-            clear8(runs);
-            clear2(best);
+            clear(terms, runs, best);
             return Entered::Full;
+        }
+        Entered::Short => {
+            clear(terms, runs, best);
+            return Entered::Short;
         }
         Entered::Term(a) => {
             return Entered::Term(a);

@@ -1,7 +1,7 @@
 -- `begin`, from what emptying the pool, the root's starting term and building say.
 use mathlib.Core.Path.{_≡_, refl, sym, ap, ap₂, _∙_}
 use mathlib.Core.List.{List, []}
-use Prim.Native.Nat.{ℕ}
+use Prim.Native.Nat.{ℕ, _*_, _≤_}
 use native.Mathlib.Omega.{arith}
 use lib.ListN.{length, replicate}
 use Rattle.spec.specs.Bytes.{Two, Res, ok, refused, Checked, passed, cutShort}
@@ -41,7 +41,7 @@ built-all a (ok (passed ps c)) n b e = let x : n ≡ length ps = cc in let y : b
 built-all a (ok cutShort) n b e = absurd (let z : _≡_ {A = ℕ} 0 1 = cc in omega arith)
 built-all a (refused k) n b e = absurd (let z : _≡_ {A = ℕ} 0 1 = cc in omega arith)
 
-module _ (t : Tables) (p : Two) (budget : ℕ) (ls rs ix ts us best ts′ us′ best′ : List ℕ) where
+module _ (t : Tables) (p : Two) (budget : ℕ) (ls rs ix ts us best ts′ us′ best′ : List ℕ) (wide : 256 * length (t .classes) ≤ length ix) where
   -- the pool was empty
   from-none : startingTerm t (poolOf (emptied ts) us) p ≡ startingTerm t [] p
   from-none = ap (λ (z : Pool). startingTerm t z p) (emptied-pool ts us)
@@ -57,11 +57,12 @@ module _ (t : Tables) (p : Two) (budget : ℕ) (ls rs ix ts us best ts′ us′ 
         lefts = rw f refl;
         rights = rw f refl;
         index = rw f refl;
+        wide = wide;
         grows = λ a z. absurd (refused-ok (sym f ∙ z));
         cleared = λ m z. (c .0 ∙ ap {B = List ℕ} (λ (i : ℕ). replicate i 0) (emptied-length ts us), c .1);
       }
 
-  module _ (x : ℕ) (X : Starts t p (emptied ts) us best ts′ us′ best′ (E.Term x)) (ls′ rs′ ix′ : List ℕ) where
+  module _ (x : ℕ) (X : Starts t p (emptied ts) us best ts′ us′ best′ (E.Term x)) (ls′ rs′ ix′ : List ℕ) (long : length ix′ ≡ length ix) where
     begun : (r : Begun) (b : Built) → Builds (build t p budget) ls rs ix ls′ rs′ ix′ b → ((a : Interned) → a .term ≡ x → r ≡ begunOf (ok a) (build t p budget)) → Begins t p budget ls rs ix ts us ls′ rs′ ix′ ts′ us′ r
     begun r b Y z =
         let (a, e, f) = term-told (startingTerm t (poolOf (emptied ts) us) p) x (X .answer) in
@@ -71,6 +72,7 @@ module _ (t : Tables) (p : Two) (budget : ℕ) (ls rs ix ts us best ts′ us′ 
           lefts = rw s (Y .lefts);
           rights = rw s (Y .rights);
           index = rw s (Y .index);
+          wide = omega (arith, wide, long);
           grows = λ d q. X .grows d (from-none ∙ q);
           cleared = λ n q. absurd (refused-ok (sym q ∙ s));
         }

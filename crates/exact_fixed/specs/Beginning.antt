@@ -1,7 +1,7 @@
 -- The run up to its graph: "The root's starting term is entered before building".
 use mathlib.Core.Path.{_≡_}
 use mathlib.Core.List.{List, []}
-use Prim.Native.Nat.{ℕ}
+use Prim.Native.Nat.{ℕ, _*_, _≤_}
 use lib.ListN.{length, replicate}
 use Rattle.spec.specs.Bytes.{Two, Res, ok, refused, Checked, passed, cutShort}
 use Rattle.spec.specs.Image.{Tables}
@@ -15,10 +15,12 @@ use Rattle.terms.specs.Chains.{Holds}
 use Rattle.terms.specs.Emptying.{emptied}
 use Rattle.terms.specs.Growing.{Grows}
 use Rattle.graph.specs.Building.{leftsAfter, rightsAfter, indexAfter}
+use Rattle.exact_fixed.specs.Shorts.{ShortFinish}
 use Rattle.exact_fixed.specs.Answers.{listedOf, answerOf}
 use Rattle.exact_fixed.specs.declared.Begun.{Begun}
 use Rattle.exact_fixed.specs.declared.Begun.the-variants as B
 use Rattle.exact_fixed.specs.declared.Answer.{Answer}
+use Rattle.exact_fixed.specs.declared.Answer.the-variants as A
 
 -- a refusal, 13 or 12; cut short in building, with the root's starting term; the root's starting term, the number of pairs, the budget left
 abbrev pub begunOf : Res Interned → Res (Checked (List Two)) → Begun
@@ -38,6 +40,7 @@ pub record Begins (t : Tables) (p : Two) (budget : ℕ) (ls rs ix ts us ls′ rs
   pub lefts : ls′ ≡ ifRooted (startingTerm t [] p) (leftsAfter (build t p budget) ls) ls
   pub rights : rs′ ≡ ifRooted (startingTerm t [] p) (rightsAfter (build t p budget) rs) rs
   pub index : ix′ ≡ ifRooted (startingTerm t [] p) (indexAfter (build t p budget) ix) ix
+  pub wide : 256 * length (t .classes) ≤ length ix′
   -- terms and runs hold the root's pool over the emptied buffer
   pub grows : (a : Interned) → startingTerm t [] p ≡ ok a → Grows (emptied ts) us ts′ us′ (a .pool)
   pub cleared : (n : ℕ) → startingTerm t [] p ≡ refused n → (ts′ ≡ replicate (length ts) 0) × (us′ ≡ replicate (length us) 0)
@@ -48,6 +51,7 @@ pub record Ready (t : Tables) (p : Two) (budget : ℕ) (b : Begun) (ls rs ix ts 
   pub lefts : (a : Interned) → startingTerm t [] p ≡ ok a → ls ≡ leftsAfter (build t p budget) ls
   pub rights : (a : Interned) → startingTerm t [] p ≡ ok a → rs ≡ rightsAfter (build t p budget) rs
   pub index : (a : Interned) → startingTerm t [] p ≡ ok a → ix ≡ indexAfter (build t p budget) ix
+  pub wide : 256 * length (t .classes) ≤ length ix
   pub holds : (a : Interned) → startingTerm t [] p ≡ ok a → Holds ts us
   pub pool : (a : Interned) → startingTerm t [] p ≡ ok a → poolOf ts us ≡ a .pool
 
@@ -55,6 +59,18 @@ pub record Ready (t : Tables) (p : Two) (budget : ℕ) (b : Begun) (ls rs ix ts 
 pub record Finishes (t : Tables) (p : Two) (budget : ℕ) (ls rs ix ps ts us out ls′ rs′ ix′ ps′ ts′ us′ out′ : List ℕ) (r : Answer) : Type 0 where
   pub answer : answerOf out′ r ≡ listedOf (runOf t p budget) (length out)
   pub output : out′ ≡ outputAfter out (listedOf (runOf t p budget) (length out))
+  pub fits : (n : ℕ) → r ≡ A.Listing n → n ≤ length out
+  pub lefts : ls′ ≡ replicate (length ls) 0
+  pub rights : rs′ ≡ replicate (length rs) 0
+  pub index : ix′ ≡ replicate (length ix) 0
+  pub pairs : ps′ ≡ replicate (length ps) 0
+  pub terms : ts′ ≡ replicate (length ts) 0
+  pub runs : us′ ≡ replicate (length us) 0
+
+-- what `Short` of `finish` says and leaves: the output as it was, and every work buffer cleared
+pub record EndsShort (room : ℕ) (ls rs ix ps ts us out ls′ rs′ ix′ ps′ ts′ us′ out′ : List ℕ) : Type 0 where
+  pub short : ShortFinish room ix ts us
+  pub output : out′ ≡ out
   pub lefts : ls′ ≡ replicate (length ls) 0
   pub rights : rs′ ≡ replicate (length rs) 0
   pub index : ix′ ≡ replicate (length ix) 0

@@ -1,7 +1,7 @@
 -- `finish`, by what `begin` answered.
 use mathlib.Core.Path.{_≡_, refl, sym, ap, ap₂, _∙_}
 use mathlib.Core.List.{List, [], map}
-use Prim.Native.Nat.{ℕ, _≤_, _<_}
+use Prim.Native.Nat.{ℕ, _<_}
 use native.Mathlib.Omega.{arith}
 use lib.ListN.{length, replicate}
 use Rattle.spec.specs.Bytes.{Two, Res, ok, refused, Checked, passed, cutShort}
@@ -26,8 +26,9 @@ use Rattle.rounds.specs.Graphs.{Graphs}
 use Rattle.exact_fixed.specs.GraphLaws.{pairs-laid, graphs-built}
 use Rattle.exact_fixed.specs.RunLaws.{startedIn, ran-started}
 use Rattle.rounds.specs.Outcomes.{RanTo}
+use Rattle.exact_fixed.specs.Shorts.{ShortBegin, ShortFinish, UnlessBegun, UnlessAnswer, begun-not-short, answer-map, short-finish-kept}
 use Rattle.exact_fixed.specs.Answers.{Answers}
-use Rattle.exact_fixed.specs.Beginning.{begunOf, Ready, Finishes}
+use Rattle.exact_fixed.specs.Beginning.{begunOf, Ready, Finishes, EndsShort}
 use Rattle.exact_fixed.specs.declared.Answer.{Answer}
 use Rattle.rounds.specs.declared.Ran.{Ran}
 use Rattle.rounds.specs.declared.Ran.the-variants as R
@@ -54,9 +55,28 @@ all-says (ok a) (ok (passed ps c)) root n b e =
     let y : b ≡ budgetOf c = cc in
     (a, ps, c, refl, cc, refl, cc, ap (λ (z : Budget). z .left) y)
 
-module _ (t : Tables) (p : Two) (budget : ℕ) (ls rs ix ts us : List ℕ) where
-  pub finish-stopped : (k : ℕ) (b : Begun) → b ≡ N.Stopped k → Ready t p budget b ls rs ix ts us → RanTo (runOf t p budget) ts us (R.Stopped k)
-  finish-stopped k b s X = go (startingTerm t [] p) refl (build t p budget) refl (sym s ∙ X .answer)
+stopped-short : {k : ℕ} → N.Stopped k ≡ N.Short → ⊥
+stopped-short e = let z : _≡_ {A = ℕ} 0 1 = cc in omega arith
+
+cut-short : {root : ℕ} → N.Cut root ≡ N.Short → ⊥
+cut-short e = let z : _≡_ {A = ℕ} 0 1 = cc in omega arith
+
+all-short : {root n : ℕ} {b : Budget} → N.All root n b ≡ N.Short → ⊥
+all-short e = let z : _≡_ {A = ℕ} 0 1 = cc in omega arith
+
+module _ (room : ℕ) (t : Tables) (p : Two) (budget : ℕ) (ls rs ix ts us : List ℕ) where
+  -- what `finish` asks of b
+  abbrev pub Asks : Begun → Type 0
+  Asks b = UnlessBegun b (ShortBegin ix ts us) (Ready t p budget b ls rs ix ts us)
+
+  pub finish-short : (b : Begun) → b ≡ N.Short → Asks b → ShortFinish room ix ts us
+  finish-short b s X = λ i w h. told i w
+    where
+      told : ShortBegin ix ts us
+      told = rw s at X
+
+  pub finish-stopped : (k : ℕ) (b : Begun) → b ≡ N.Stopped k → Asks b → RanTo room (runOf t p budget) ts us (R.Stopped k)
+  finish-stopped k b s Y = go (startingTerm t [] p) refl (build t p budget) refl (sym s ∙ begun-not-short b (ShortBegin ix ts us) (λ z. stopped-short (sym s ∙ z)) Y .answer)
     where
       go : (x : Res Interned) → startingTerm t [] p ≡ x → (g : Res (Checked (List Two))) → build t p budget ≡ g → N.Stopped k ≡ begunOf x g → runOf t p budget ≡ refused k
       go (refused n) e g f q = let z : n ≡ k = cc in run-no-root t p budget n e ∙ ap (λ (i : ℕ). refused i) z
@@ -65,14 +85,18 @@ module _ (t : Tables) (p : Two) (budget : ℕ) (ls rs ix ts us : List ℕ) where
       go (ok a) e (ok (passed ps c)) f q = absurd (let z : _≡_ {A = ℕ} 0 1 = cc in omega arith)
 
   module _ (v : Valid t) (i : IsPair t p) where
-    pub finish-cut : (root : ℕ) (b : Begun) → b ≡ N.Cut root → Ready t p budget b ls rs ix ts us → (o : Outcome) → o ≡ startedIn t p 1 root → RanTo (runOf t p budget) ts us (R.Done o)
-    finish-cut root b s X o q =
+    pub finish-cut : (root : ℕ) (b : Begun) → b ≡ N.Cut root → Asks b → (o : Outcome) → o ≡ startedIn t p 1 root → RanTo room (runOf t p budget) ts us (R.Done o)
+    finish-cut root b s Y o q =
+        let X = begun-not-short b (ShortBegin ix ts us) (λ z. cut-short (sym s ∙ z)) Y in
         let (a, e, f, g) = cut-says (startingTerm t [] p) (build t p budget) root (sym s ∙ X .answer) in
         let W = starting-grows t v [] p a i empty-valid e in
-        let z = ran-started t p (runOf t p budget) a 1 ts us (run-cut-building t p budget a e g) (W .valid) (W .within) (X .holds a e) (rw (X .pool a e) (extends-refl (a .pool))) in
+        let z = ran-started room t p (runOf t p budget) a 1 ts us (run-cut-building t p budget a e g) (W .valid) (W .within) (X .holds a e) (rw (X .pool a e) (extends-refl (a .pool))) in
         rw q (rw f at z)
 
-    module _ (root n : ℕ) (b : Budget) (B : Begun) (s : B ≡ N.All root n b) (X : Ready t p budget B ls rs ix ts us) where
+    module _ (root n : ℕ) (b : Budget) (B : Begun) (s : B ≡ N.All root n b) (Y : Asks B) where
+      X : Ready t p budget B ls rs ix ts us
+      X = begun-not-short B (ShortBegin ix ts us) (λ z. all-short (sym s ∙ z)) Y
+
       pub all-root : root < countIn ts
       all-root =
           let (a, ps, c, e, f, g, h, k) = all-says (startingTerm t [] p) (build t p budget) root n b (sym s ∙ X .answer) in
@@ -94,12 +118,12 @@ module _ (t : Tables) (p : Two) (budget : ℕ) (ls rs ix ts us : List ℕ) where
           let r : rs ≡ over (map (λ p. p .1) ps) rs = X .rights a e ∙ ap (λ (z : Res (Checked (List Two))). rightsAfter z rs) g in
           (ap₂ (λ (x y : List ℕ). pairsIn x y (length ps)) l r ∙ pairs-laid ps ls rs, X .index a e ∙ ap (λ (z : Res (Checked (List Two))). indexAfter z ix) g)
 
-      pub all-graphs : 65536 ≤ length ix → Graphs t (pairsIn ls rs n) n ix
-      all-graphs wide =
+      pub all-graphs : Graphs t (pairsIn ls rs n) n ix
+      all-graphs =
           let (a, ps, c, e, f, g, h, k) = all-says (startingTerm t [] p) (build t p budget) root n b (sym s ∙ X .answer) in
           let (x, y) = arrays a ps c e g in
           let q : pairsIn ls rs n ≡ ps = ap (λ (z : ℕ). pairsIn ls rs z) (sym h) ∙ x in
-          let G : Graphs t ps (length ps) ix = rw (sym y) at (graphs-built t v p i budget c ps g (length ix) wide) in
+          let G : Graphs t ps (length ps) ix = rw (sym y) at (graphs-built t v p i budget c ps g (length ix) (X .wide)) in
           graphs-as t ps (pairsIn ls rs n) (length ps) n ix (sym q) h G
 
       pub all-runs : runOf t p budget ≡ afterBuilding t p (interned (poolOf ts us) root) (passed (pairsIn ls rs n) (b .left))
@@ -110,24 +134,37 @@ module _ (t : Tables) (p : Two) (budget : ℕ) (ls rs ix ts us : List ℕ) where
           let r : a ≡ interned (poolOf ts us) root = λ j. record { pool = sym (X .pool a e) j; term = f j } in
           run-after a (passed ps c) e g ∙ ap₂ (λ (y : Interned) (z : Checked (List Two)). afterBuilding t p y z) r (ap₂ (λ (y : List Two) (z : ℕ). passed y z) q (sym k))
 
-      pub all-ran : (ts′ us′ : List ℕ) (x : Ran) → RanTo (afterBuilding t p (interned (poolOf ts us) root) (passed (pairsIn ls rs n) (b .left))) ts′ us′ x → RanTo (runOf t p budget) ts′ us′ x
+      pub all-ran : (ts′ us′ : List ℕ) (x : Ran) → RanTo room (afterBuilding t p (interned (poolOf ts us) root) (passed (pairsIn ls rs n) (b .left))) ts′ us′ x → RanTo room (runOf t p budget) ts′ us′ x
       all-ran ts′ us′ x Y = rw all-runs Y
 
 -- a buffer that was cleared after a call that kept its length
 zeros-as : (now was : List ℕ) → length now ≡ length was → _≡_ {A = List ℕ} (replicate (length now) 0) (replicate (length was) 0)
 zeros-as now was e = ap {B = List ℕ} (λ (i : ℕ). replicate i 0) e
 
-pub finishes : (t : Tables) (p : Two) (budget : ℕ) (ls rs ix ps ts us out ls′ rs′ ix′ ps′ ts′ us′ out′ ix₁ ps₁ ts₁ us₁ : List ℕ) (r : Answer) → Answers (runOf t p budget) out out′ r
-    → length ix₁ ≡ length ix → length ps₁ ≡ length ps → length ts₁ ≡ length ts → length us₁ ≡ length us
-    → (ls′ ≡ replicate (length ls) 0) × (rs′ ≡ replicate (length rs) 0) × (ix′ ≡ replicate (length ix₁) 0) × (ps′ ≡ replicate (length ps₁) 0) × (ts′ ≡ replicate (length ts₁) 0) × (us′ ≡ replicate (length us₁) 0)
-    → Finishes t p budget ls rs ix ps ts us out ls′ rs′ ix′ ps′ ts′ us′ out′ r
-finishes t p budget ls rs ix ps ts us out ls′ rs′ ix′ ps′ ts′ us′ out′ ix₁ ps₁ ts₁ us₁ r X a b c d (z0, z1, z2, z3, z4, z5) = record {
-  answer = X .answer;
-  output = X .output;
-  lefts = z0;
-  rights = z1;
-  index = z2 ∙ zeros-as ix₁ ix a;
-  pairs = z3 ∙ zeros-as ps₁ ps b;
-  terms = z4 ∙ zeros-as ts₁ ts c;
-  runs = z5 ∙ zeros-as us₁ us d;
-}
+module _ (room : ℕ) (t : Tables) (p : Two) (budget : ℕ) (ls rs ix ps ts us out ls′ rs′ ix′ ps′ ts′ us′ out′ ix₁ ps₁ ts₁ us₁ : List ℕ)
+    (a : length ix₁ ≡ length ix) (b : length ps₁ ≡ length ps) (c : length ts₁ ≡ length ts) (d : length us₁ ≡ length us)
+    (z : (ls′ ≡ replicate (length ls) 0) × (rs′ ≡ replicate (length rs) 0) × (ix′ ≡ replicate (length ix₁) 0) × (ps′ ≡ replicate (length ps₁) 0) × (ts′ ≡ replicate (length ts₁) 0) × (us′ ≡ replicate (length us₁) 0)) where
+  pub finishes : (r : Answer) → UnlessAnswer r (ShortFinish room ix ts₁ us₁ × (out′ ≡ out)) (Answers (runOf t p budget) out out′ r)
+      → UnlessAnswer r (EndsShort room ls rs ix ps ts us out ls′ rs′ ix′ ps′ ts′ us′ out′) (Finishes t p budget ls rs ix ps ts us out ls′ rs′ ix′ ps′ ts′ us′ out′ r)
+  finishes r = answer-map r
+      (λ u. record {
+        short = short-finish-kept room ix ts₁ us₁ ts us (omega arith) (omega arith) (u .0);
+        output = u .1;
+        lefts = z .0;
+        rights = z .1;
+        index = z .2 ∙ zeros-as ix₁ ix a;
+        pairs = z .3 ∙ zeros-as ps₁ ps b;
+        terms = z .4 ∙ zeros-as ts₁ ts c;
+        runs = z .5 ∙ zeros-as us₁ us d;
+      })
+      (λ X. record {
+        answer = X .answer;
+        output = X .output;
+        fits = X .fits;
+        lefts = z .0;
+        rights = z .1;
+        index = z .2 ∙ zeros-as ix₁ ix a;
+        pairs = z .3 ∙ zeros-as ps₁ ps b;
+        terms = z .4 ∙ zeros-as ts₁ ts c;
+        runs = z .5 ∙ zeros-as us₁ us d;
+      })

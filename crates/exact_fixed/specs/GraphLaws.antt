@@ -1,7 +1,7 @@
 -- A graph that is built in full, in the arrays that building leaves.
 use mathlib.Core.Path.{_≡_, refl, ap, ap₂, _∙_}
 use mathlib.Core.List.{List, [], _∷_, map}
-use Prim.Native.Nat.{ℕ, suc, _+_, _≤_, _<_}
+use Prim.Native.Nat.{ℕ, suc, _+_, _*_, _≤_, _<_}
 use native.Mathlib.Omega.{arith}
 use lib.ListN.{length, getD, set, replicate, length-set, length-replicate}
 use lib.Seq.{ext-getD}
@@ -34,7 +34,7 @@ numbered-length k [] index = refl
 numbered-length k (p ∷ ps) index = numbered-length (suc k) ps (set index (code p) k) ∙ length-set index (code p) k
 
 -- the index that building leaves
-pub graphs-built : (t : Tables) → Valid t → (p : Two) → IsPair t p → (b c : ℕ) (ps : List Two) → build t p b ≡ ok (passed ps c) → (m : ℕ) → 65536 ≤ m → Graphs t ps (length ps) (numbered 0 ps (replicate m 0))
+pub graphs-built : (t : Tables) → Valid t → (p : Two) → IsPair t p → (b c : ℕ) (ps : List Two) → build t p b ≡ ok (passed ps c) → (m : ℕ) → 256 * length (t .classes) ≤ m → Graphs t ps (length ps) (numbered 0 ps (replicate m 0))
 graphs-built t v p i b c ps e m wide = record {
   many = refl;
   some = built-some t p b c ps e;

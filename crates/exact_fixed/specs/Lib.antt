@@ -1,3 +1,4 @@
+pub mod Shorts
 pub mod StartSizes
 pub mod Starting
 pub mod Answers

@@ -47,6 +47,7 @@ module _ (t : Tables) (p : Two) (budget : ℕ) (ls rs ix ts us ls′ rs′ ix′
     lefts = still (leftsAfter (build t p budget)) ls ls′ (lefts-again (build t p budget)) (X .lefts);
     rights = still (rightsAfter (build t p budget)) rs rs′ (rights-again (build t p budget)) (X .rights);
     index = still (indexAfter (build t p budget)) ix ix′ (index-again (build t p budget)) (X .index);
+    wide = X .wide;
     holds = λ a q. X .grows a q .holds;
     pool = λ a q. X .grows a q .pool;
   }

@@ -1,6 +1,5 @@
 -- Starting terms, pair by pair: "one [check] a pair in starting terms".
 use mathlib.Core.Path.{_≡_, refl, sym, ap, _∙_}
-use mathlib.Core.Bool.{Bool, true, false}
 use mathlib.Core.List.{List, [], _∷_, _++_, map}
 use Prim.Native.Nat.{ℕ, zero, suc, _+_, _≤_, _<_}
 use native.Mathlib.Omega.{arith}
@@ -28,6 +27,9 @@ use Rattle.terms.specs.declared.Entered.the-variants as E
 use Rattle.rounds.specs.Arrays.{twos, qualitiesIn, termsIn, given}
 use Rattle.rounds.specs.ArrayLaws.{qualities-more, terms-more}
 use Rattle.rounds.specs.Graphs.{InRange}
+use Rattle.exact_fixed.specs.Shorts.{ShortPool}
+use Rattle.exact_fixed.specs.declared.One.{One}
+use Rattle.exact_fixed.specs.declared.One.the-variants as O
 use Rattle.exact_fixed.specs.declared.Started.{Started}
 use Rattle.exact_fixed.specs.declared.Started.the-variants as S
 
@@ -41,9 +43,10 @@ pub record HasStarted (t : Tables) (p : Two) (k : ℕ) (pool₀ : Pool) (pairs p
   pub holds : Holds terms′ runs′
   pub kept : Kept t (poolOf terms′ runs′) best′
 
-abbrev pub BeginsOne : Tables → Two → ℕ → Pool → List ℕ → List ℕ → List ℕ → List ℕ → List ℕ → Bool → Type 0
-BeginsOne t p k pool pairs pairs′ terms′ runs′ best′ true = HasStarted t p k pool pairs pairs′ terms′ runs′ best′
-BeginsOne t p k pool pairs pairs′ terms′ runs′ best′ false = (n : ℕ) × (startingTerm t pool p ≡ refused n)
+abbrev pub BeginsOne : Tables → Two → ℕ → Pool → List ℕ → List ℕ → List ℕ → List ℕ → List ℕ → One → Type 0
+BeginsOne t p k pool pairs pairs′ terms′ runs′ best′ O.Entered = HasStarted t p k pool pairs pairs′ terms′ runs′ best′
+BeginsOne t p k pool pairs pairs′ terms′ runs′ best′ O.Full = (n : ℕ) × (startingTerm t pool p ≡ refused n)
+BeginsOne t p k pool pairs pairs′ terms′ runs′ best′ O.Short = ShortPool terms′ runs′
 
 -- ---- all pairs
 -- the first k pairs have theirs, and b checks are left; `whole` is what all of it comes to, `from` the pool before it
@@ -57,6 +60,7 @@ abbrev pub StartsAll : Tables → List Two → Res (Checked Terms) → Pool → 
 StartsAll t ps whole from pairs terms runs (S.All b) = Starting t ps whole from pairs terms runs (length ps) (b .left)
 StartsAll t ps whole from pairs terms runs S.Cut = (whole ≡ ok cutShort) × Holds terms runs × Extends from (poolOf terms runs)
 StartsAll t ps whole from pairs terms runs S.Full = whole ≡ refused 13
+StartsAll t ps whole from pairs terms runs S.Short = ShortPool terms runs
 
 pub starting-none : (t : Tables) (ps : List Two) (b : ℕ) (pairs terms runs : List ℕ) → Holds terms runs → Starting t ps (startingTerms t ps b (poolOf terms runs)) (poolOf terms runs) pairs terms runs 0 b
 unfolding twos part

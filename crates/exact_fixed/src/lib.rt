@@ -20,32 +20,44 @@ ghost use Rattle.spec.specs.Run.{startingTerms, afterBuilding, runOf};
 ghost use Rattle.terms.specs.Buffers.{countIn, poolOf};
 ghost use Rattle.terms.specs.Chains.{Holds};
 ghost use Rattle.best_terms.specs.Bests.{Kept};
+ghost use Rattle.turns.specs.Room.{Roomy};
 ghost use Rattle.rounds.specs.Arrays.{pairsIn};
 ghost use Rattle.rounds.specs.Graphs.{InRange, Graphs};
 ghost use Rattle.rounds.specs.Outcomes.{outcomeIn, RanTo};
 ghost use Rattle.exact_fixed.specs.Starting.{BeginsOne, StartsAll};
 ghost use Rattle.exact_fixed.specs.RunLaws.{startedIn};
-ghost use Rattle.exact_fixed.specs.Answers.{ranOf, Listable, Answers};
-ghost use Rattle.exact_fixed.specs.Beginning.{Begins, Ready, Finishes};
+ghost use Rattle.exact_fixed.specs.Shorts.{ShortMarks, ShortBegin, ShortFinish, UnlessBegun, UnlessRan, UnlessAnswer};
+ghost use Rattle.exact_fixed.specs.Answers.{Listable, Listed, Answers};
+ghost use Rattle.exact_fixed.specs.Beginning.{Begins, Ready, Finishes, EndsShort};
 
-// starting terms of all pairs, with the budget left; cut short; refusal 13
+// a pair's starting term is entered; refusal 13; a buffer is too short
+enum One {
+    Entered,
+    Full,
+    Short,
+}
+
+// starting terms of all pairs, with the budget left; cut short; refusal 13; a buffer is too short
 enum Started {
     All(Budget),
     Cut,
     Full,
+    Short,
 }
 
-// a refusal, 13 or 12; cut short in building, with the root's starting term; the root's starting term, the number of pairs, the budget left
+// a refusal, 13 or 12; cut short in building, with the root's starting term; the root's starting term, the number of pairs, the budget left; a buffer is too short
 pub enum Begun {
     Stopped(u8),
     Cut(usize),
     All(usize, usize, Budget),
+    Short,
 }
 
-// the listing's length, or a refusal
+// the listing's length; or a refusal; or that a buffer is too short
 pub enum Answer {
     Listing(usize),
     Refused(u8),
+    Short,
 }
 
 fn narrow(x: u64) -> u32
@@ -81,7 +93,7 @@ fn start_mass(s: &[u8], im: Image, l: usize, r: usize) -> u32
 }
 
 // ---- starting terms
-// pair k's starting term and quality; false where the term is refused
+// pair k's starting term and quality
 fn start_one(
     s: &[u8],
     im: Image,
@@ -92,20 +104,23 @@ fn start_one(
     terms: &mut [u32],
     runs: &mut [u64],
     best: &mut [u16],
-) -> bool
+) -> One
     requires { ⌜ Loaded (now s) im × Valid (tablesOf (now s)) × (l < im .classes) × (r < im .classes) × (k < 4096) × (24576 ≤ length (now pairs)) × Holds (now terms) (now runs) × (length (now best) ≡ 256) × Kept (tablesOf (now s)) (poolOf (now terms) (now runs)) (now best) ⌝ }
     ensures { λ x. ⌜ BeginsOne (tablesOf (now (s .entry))) (l, r) k (poolOf (now (terms .entry)) (now (runs .entry))) (now (pairs .entry)) (now (pairs .exit)) (now (terms .exit)) (now (runs .exit)) (now (best .exit)) x ⌝ }
 {
     let e = best_terms::evaluate_generalize_action(s, im, terms, runs, best, l, r);
     match e {
         Entered::Full => {
-            return false;
+            return One::Full;
+        }
+        Entered::Short => {
+            return One::Short;
         }
         Entered::Term(t) => {
             let size = start_size(s, im, l, r);
             let mass = start_mass(s, im, l, r);
             rounds::give(pairs, k, size, mass, rounds::short(t));
-            return true;
+            return One::Entered;
         }
     }
 }
@@ -136,16 +151,24 @@ fn start_all(
         }
         let l = rounds::class_at(lefts, k);
         let r = rounds::class_at(rights, k);
-        if !start_one(s, im, l, r, k, pairs, terms, runs, &mut best) {
-            return Started::Full;
+        let one = start_one(s, im, l, r, k, pairs, terms, runs, &mut best);
+        match one {
+            One::Full => {
+                return Started::Full;
+            }
+            One::Short => {
+                return Started::Short;
+            }
+            One::Entered => {
+                k += 1;
+            }
         }
-        k += 1;
     }
     Started::All(bud)
 }
 
 // ---- the outcome
-// the listing of an outcome whose pool the buffers hold
+// the listing of an outcome whose pool the buffers hold; marks has two numbers a term
 fn list_outcome(
     o: Outcome,
     terms: &[u32],
@@ -153,9 +176,12 @@ fn list_outcome(
     marks: &mut [u16],
     out: &mut [u8],
 ) -> Answer
-    requires { ⌜ Holds (now terms) (now runs) × (o .root < countIn (now terms)) × (32768 ≤ length (now marks)) ⌝ }
-    ensures { λ r. ⌜ Answers (ok (outcomeIn o (now (terms .entry)) (now (runs .entry)))) (now (out .entry)) (now (out .exit)) r ⌝ }
+    requires { ⌜ Holds (now terms) (now runs) × (o .root < countIn (now terms)) ⌝ }
+    ensures { λ r. ⌜ UnlessAnswer r (ShortMarks (now (marks .entry)) × (now (out .exit) ≡ now (out .entry))) (Answers (ok (outcomeIn o (now (terms .entry)) (now (runs .entry)))) (now (out .entry)) (now (out .exit)) r) ⌝ }
 {
+    if 2 * terms::count(terms) > marks.len() {
+        return Answer::Short;
+    }
     let f = Report {
         complete: o.complete,
         pairs: o.pairs as u64,
@@ -202,24 +228,50 @@ fn run_built(
     rights: &[u16],
     index: &[u16],
     n: usize,
+    ones: &[u8],
+    sizes: &mut [u32],
+    masses: &mut [u32],
+    costs: &mut [u64],
+    flow: &mut [u64],
+    list: &mut [u64],
     pairs: &mut [u32],
     terms: &mut [u32],
     runs: &mut [u64],
     b: Budget,
 ) -> Ran
-    requires { ⌜ Loaded (now s) im × Valid (tablesOf (now s)) × (l < im .classes) × (r < im .classes) × (root < countIn (now terms)) × (n ≤ length (now lefts)) × (n ≤ length (now rights)) × Graphs (tablesOf (now s)) (pairsIn (now lefts) (now rights) n) n (now index) × (24576 ≤ length (now pairs)) × Holds (now terms) (now runs) ⌝ }
-    ensures { λ x. ⌜ RanTo (afterBuilding (tablesOf (now (s .entry))) (l, r) (interned (poolOf (now (terms .entry)) (now (runs .entry))) root) (passed (pairsIn (now (lefts .entry)) (now (rights .entry)) n) (b .left))) (now (terms .exit)) (now (runs .exit)) x ⌝ }
+    requires { ⌜ Loaded (now s) im × Valid (tablesOf (now s)) × (l < im .classes) × (r < im .classes) × (root < countIn (now terms)) × (n ≤ length (now lefts)) × (n ≤ length (now rights)) × Graphs (tablesOf (now s)) (pairsIn (now lefts) (now rights) n) n (now index) × (24576 ≤ length (now pairs)) × Holds (now terms) (now runs) × Roomy (now ones) (now sizes) (now masses) (now costs) (now flow) (now list) ⌝ }
+    ensures { λ x. ⌜ RanTo (length (now (sizes .entry))) (afterBuilding (tablesOf (now (s .entry))) (l, r) (interned (poolOf (now (terms .entry)) (now (runs .entry))) root) (passed (pairsIn (now (lefts .entry)) (now (rights .entry)) n) (b .left))) (now (terms .exit)) (now (runs .exit)) x ⌝ }
 {
     let x = start_all(s, im, lefts, rights, n, pairs, terms, runs, b);
     match x {
         Started::Full => {
             return Ran::Stopped(13);
         }
+        Started::Short => {
+            return Ran::Short;
+        }
         Started::Cut => {
             return Ran::Done(report_started(s, im, l, r, n, root));
         }
         Started::All(c) => {
-            return rounds::run_rounds(s, im, lefts, rights, index, n, pairs, terms, runs, c);
+            return rounds::run_rounds(
+                s,
+                im,
+                lefts,
+                rights,
+                index,
+                n,
+                ones,
+                sizes,
+                masses,
+                costs,
+                flow,
+                list,
+                pairs,
+                terms,
+                runs,
+                c,
+            );
         }
     }
 }
@@ -235,16 +287,25 @@ fn run_begun(
     lefts: &[u16],
     rights: &[u16],
     index: &[u16],
+    ones: &[u8],
+    sizes: &mut [u32],
+    masses: &mut [u32],
+    costs: &mut [u64],
+    flow: &mut [u64],
+    list: &mut [u64],
     pairs: &mut [u32],
     terms: &mut [u32],
     runs: &mut [u64],
 ) -> Ran
-    requires { ⌜ Loaded (now s) im × Valid (tablesOf (now s)) × (l < im .classes) × (r < im .classes) × (4096 ≤ length (now lefts)) × (4096 ≤ length (now rights)) × (65536 ≤ length (now index)) × (24576 ≤ length (now pairs)) × Ready (tablesOf (now s)) (l, r) budget b (now lefts) (now rights) (now index) (now terms) (now runs) ⌝ }
-    ensures { λ x. ⌜ RanTo (runOf (tablesOf (now (s .entry))) (l, r) budget) (now (terms .exit)) (now (runs .exit)) x ⌝ }
+    requires { ⌜ Loaded (now s) im × Valid (tablesOf (now s)) × (l < im .classes) × (r < im .classes) × (4096 ≤ length (now lefts)) × (4096 ≤ length (now rights)) × (24576 ≤ length (now pairs)) × UnlessBegun b (ShortBegin (now index) (now terms) (now runs)) (Ready (tablesOf (now s)) (l, r) budget b (now lefts) (now rights) (now index) (now terms) (now runs)) × Roomy (now ones) (now sizes) (now masses) (now costs) (now flow) (now list) ⌝ }
+    ensures { λ x. ⌜ UnlessRan x (ShortFinish (length (now (sizes .entry))) (now (index .entry)) (now (terms .exit)) (now (runs .exit))) (RanTo (length (now (sizes .entry))) (runOf (tablesOf (now (s .entry))) (l, r) budget) (now (terms .exit)) (now (runs .exit)) x) ⌝ }
 {
     match b {
         Begun::Stopped(k) => {
             return Ran::Stopped(k);
+        }
+        Begun::Short => {
+            return Ran::Short;
         }
         Begun::Cut(root) => {
             return Ran::Done(report_started(s, im, l, r, 1, root));
@@ -260,6 +321,12 @@ fn run_begun(
                 rights,
                 index,
                 n,
+                ones,
+                sizes,
+                masses,
+                costs,
+                flow,
+                list,
                 pairs,
                 terms,
                 runs,
@@ -271,12 +338,15 @@ fn run_begun(
 
 // the listing or the refusal of a run
 fn list_ran(x: Ran, terms: &[u32], runs: &[u64], marks: &mut [u16], out: &mut [u8]) -> Answer
-    requires { ⌜ Listable x (now terms) (now runs) × (32768 ≤ length (now marks)) ⌝ }
-    ensures { λ a. ⌜ Answers (ranOf x (now (terms .entry)) (now (runs .entry))) (now (out .entry)) (now (out .exit)) a ⌝ }
+    requires { ⌜ Listable x (now terms) (now runs) ⌝ }
+    ensures { λ a. ⌜ Listed x (now (terms .entry)) (now (runs .entry)) (now (marks .entry)) (now (out .entry)) (now (out .exit)) a ⌝ }
 {
     match x {
         Ran::Stopped(k) => {
             return Answer::Refused(k);
+        }
+        Ran::Short => {
+            return Answer::Short;
         }
         Ran::Done(o) => {
             return list_outcome(o, terms, runs, marks, out);
@@ -334,7 +404,7 @@ fn clear_all(
 }
 
 // ---- the run in two parts, with the table of pairs between them
-// An empty pool, the root's starting term and the graph.
+// An empty pool, the root's starting term and the graph. `index` has 256 numbers a class.
 pub fn begin(
     s: &[u8],
     im: Image,
@@ -347,15 +417,22 @@ pub fn begin(
     terms: &mut [u32],
     runs: &mut [u64],
 ) -> Begun
-    requires { ⌜ Loaded (now s) im × Valid (tablesOf (now s)) × (l < im .classes) × (r < im .classes) × (4096 ≤ length (now lefts)) × (4096 ≤ length (now rights)) × (65536 ≤ length (now index)) × (69634 ≤ length (now terms)) × (65536 ≤ length (now runs)) ⌝ }
-    ensures { λ x. ⌜ Begins (tablesOf (now (s .entry))) (l, r) budget (now (lefts .entry)) (now (rights .entry)) (now (index .entry)) (now (terms .entry)) (now (runs .entry)) (now (lefts .exit)) (now (rights .exit)) (now (index .exit)) (now (terms .exit)) (now (runs .exit)) x ⌝ }
+    requires { ⌜ Loaded (now s) im × Valid (tablesOf (now s)) × (l < im .classes) × (r < im .classes) × (4096 ≤ length (now lefts)) × (4096 ≤ length (now rights)) × (4098 ≤ length (now terms)) ⌝ }
+    ensures { λ x. ⌜ UnlessBegun x (ShortBegin (now (index .entry)) (now (terms .entry)) (now (runs .entry)))
+        (Begins (tablesOf (now (s .entry))) (l, r) budget (now (lefts .entry)) (now (rights .entry)) (now (index .entry)) (now (terms .entry)) (now (runs .entry)) (now (lefts .exit)) (now (rights .exit)) (now (index .exit)) (now (terms .exit)) (now (runs .exit)) x) ⌝ }
 {
+    if 256 * im.classes > index.len() {
+        return Begun::Short;
+    }
     let mut best = [0u16; 256];
     terms::empty(terms);
     let e = best_terms::evaluate_generalize_action(s, im, terms, runs, &mut best, l, r);
     match e {
         Entered::Full => {
             return Begun::Stopped(13);
+        }
+        Entered::Short => {
+            return Begun::Short;
         }
         Entered::Term(root) => {
             let b = Budget { left: budget };
@@ -375,7 +452,7 @@ pub fn begin(
     }
 }
 
-// Starting terms, rounds and the listing; then every work buffer is cleared.
+// Starting terms, rounds and the listing; then every work buffer is cleared. What the scratch buffers of a turn (sizes to list) hold is left open.
 // `budget` is the whole budget of the run, for the contract alone: b is what `begin` answered.
 pub fn finish(
     s: &[u8],
@@ -390,10 +467,17 @@ pub fn finish(
     pairs: &mut [u32],
     terms: &mut [u32],
     runs: &mut [u64],
+    ones: &[u8],
+    sizes: &mut [u32],
+    masses: &mut [u32],
+    costs: &mut [u64],
+    flow: &mut [u64],
+    list: &mut [u64],
     out: &mut [u8],
 ) -> Answer
-    requires { ⌜ Loaded (now s) im × Valid (tablesOf (now s)) × (l < im .classes) × (r < im .classes) × (4096 ≤ length (now lefts)) × (4096 ≤ length (now rights)) × (65536 ≤ length (now index)) × (24576 ≤ length (now pairs)) × Ready (tablesOf (now s)) (l, r) budget b (now lefts) (now rights) (now index) (now terms) (now runs) ⌝ }
-    ensures { λ x. ⌜ Finishes (tablesOf (now (s .entry))) (l, r) budget (now (lefts .entry)) (now (rights .entry)) (now (index .entry)) (now (pairs .entry)) (now (terms .entry)) (now (runs .entry)) (now (out .entry)) (now (lefts .exit)) (now (rights .exit)) (now (index .exit)) (now (pairs .exit)) (now (terms .exit)) (now (runs .exit)) (now (out .exit)) x ⌝ }
+    requires { ⌜ Loaded (now s) im × Valid (tablesOf (now s)) × (l < im .classes) × (r < im .classes) × (4096 ≤ length (now lefts)) × (4096 ≤ length (now rights)) × (24576 ≤ length (now pairs)) × UnlessBegun b (ShortBegin (now index) (now terms) (now runs)) (Ready (tablesOf (now s)) (l, r) budget b (now lefts) (now rights) (now index) (now terms) (now runs)) × Roomy (now ones) (now sizes) (now masses) (now costs) (now flow) (now list) ⌝ }
+    ensures { λ x. ⌜ UnlessAnswer x (EndsShort (length (now (sizes .entry))) (now (lefts .entry)) (now (rights .entry)) (now (index .entry)) (now (pairs .entry)) (now (terms .entry)) (now (runs .entry)) (now (out .entry)) (now (lefts .exit)) (now (rights .exit)) (now (index .exit)) (now (pairs .exit)) (now (terms .exit)) (now (runs .exit)) (now (out .exit)))
+        (Finishes (tablesOf (now (s .entry))) (l, r) budget (now (lefts .entry)) (now (rights .entry)) (now (index .entry)) (now (pairs .entry)) (now (terms .entry)) (now (runs .entry)) (now (out .entry)) (now (lefts .exit)) (now (rights .exit)) (now (index .exit)) (now (pairs .exit)) (now (terms .exit)) (now (runs .exit)) (now (out .exit)) x) ⌝ }
 {
     let x = run_begun(
         s,
@@ -405,6 +489,12 @@ pub fn finish(
         lefts,
         rights,
         index,
+        ones,
+        sizes,
+        masses,
+        costs,
+        flow,
+        list,
         pairs,
         terms,
         runs,

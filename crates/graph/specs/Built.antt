@@ -44,13 +44,13 @@ apart-at (x ∷ ps) (more n d) zero h = refl
 apart-at (x ∷ ps) (more n d) (suc j) h = rw (other x (getD ps j (0, 0)) ps n (get-in ps j (omega arith)), any) (apart-at ps d j (omega arith))
 
 -- ---- the index
-pub number-of : (ps : List Two) (z : List ℕ) → Distinct ps → AllSmall ps → 65536 ≤ length z → (q : Two) → In q ps → getD (numbered 0 ps z) (q .0 * 256 + q .1) 0 ≡ place (sameTwo q) ps
-number-of ps z d s h q i = go (numbered-at 0 ps z (code q) (omega (arith, h, s q i)))
+pub number-of : (ps : List Two) (z : List ℕ) → Distinct ps → AllSmall (length z) ps → (q : Two) → In q ps → getD (numbered 0 ps z) (q .0 * 256 + q .1) 0 ≡ place (sameTwo q) ps
+number-of ps z d s q i = go (numbered-at 0 ps z (code q) (omega (arith, s q i .0, s q i .2)))
   where
     go : Numbered 0 ps z (code q) → getD (numbered 0 ps z) (code q) 0 ≡ place (sameTwo q) ps
     go (kept e f) = absurd (f q i refl)
     go (given j l e f) =
-        let w : getD ps j (0, 0) ≡ q = code-one (getD ps j (0, 0)) q (s (getD ps j (0, 0)) (get-in ps j l)) (s q i) f in
+        let w : getD ps j (0, 0) ≡ q = code-one (getD ps j (0, 0)) q (s (getD ps j (0, 0)) (get-in ps j l) .2) (s q i .2) f in
         let y : place (sameTwo (getD ps j (0, 0))) ps ≡ j = place-at ps d j l in
         let x : place (sameTwo (getD ps j (0, 0))) ps ≡ place (sameTwo q) ps = ap (λ (p : Two). place (sameTwo p) ps) w in
         omega (arith, e, x, y)
@@ -117,9 +117,9 @@ module _ (t : Tables) (p : Two) (b c : ℕ) (ps : List Two) (e : build t p b ≡
     pub built-within : (q : Two) → In q ps → IsPair t q
     built-within q i = reached q (L.build-whole t p b c ps e .exactly q .0 i)
 
-    pub built-small : AllSmall ps
-    built-small q i = let (x, y) = built-within q i in (omega (arith, x, v .counts .fewClasses), omega (arith, y, v .counts .fewClasses))
+    pub built-small : (m : ℕ) → 256 * length (t .classes) ≤ m → AllSmall m ps
+    built-small m wide q i = let (x, y) = built-within q i in (omega (arith, x, wide), omega (arith, x, v .counts .fewClasses), omega (arith, y, v .counts .fewClasses))
 
     -- the index has each pair's number
-    pub built-number : (z : List ℕ) → 65536 ≤ length z → (q : Two) → In q ps → getD (numbered 0 ps z) (q .0 * 256 + q .1) 0 ≡ place (sameTwo q) ps
-    built-number z l = number-of ps z built-distinct built-small l
+    pub built-number : (z : List ℕ) → 256 * length (t .classes) ≤ length z → (q : Two) → In q ps → getD (numbered 0 ps z) (q .0 * 256 + q .1) 0 ≡ place (sameTwo q) ps
+    built-number z wide = number-of ps z built-distinct (built-small (length z) wide)

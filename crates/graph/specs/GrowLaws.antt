@@ -18,11 +18,11 @@ use Rattle.lgg.specs.Lists.{in-left, in-right, in-append, in-cons, in-nil, is-i
 use Rattle.graph.specs.declared.Grown.{Grown}
 use Rattle.graph.specs.declared.Grown.the-variants.{To, Full}
 use Rattle.graph.specs.Building.{numbered, cleared}
-use Rattle.graph.specs.Growing.{pairsIn, AllSmall, Graph, Going, Grows}
+use Rattle.graph.specs.Growing.{pairsIn, Small, AllSmall, Graph, Going, Grows}
 use Rattle.graph.specs.ListLaws.{drop-later, pairs-length, pairs-at, pairs-set, numbered-last, Numbered, kept, given, numbered-at, code-one}
 
 -- ---- whether a pair is known
-module _ {n : ℕ} {lefts rights index : List ℕ} (g : Graph n lefts rights index) (l r : ℕ) (a : l < 256) (b : r < 256) where
+module _ {n : ℕ} {lefts rights index : List ℕ} (g : Graph n lefts rights index) (l r : ℕ) (s : Small (length index) (l, r)) where
   ps : List Two
   ps = pairsIn n lefts rights
 
@@ -33,7 +33,7 @@ module _ {n : ℕ} {lefts rights index : List ℕ} (g : Graph n lefts rights ind
   -- the index leads to a pair that is there
   found : In (l, r) ps → (getD index (l * 256 + r) 0 < n) × (getD ps (getD index (l * 256 + r) 0) (0, 0) ≡ (l, r))
   unfolding ps
-  found i = go (numbered-at 0 ps (cleared index) (l * 256 + r) (omega (arith, g .roomIndex, length-replicate {A = ℕ} (length index) 0)))
+  found i = go (numbered-at 0 ps (cleared index) (l * 256 + r) (omega (arith, s .0, s .2, length-replicate {A = ℕ} (length index) 0)))
     where
       at : getD index (l * 256 + r) 0 ≡ getD (numbered 0 ps (cleared index)) (l * 256 + r) 0
       at = ap (λ (s : List ℕ). getD s (l * 256 + r) 0) (g .numbers)
@@ -42,7 +42,7 @@ module _ {n : ℕ} {lefts rights index : List ℕ} (g : Graph n lefts rights ind
       go (kept e f) = absurd (f (l, r) i refl)
       go (given j h e f) =
           let z : getD index (l * 256 + r) 0 ≡ j = omega (arith, at, e) in
-          (omega (arith, z, h, many), ap (λ (k : ℕ). getD ps k (0, 0)) z ∙ code-one (getD ps j (0, 0)) (l, r) (g .small (getD ps j (0, 0)) (get-in ps j h)) (a, b) f)
+          (omega (arith, z, h, many), ap (λ (k : ℕ). getD ps k (0, 0)) z ∙ code-one (getD ps j (0, 0)) (l, r) (g .small (getD ps j (0, 0)) (get-in ps j h) .2) (s .2) f)
 
   pair-at : (k : ℕ) → k < n → getD ps k (0, 0) ≡ (getD lefts k 0, getD rights k 0)
   unfolding ps
@@ -98,8 +98,12 @@ enter-new : (ps : List Two) (p : Two) → false ≡ any (sameTwo p) ps → lengt
 unfolding enterAll enter
 enter-new ps p e h = rw (← e, lt-ltb (length ps) PAIRS h) refl
 
-none-small : AllSmall []
+none-small : {m : ℕ} → AllSmall m []
 none-small p i = absurd (in-nil i)
+
+-- the index has the length it had
+pub small-as : {m k : ℕ} {p : Two} → m ≡ k → Small m p → Small k p
+small-as e s = rw e at s
 
 enter-none : (ps : List Two) → enterAll ps [] ≡ ok ps
 unfolding enterAll
@@ -125,7 +129,7 @@ module _ {n : ℕ} {lefts rights index : List ℕ} (g : Graph n lefts rights ind
   fills e h = record { says = enter-full (pairsIn n lefts rights) (l, r) e (omega (arith, h, length-pairs)) }
 
   -- the buffers with one pair more
-  module _ (a : l < 256) (b : r < 256) (h : n < PAIRS) where
+  module _ (s : Small (length index) (l, r)) (h : n < PAIRS) where
     pairs-more : pairsIn (n + 1) (set lefts n l) (set rights n r) ≡ pairsIn n lefts rights ++ ((l, r) ∷ [])
     pairs-more = rw (add-one n) (pairs-set n lefts rights l r (omega (arith, h, g .roomLeft)) (omega (arith, h, g .roomRight)))
 
@@ -134,8 +138,7 @@ module _ {n : ℕ} {lefts rights index : List ℕ} (g : Graph n lefts rights ind
       few = omega (arith, h);
       roomLeft = omega (arith, g .roomLeft, length-set lefts n l);
       roomRight = omega (arith, g .roomRight, length-set rights n r);
-      roomIndex = omega (arith, g .roomIndex, length-set index (l * 256 + r) n);
-      small = rw pairs-more (λ p i. ⊎-elim (λ j. g .small p j) (λ j. ⊎-elim (λ e. rw e (a, b)) (λ k. absurd (in-nil k)) (in-cons j)) (in-append (pairsIn n lefts rights) i));
+      small = rw pairs-more (λ p i. small-as (sym size) (⊎-elim (λ j. g .small p j) (λ j. ⊎-elim (λ e. rw e s) (λ k. absurd (in-nil k)) (in-cons j)) (in-append (pairsIn n lefts rights) i)));
       numbers = last;
     }
       where
@@ -173,7 +176,7 @@ enter-append ps (p ∷ a) b = go (enter ps p) (λ qs. enter-append qs a b)
     go (ok qs) ih = ih qs
     go (refused n) ih = refl
 
-pub going-start : {n : ℕ} {lefts rights index : List ℕ} (list : List Two) → Graph n lefts rights index → AllSmall list → Going (enterAll (pairsIn n lefts rights) list) list n lefts rights n lefts rights index
+pub going-start : {n : ℕ} {lefts rights index : List ℕ} (list : List Two) → Graph n lefts rights index → AllSmall (length index) list → Going (enterAll (pairsIn n lefts rights) list) list n lefts rights n lefts rights index
 going-start {n} list g s = record { leads = refl; graph = g; more = le-refl n; behindLeft = refl; behindRight = refl; small = s }
 
 module _ {g : Res (List Two)} {rest : List Two} {n₀ : ℕ} {lefts₀ rights₀ : List ℕ} {n : ℕ} {lefts rights index : List ℕ} (d : Going g rest n₀ lefts₀ rights₀ n lefts rights index) where
@@ -183,7 +186,7 @@ module _ {g : Res (List Two)} {rest : List Two} {n₀ : ℕ} {lefts₀ rights₀
 
   module _ (a b : List Two) (e : rest ≡ a ++ b) where
     -- what comes first is small
-    pub going-small : AllSmall a
+    pub going-small : AllSmall (length index) a
     going-small p i = d .small p (rw e (in-left b i))
 
     then : enterAll (pairsIn n lefts rights) rest ≡ (enterAll (pairsIn n lefts rights) a >>= λ qs. enterAll qs b)
@@ -193,8 +196,8 @@ module _ {g : Res (List Two)} {rest : List Two} {n₀ : ℕ} {lefts₀ rights₀
     after x q = sym (d .leads) ∙ then ∙ ap (λ (y : Res (List Two)). y >>= λ qs. enterAll qs b) q
 
     -- it is entered, and the rest is left
-    pub going-on : {m : ℕ} {lefts′ rights′ index′ : List ℕ} (x : Grown) → Grows (enterAll (pairsIn n lefts rights) a) n lefts rights lefts′ rights′ index′ x → x ≡ To m → Going g b n₀ lefts₀ rights₀ m lefts′ rights′ index′
-    going-on {m} {lefts′} {rights′} {index′} x w z = go (rw z at (w .says))
+    pub going-on : {m : ℕ} {lefts′ rights′ index′ : List ℕ} (x : Grown) → Grows (enterAll (pairsIn n lefts rights) a) n lefts rights lefts′ rights′ index′ x → x ≡ To m → length index′ ≡ length index → Going g b n₀ lefts₀ rights₀ m lefts′ rights′ index′
+    going-on {m} {lefts′} {rights′} {index′} x w z same = go (rw z at (w .says))
       where
         go : Going (enterAll (pairsIn n lefts rights) a) [] n lefts rights m lefts′ rights′ index′ → Going g b n₀ lefts₀ rights₀ m lefts′ rights′ index′
         go w = record {
@@ -203,7 +206,7 @@ module _ {g : Res (List Two)} {rest : List Two} {n₀ : ℕ} {lefts₀ rights₀
           more = le-trans (d .more) (w .more);
           behindLeft = w .behindLeft ∙ drop-later lefts lefts₀ n m (w .more) (d .behindLeft);
           behindRight = w .behindRight ∙ drop-later rights rights₀ n m (w .more) (d .behindRight);
-          small = λ p i. d .small p (rw e (in-right a i));
+          small = λ p i. small-as (sym same) (d .small p (rw e (in-right a i)));
         }
 
     -- it does not fit
@@ -215,6 +218,6 @@ module _ {g : Res (List Two)} {rest : List Two} {n₀ : ℕ} {lefts₀ rights₀
   going-end e = record { says = rw e at d }
 
   -- the rest as one list, whatever the answer
-  pub going-last : {lefts′ rights′ index′ : List ℕ} (x : Grown) → Grows (enterAll (pairsIn n lefts rights) rest) n lefts rights lefts′ rights′ index′ x → Grows g n₀ lefts₀ rights₀ lefts′ rights′ index′ x
-  going-last (To m) w = record { says = going-on rest [] (sym (append-nil rest)) (To m) w refl }
-  going-last Full w = going-full rest [] (sym (append-nil rest)) Full w refl
+  pub going-last : {lefts′ rights′ index′ : List ℕ} (x : Grown) → Grows (enterAll (pairsIn n lefts rights) rest) n lefts rights lefts′ rights′ index′ x → length index′ ≡ length index → Grows g n₀ lefts₀ rights₀ lefts′ rights′ index′ x
+  going-last (To m) w same = record { says = going-on rest [] (sym (append-nil rest)) (To m) w refl same }
+  going-last Full w same = going-full rest [] (sym (append-nil rest)) Full w refl

@@ -1,7 +1,7 @@
 -- The graph while it grows: the pairs that the buffers hold, and what entering a list of pairs leaves.
 use mathlib.Core.Path.{_≡_}
 use mathlib.Core.List.{List, [], _∷_}
-use Prim.Native.Nat.{ℕ, zero, suc, _≤_, _<_}
+use Prim.Native.Nat.{ℕ, zero, suc, _+_, _*_, _≤_, _<_}
 use lib.ListN.{length, drop}
 use Rattle.spec.specs.Bytes.{Two, Res, ok, refused, Checked, passed, cutShort}
 use Rattle.spec.specs.Image.{Tables}
@@ -23,20 +23,19 @@ pairsIn (suc n) [] rights = []
 pairsIn (suc n) (l ∷ lefts) [] = []
 pairsIn (suc n) (l ∷ lefts) (r ∷ rights) = (l, r) ∷ pairsIn n lefts rights
 
--- both classes fit the index
-abbrev pub Small : Two → Type 0
-Small p = (p .0 < 256) × (p .1 < 256)
+-- both classes fit an index of m numbers
+abbrev pub Small : ℕ → Two → Type 0
+Small m p = (p .0 * 256 + 256 ≤ m) × (p .0 < 256) × (p .1 < 256)
 
-abbrev pub AllSmall : List Two → Type 0
-AllSmall l = (p : Two) → In p l → Small p
+abbrev pub AllSmall : ℕ → List Two → Type 0
+AllSmall m l = (p : Two) → In p l → Small m p
 
 -- The buffers hold n pairs, and the index has each one's number.
 pub record Graph (n : ℕ) (lefts rights index : List ℕ) : Type 0 where
   pub few : n ≤ PAIRS
   pub roomLeft : PAIRS ≤ length lefts
   pub roomRight : PAIRS ≤ length rights
-  pub roomIndex : 65536 ≤ length index
-  pub small : AllSmall (pairsIn n lefts rights)
+  pub small : AllSmall (length index) (pairsIn n lefts rights)
   pub numbers : index ≡ numbered 0 (pairsIn n lefts rights) (cleared index)
 
 -- From n₀ pairs to n: what is still to be entered leads to g, and the buffers behind the pairs are as they were.
@@ -46,7 +45,7 @@ pub record Going (g : Res (List Two)) (rest : List Two) (n₀ : ℕ) (lefts₀ r
   pub more : n₀ ≤ n
   pub behindLeft : drop n lefts ≡ drop n lefts₀
   pub behindRight : drop n rights ≡ drop n rights₀
-  pub small : AllSmall rest
+  pub small : AllSmall (length index) rest
 
 -- What entering leaves, by its answer: nothing more is to be entered; or a pair beyond 4,096 would be, and the buffers are open.
 abbrev pub GrowsTo : Res (List Two) → ℕ → List ℕ → List ℕ → List ℕ → List ℕ → List ℕ → Grown → Type 0

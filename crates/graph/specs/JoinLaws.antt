@@ -1,7 +1,7 @@
 -- What is left to be entered at each turn: pairs of an action, actions, columns, rows, transports. Assumes nothing.
 use mathlib.Core.Path.{_≡_, refl, ap, _∙_}
 use mathlib.Core.List.{List, [], _∷_, _++_, map}
-use Prim.Native.Nat.{ℕ, suc, _+_, _≤_, _<_}
+use Prim.Native.Nat.{ℕ, suc, _+_, _*_, _≤_, _<_}
 use native.Mathlib.Numerals.{add-one}
 use native.Mathlib.Omega.{arith}
 use lib.ListN.{length, getD, drop, drop-of-length-le}
@@ -143,19 +143,19 @@ module _ (t : Tables) (l r : ℕ) where
   pub within-here : (x : Step) (w : Walk) → Within t l r x → x ≡ At w → Within t l r (At w)
   within-here x w d q = rw q at d
 
--- ---- all pairs are of classes of the image, so they fit the index
-module _ (t : Tables) (v : Valid t) (l r : ℕ) (a : l < length (t .classes)) (b : r < length (t .classes)) where
-  pub small-pair : (p : Two) → IsPair t p → Small p
-  small-pair p (x, y) = (omega (arith, x, v .counts .fewClasses), omega (arith, y, v .counts .fewClasses))
+-- ---- all pairs are of classes of the image, so they fit an index of m numbers
+module _ (t : Tables) (v : Valid t) (l r : ℕ) (a : l < length (t .classes)) (b : r < length (t .classes)) (m : ℕ) (wide : 256 * length (t .classes) ≤ m) where
+  pub small-pair : (p : Two) → IsPair t p → Small m p
+  small-pair p (x, y) = (omega (arith, x, wide), omega (arith, x, v .counts .fewClasses), omega (arith, y, v .counts .fewClasses))
 
-  pub joins-small : AllSmall (joins t (l, r))
+  pub joins-small : AllSmall m (joins t (l, r))
   joins-small p i = small-pair p (joins-within t v (l, r) (a, b) p i)
 
-  pub structural-small : AllSmall (pairsOf (structural t l r))
+  pub structural-small : AllSmall m (pairsOf (structural t l r))
   unfolding joins
   structural-small p i = small-pair p (joins-within t v (l, r) (a, b) p (in-left (cellsOf (transports t l r)) i))
 
-  pub transports-small : AllSmall (cellsOf (transports t l r))
+  pub transports-small : AllSmall m (cellsOf (transports t l r))
   unfolding joins
   transports-small p i = small-pair p (joins-within t v (l, r) (a, b) p (in-right (pairsOf (structural t l r)) i))
 

@@ -10,7 +10,7 @@ use lib.Seq.{getD-set-same, getD-set-other, drop-drop}
 use Rattle.spec.specs.Bytes.{Two, each}
 use Rattle.spec.specs.Meaning.{In, here, there}
 use Rattle.graph.specs.Building.{code, numbered}
-use Rattle.graph.specs.Growing.{pairsIn, Small}
+use Rattle.graph.specs.Growing.{pairsIn}
 
 -- ---- lists, one after the other
 pub each-append : {A B : Type 0} (f : A → List B) (a b : List A) → each f (a ++ b) ≡ each f a ++ each f b
@@ -97,9 +97,9 @@ numbered-at k (q ∷ ps) z c h = go (numbered-at (suc k) ps (set z (code q) k) c
     go (kept a f) (yes e) = given 0 (omega arith) (a ∙ ap (λ (i : ℕ). getD (set z i k) c 0) e ∙ getD-set-same z c k 0 h ∙ omega arith) e
     go (kept a f) (no g) = kept (a ∙ getD-set-other z (code q) c k 0 (λ e. g (sym e))) (other f g)
 
--- two small pairs with one place are one pair
-pub code-one : (p q : Two) → Small p → Small q → code p ≡ code q → p ≡ q
-code-one p q (a, b) (c, d) e =
+-- two pairs with one place are one pair, if the right classes are below 256
+pub code-one : (p q : Two) → p .1 < 256 → q .1 < 256 → code p ≡ code q → p ≡ q
+code-one p q a b e =
     let x : p .0 ≡ q .0 = omega arith in
     let y : p .1 ≡ q .1 = omega arith in
     λ i. (x i, y i)

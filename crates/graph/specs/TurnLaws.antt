@@ -30,7 +30,7 @@ use Rattle.graph.specs.declared.Built.the-variants.{All, Cut, Full}
 use Rattle.graph.specs.Building.{numbered, over, cleared, Builds}
 use Rattle.graph.specs.Growing.{pairsIn, Small, AllPairs, Graph, Going, Grows, Whole, Ends}
 use Rattle.graph.specs.ListLaws.{drop-later, pairs-length, pairs-at, pairs-lefts, pairs-rights, pairs-set}
-use Rattle.graph.specs.GrowLaws.{graph-more}
+use Rattle.graph.specs.GrowLaws.{small-as, graph-more}
 
 -- ---- a check
 pub check-none : (b : Budget) (x : Spent) → x ≡ spendOf b → not (x .passed) ≡ true → b .left ≡ 0
@@ -144,7 +144,7 @@ module _ (t : Tables) {g : Res (Checked (List Two))} {lefts₀ rights₀ : List 
 
 -- ---- from the queried pair to the cleared or full buffers
 module _ (t : Tables) (l r b : ℕ) (lefts rights index : List ℕ) {lefts₁ rights₁ index₀ index₁ : List ℕ}
-    (small : Small (l, r)) (roomLeft : PAIRS ≤ length lefts) (roomRight : PAIRS ≤ length rights) (roomIndex : 65536 ≤ length index)
+    (small : Small (length index) (l, r)) (roomLeft : PAIRS ≤ length lefts) (roomRight : PAIRS ≤ length rights)
     (wiped : index₀ ≡ cleared index) (first : lefts₁ ≡ set lefts 0 l) (second : rights₁ ≡ set rights 0 r) (third : index₁ ≡ set index₀ (l * 256 + r) 0) where
   empty : Graph 0 lefts rights index₀
   unfolding pairsIn numbered
@@ -152,7 +152,6 @@ module _ (t : Tables) (l r b : ℕ) (lefts rights index : List ℕ) {lefts₁ ri
     few = omega arith;
     roomLeft = roomLeft;
     roomRight = roomRight;
-    roomIndex = rw wiped (omega (arith, roomIndex, length-replicate {A = ℕ} (length index) 0));
     small = λ p i. absurd (in-nil i);
     numbers = rw wiped (ap (λ (k : ℕ). replicate k 0) (sym (length-replicate {A = ℕ} (length index) 0)));
   }
@@ -162,7 +161,7 @@ module _ (t : Tables) (l r b : ℕ) (lefts rights index : List ℕ) {lefts₁ ri
   one-pair = rw (first, second) (pairs-set 0 lefts rights l r (omega (arith, roomLeft)) (omega (arith, roomRight)))
 
   pub begin-graph : Graph 1 lefts₁ rights₁ index₁
-  begin-graph = rw (first, second, third) (graph-more empty l r (small .0) (small .1) (omega arith))
+  begin-graph = rw (first, second, third) (graph-more empty l r (small-as (sym (ap length wiped ∙ length-replicate {A = ℕ} (length index) 0)) small) (omega arith))
 
   pub begin-pairs : IsPair t (l, r) → AllPairs t (pairsIn 1 lefts₁ rights₁)
   begin-pairs h = rw one-pair (λ p i. ⊎-elim (λ e. rw e h) (λ j. absurd (in-nil j)) (in-cons i))

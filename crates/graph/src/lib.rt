@@ -15,7 +15,7 @@ ghost use Rattle.actions.specs.Remaining.{Stands, actionAt};
 ghost use Rattle.ac_repr.specs.Terms.{TERMS, NUMBERS, held};
 ghost use Rattle.ac_repr.specs.Walk.{actionsAt};
 ghost use Rattle.graph.specs.Building.{Builds};
-ghost use Rattle.graph.specs.Growing.{pairsIn, AllSmall, AllPairs, Graph, Grows, Ends};
+ghost use Rattle.graph.specs.Growing.{pairsIn, Small, AllSmall, AllPairs, Graph, Grows, Ends};
 use ac_repr::Padded;
 use ac_repr::class_at;
 use ac_repr::pairs::Step;
@@ -97,7 +97,7 @@ fn clear_all(lefts: &mut [u16], rights: &mut [u16], index: &mut [u16])
 // ---- one pair
 // The pair (l, r) is one of the n.
 fn known(lefts: &[u16], rights: &[u16], index: &[u16], n: usize, l: usize, r: usize) -> bool
-    requires { ⌜ Graph n (now lefts) (now rights) (now index) × (l < 256) × (r < 256) ⌝ }
+    requires { ⌜ Graph n (now lefts) (now rights) (now index) × Small (length (now index)) (l, r) ⌝ }
     ensures { λ x. ⌜ x ≡ any (sameTwo (l, r)) (pairsIn n (now (lefts .entry)) (now (rights .entry))) ⌝ }
 {
     let k = number(index, l * 256 + r);
@@ -112,7 +112,7 @@ fn known(lefts: &[u16], rights: &[u16], index: &[u16], n: usize, l: usize, r: us
 
 // The pair (l, r) as number n.
 fn append(lefts: &mut [u16], rights: &mut [u16], index: &mut [u16], n: usize, l: usize, r: usize)
-    requires { ⌜ (n < 4096) × (4096 ≤ length (now lefts)) × (4096 ≤ length (now rights)) × (65536 ≤ length (now index)) × (l < 256) × (r < 256) ⌝ }
+    requires { ⌜ (n < 4096) × (4096 ≤ length (now lefts)) × (4096 ≤ length (now rights)) × Small (length (now index)) (l, r) ⌝ }
     ensures { λ _. ⌜ (now (lefts .exit) ≡ set (now (lefts .entry)) n l) × (now (rights .exit) ≡ set (now (rights .entry)) n r) × (now (index .exit) ≡ set (now (index .entry)) (l * 256 + r) n) ⌝ }
 {
     put2(lefts, n, l);
@@ -129,7 +129,7 @@ fn enter_pair(
     l: usize,
     r: usize,
 ) -> Grown
-    requires { ⌜ Graph n (now lefts) (now rights) (now index) × (l < 256) × (r < 256) ⌝ }
+    requires { ⌜ Graph n (now lefts) (now rights) (now index) × Small (length (now index)) (l, r) ⌝ }
     ensures { λ x. ⌜ Grows (enterAll (pairsIn n (now (lefts .entry)) (now (rights .entry))) ((l, r) ∷ [])) n (now (lefts .entry)) (now (rights .entry)) (now (lefts .exit)) (now (rights .exit)) (now (index .exit)) x ⌝ }
 {
     if known(lefts, rights, index, n, l, r) {
@@ -153,7 +153,7 @@ fn enter_action(
     index: &mut [u16],
     n0: usize,
 ) -> Grown
-    requires { ⌜ Loaded (now s) im × Valid (tablesOf (now s)) × Stands (tablesOf (now s)) v × Graph n0 (now lefts) (now rights) (now index) × AllSmall (actionAt (tablesOf (now s)) v .pairs) ⌝ }
+    requires { ⌜ Loaded (now s) im × Valid (tablesOf (now s)) × Stands (tablesOf (now s)) v × Graph n0 (now lefts) (now rights) (now index) × AllSmall (length (now index)) (actionAt (tablesOf (now s)) v .pairs) ⌝ }
     ensures { λ x. ⌜ Grows (enterAll (pairsIn n0 (now (lefts .entry)) (now (rights .entry))) (actionAt (tablesOf (now (s .entry))) v .pairs)) n0 (now (lefts .entry)) (now (rights .entry)) (now (lefts .exit)) (now (rights .exit)) (now (index .exit)) x ⌝ }
 {
     let many = count(s, im, v);
@@ -186,7 +186,7 @@ fn enter_actions(
     index: &mut [u16],
     n0: usize,
 ) -> Grown
-    requires { ⌜ Loaded (now s) im × Valid (tablesOf (now s)) × (l < im .classes) × (r < im .classes) × Graph n0 (now lefts) (now rights) (now index) ⌝ }
+    requires { ⌜ Loaded (now s) im × Valid (tablesOf (now s)) × (l < im .classes) × (r < im .classes) × Graph n0 (now lefts) (now rights) (now index) × (256 * im .classes ≤ length (now index)) ⌝ }
     ensures { λ x. ⌜ Grows (enterAll (pairsIn n0 (now (lefts .entry)) (now (rights .entry))) (each (λ a. a .pairs) (structural (tablesOf (now (s .entry))) l r))) n0 (now (lefts .entry)) (now (rights .entry)) (now (lefts .exit)) (now (rights .exit)) (now (index .exit)) x ⌝ }
 {
     let mut n = n0;
@@ -222,7 +222,7 @@ fn enter_row(
     index: &mut [u16],
     n0: usize,
 ) -> Grown
-    requires { ⌜ (length (now right) ≡ NUMBERS) × (cols ≤ TERMS) × Graph n0 (now lefts) (now rights) (now index) × AllSmall (map (λ b. (l, b)) (classes (held cols (now right)))) ⌝ }
+    requires { ⌜ (length (now right) ≡ NUMBERS) × (cols ≤ TERMS) × Graph n0 (now lefts) (now rights) (now index) × AllSmall (length (now index)) (map (λ b. (l, b)) (classes (held cols (now right)))) ⌝ }
     ensures { λ x. ⌜ Grows (enterAll (pairsIn n0 (now (lefts .entry)) (now (rights .entry))) (map (λ b. (l, b)) (classes (held cols (now (right .entry)))))) n0 (now (lefts .entry)) (now (rights .entry)) (now (lefts .exit)) (now (rights .exit)) (now (index .exit)) x ⌝ }
 {
     let mut n = n0;
@@ -253,7 +253,7 @@ fn enter_cells(
     index: &mut [u16],
     n0: usize,
 ) -> Grown
-    requires { ⌜ (length (now left) ≡ NUMBERS) × (rows ≤ TERMS) × (length (now right) ≡ NUMBERS) × (cols ≤ TERMS) × Graph n0 (now lefts) (now rights) (now index) × AllSmall (cellPairs (pairOf (held rows (now left)) (held cols (now right)))) ⌝ }
+    requires { ⌜ (length (now left) ≡ NUMBERS) × (rows ≤ TERMS) × (length (now right) ≡ NUMBERS) × (cols ≤ TERMS) × Graph n0 (now lefts) (now rights) (now index) × AllSmall (length (now index)) (cellPairs (pairOf (held rows (now left)) (held cols (now right)))) ⌝ }
     ensures { λ x. ⌜ Grows (enterAll (pairsIn n0 (now (lefts .entry)) (now (rights .entry))) (cellPairs (pairOf (held rows (now (left .entry))) (held cols (now (right .entry)))))) n0 (now (lefts .entry)) (now (rights .entry)) (now (lefts .exit)) (now (rights .exit)) (now (index .exit)) x ⌝ }
 {
     let mut n = n0;
@@ -285,7 +285,7 @@ fn enter_transport(
     index: &mut [u16],
     n: usize,
 ) -> Grown
-    requires { ⌜ Loaded (now s) im × Valid (tablesOf (now s)) × (l < im .classes) × (r < im .classes) × (w .op < im .operations) × Graph n (now lefts) (now rights) (now index) × AllSmall (each (λ a. cellPairs (a .sides)) (actionsAt (tablesOf (now s)) l r w)) ⌝ }
+    requires { ⌜ Loaded (now s) im × Valid (tablesOf (now s)) × (l < im .classes) × (r < im .classes) × (w .op < im .operations) × Graph n (now lefts) (now rights) (now index) × AllSmall (length (now index)) (each (λ a. cellPairs (a .sides)) (actionsAt (tablesOf (now s)) l r w)) ⌝ }
     ensures { λ x. ⌜ Grows (enterAll (pairsIn n (now (lefts .entry)) (now (rights .entry))) (each (λ a. cellPairs (a .sides)) (actionsAt (tablesOf (now (s .entry))) l r w))) n (now (lefts .entry)) (now (rights .entry)) (now (lefts .exit)) (now (rights .exit)) (now (index .exit)) x ⌝ }
 {
     let mut left = [0u64; ac_repr::NUMBERS];
@@ -307,7 +307,7 @@ fn enter_transports(
     index: &mut [u16],
     n0: usize,
 ) -> Grown
-    requires { ⌜ Loaded (now s) im × Valid (tablesOf (now s)) × (l < im .classes) × (r < im .classes) × Graph n0 (now lefts) (now rights) (now index) ⌝ }
+    requires { ⌜ Loaded (now s) im × Valid (tablesOf (now s)) × (l < im .classes) × (r < im .classes) × Graph n0 (now lefts) (now rights) (now index) × (256 * im .classes ≤ length (now index)) ⌝ }
     ensures { λ x. ⌜ Grows (enterAll (pairsIn n0 (now (lefts .entry)) (now (rights .entry))) (each (λ a. cellPairs (a .sides)) (transports (tablesOf (now (s .entry))) l r))) n0 (now (lefts .entry)) (now (rights .entry)) (now (lefts .exit)) (now (rights .exit)) (now (index .exit)) x ⌝ }
 {
     let mut n = n0;
@@ -344,7 +344,7 @@ fn enter_joins(
     index: &mut [u16],
     n: usize,
 ) -> Grown
-    requires { ⌜ Loaded (now s) im × Valid (tablesOf (now s)) × (l < im .classes) × (r < im .classes) × Graph n (now lefts) (now rights) (now index) ⌝ }
+    requires { ⌜ Loaded (now s) im × Valid (tablesOf (now s)) × (l < im .classes) × (r < im .classes) × Graph n (now lefts) (now rights) (now index) × (256 * im .classes ≤ length (now index)) ⌝ }
     ensures { λ x. ⌜ Grows (enterAll (pairsIn n (now (lefts .entry)) (now (rights .entry))) (joins (tablesOf (now (s .entry))) (l, r))) n (now (lefts .entry)) (now (rights .entry)) (now (lefts .exit)) (now (rights .exit)) (now (index .exit)) x ⌝ }
 {
     match enter_actions(s, im, l, r, lefts, rights, index, n) {
@@ -362,7 +362,7 @@ fn build_from(
     rights: &mut [u16],
     index: &mut [u16],
 ) -> Built
-    requires { ⌜ Loaded (now s) im × Valid (tablesOf (now s)) × Graph 1 (now lefts) (now rights) (now index) × AllPairs (tablesOf (now s)) (pairsIn 1 (now lefts) (now rights)) ⌝ }
+    requires { ⌜ Loaded (now s) im × Valid (tablesOf (now s)) × Graph 1 (now lefts) (now rights) (now index) × AllPairs (tablesOf (now s)) (pairsIn 1 (now lefts) (now rights)) × (256 * im .classes ≤ length (now index)) ⌝ }
     ensures { λ x. ⌜ Ends (buildFrom (budget .left) (tablesOf (now (s .entry))) (pairsIn 1 (now (lefts .entry)) (now (rights .entry))) 0) (now (lefts .entry)) (now (rights .entry)) (now (lefts .exit)) (now (rights .exit)) (now (index .exit)) x ⌝ }
 {
     let mut n = 1;
@@ -401,7 +401,7 @@ pub fn build(
     rights: &mut [u16],
     index: &mut [u16],
 ) -> Built
-    requires { ⌜ Loaded (now s) im × Valid (tablesOf (now s)) × (l < im .classes) × (r < im .classes) × (4096 ≤ length (now lefts)) × (4096 ≤ length (now rights)) × (65536 ≤ length (now index)) ⌝ }
+    requires { ⌜ Loaded (now s) im × Valid (tablesOf (now s)) × (l < im .classes) × (r < im .classes) × (4096 ≤ length (now lefts)) × (4096 ≤ length (now rights)) × (256 * im .classes ≤ length (now index)) ⌝ }
     ensures { λ x. ⌜ Builds (build (tablesOf (now (s .entry))) (l, r) (budget .left)) (now (lefts .entry)) (now (rights .entry)) (now (index .entry)) (now (lefts .exit)) (now (rights .exit)) (now (index .exit)) x ⌝ }
 {
     clear2(index);

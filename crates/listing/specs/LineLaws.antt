@@ -2,7 +2,7 @@
 use mathlib.Core.Path.{_≡_, refl, sym, ap, ap₂, _∙_}
 use mathlib.Core.Bool.{Bool, true, false}
 use mathlib.Core.List.{List, [], _∷_, _++_, map, append-assoc, append-nil}
-use Prim.Native.Nat.{ℕ, zero, suc, _+_, _-_, _/_, _%_, _<_}
+use Prim.Native.Nat.{ℕ, zero, suc, _+_, _*_, _-_, _/_, _%_, _<_}
 use native.Mathlib.Omega.{arith}
 use lib.Dec.{eqb}
 use lib.ListN.{length, getD, drop}
@@ -51,7 +51,7 @@ module _ (m : ℕ) (w l : List ℕ) (N : Numbered m w l) where
   unfolding each runField text
   runs-are [] h = refl
   runs-are (r ∷ rs) h =
-      let e : place (eqb (r % 16384)) l ≡ getD w (r % 16384) 0 - 1 = omega (arith, number-of m w l N (r % 16384) (h r here)) in
+      let e : place (eqb (r % 16384)) l ≡ getD w (2 * (r % 16384)) 0 - 1 = omega (arith, number-of m w l N (r % 16384) (h r here)) in
       ap₂ (λ (z : ℕ) (t : List ℕ). ((text " " ++ decimal z) ++ (text ":" ++ decimal (r / 16384))) ++ t) e (runs-are rs (λ s i. h s (there i)))
 
 module _ (terms runs w : List ℕ) (root n : ℕ) (H : Holds terms runs) (b : root < countIn terms) (L : Listed terms runs w root n) where
@@ -118,7 +118,7 @@ module _ (terms runs w : List ℕ) (root n : ℕ) (H : Holds terms runs) (b : ro
 
   pub ready : Ready terms runs w n
   ready = record {
-    room = L .numbered .room;
+    room = omega (arith, L .count, few-listed (countIn terms) w (subterms (poolOf terms runs) root) (L .numbered), L .numbered .room);
     few = omega (arith, L .count, few-listed (countIn terms) w (subterms (poolOf terms runs) root) (L .numbered), L .numbered .few);
     term = λ k h. t-below k (omega (arith, L .count));
     named = λ k h i a c.

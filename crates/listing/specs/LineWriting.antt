@@ -8,7 +8,7 @@ use Rattle.spec.specs.Bytes.{decimal}
 use Rattle.spec.specs.Listing.{listingOf}
 use Rattle.terms.specs.Buffers.{firstIn, headIn, valueIn, countIn}
 use Rattle.terms.specs.Chains.{Holds}
-use Rattle.terms.specs.PoolLaws.{first-fits}
+use Rattle.terms.specs.PoolLaws.{first-fits, first-inside}
 use Rattle.listing.specs.Numbering.{Listed}
 use Rattle.listing.specs.Lines.{headBytes, runsIn, termIn, lineIn, linesIn, firstBytes, outcomeOf, Named, Ready}
 use Rattle.listing.specs.Writing.{Wrote}
@@ -36,7 +36,7 @@ module _ (terms runs w : List ℕ) (n k : ℕ) (H : Holds terms runs) (Y : Ready
     line-ends = omega (arith, first-fits terms runs H (t + 1) (omega (arith, line-term)))
 
     pub line-within : to ≤ length runs
-    line-within = omega (arith, line-ends, H .roomy)
+    line-within = omega (arith, first-inside terms runs H (t + 1) (omega (arith, line-term)))
 
     pub line-named : Named w runs from to
     line-named = rw (f, g, e) (Y .named k b)

@@ -2,7 +2,7 @@
 use mathlib.Core.Path.{_≡_, refl, sym, ap, _∙_}
 use mathlib.Core.Bool.{Bool, true, false}
 use mathlib.Core.List.{List, [], _∷_, _++_}
-use Prim.Native.Nat.{ℕ, suc, _+_, _-_, _/_, _%_, _≤_, _<_}
+use Prim.Native.Nat.{ℕ, suc, _+_, _*_, _-_, _/_, _%_, _≤_, _<_}
 use native.Mathlib.Omega.{arith}
 use lib.ListN.{length, getD, length-append}
 use borrow.Author.Tests.{eq-eqb, ne-eqb}
@@ -19,9 +19,9 @@ labelled-length : (b : List ℕ) (v : ℕ) → length (b ++ decimal v) ≡ lengt
 labelled-length b v = length-append b (decimal v)
 
 -- ---- a run
-module _ (w : List ℕ) (r : ℕ) {a v : ℕ} (e : a ≡ r % 16384) (f : v ≡ getD w a 0 - 1) where
+module _ (w : List ℕ) (r : ℕ) {a v : ℕ} (e : a ≡ r % 16384) (f : v ≡ getD w (2 * a) 0 - 1) where
   run-is : runIn w r ≡ (text " " ++ decimal v) ++ (text ":" ++ decimal (r / 16384))
-  run-is = ap (λ (z : ℕ). (text " " ++ decimal z) ++ (text ":" ++ decimal (r / 16384))) (sym (f ∙ ap (λ (z : ℕ). getD w z 0 - 1) e))
+  run-is = ap (λ (z : ℕ). (text " " ++ decimal z) ++ (text ":" ++ decimal (r / 16384))) (sym (f ∙ ap (λ (z : ℕ). getD w (2 * z) 0 - 1) e))
 
   pub run-length : length (runIn w r) ≡ 1 + length (decimal v) + 1 + length (decimal (r / 16384))
   unfolding text

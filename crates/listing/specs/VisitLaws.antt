@@ -2,7 +2,7 @@
 use mathlib.Core.Path.{_≡_, refl, sym, ap, _∙_}
 use mathlib.Core.Bool.{false}
 use mathlib.Core.List.{List, [], _∷_, _++_, map}
-use Prim.Native.Nat.{ℕ, zero, suc, _+_, _-_, _%_, _≤_, _<_}
+use Prim.Native.Nat.{ℕ, zero, suc, _+_, _*_, _-_, _%_, _≤_, _<_}
 use native.Mathlib.Nat.{not-suc-le-zero}
 use native.Mathlib.Omega.{arith}
 use lib.Dec.{eqb}
@@ -14,11 +14,11 @@ use Rattle.spec.specs.Meaning.{In, here, there}
 use Rattle.lgg.specs.Lists.{in-map}
 use Rattle.terms.specs.Buffers.{part, unpack, firstIn, lengthIn, partIn, poolOf, countIn}
 use Rattle.terms.specs.Chains.{Holds}
-use Rattle.terms.specs.PartLaws.{part-length, part-cons}
-use Rattle.terms.specs.PoolLaws.{pool-length, pool-at, runs-fit}
-use Rattle.listing.specs.Numbering.{ORDER, orderIn, settle, settleAll, cleared, numbersOf, Numbered, Walk, Listed}
+use Rattle.terms.specs.PartLaws.{part-cons}
+use Rattle.terms.specs.PoolLaws.{pool-length, pool-at, first-inside}
+use Rattle.listing.specs.Numbering.{orderFrom, orderIn, settle, settleAll, cleared, numbersOf, Numbered, Walk, Listed}
 use Rattle.listing.specs.WalkLaws.{not-seen, visit-seen, visit-fresh, visit-fuel, children-new}
-use Rattle.listing.specs.NumberLaws.{order-is, seen, fresh, walk-length, one-more, walk-none, walk-then, walk-more, numbered-none}
+use Rattle.listing.specs.NumberLaws.{order-length, order-is, seen, fresh, walk-length, one-more, walk-none, walk-then, walk-more, numbered-none}
 
 part-in : (n : ℕ) (l : List ℕ) (a i : ℕ) → i < n → In (getD l (a + i) 0) (part l a n)
 unfolding part
@@ -38,7 +38,7 @@ module _ (terms runs : List ℕ) (H : Holds terms runs) (t : ℕ) (b : t < count
   child-below i h k = H .valid .nodes t (rw (pool-length terms runs) b) .below .earlier (unpack (getD runs i 0)) (run-in i h k)
 
   pub within : firstIn terms (t + 1) ≤ length runs
-  within = omega (arith, runs-fit terms runs H t b, H .rises t b, H .roomy)
+  within = first-inside terms runs H (t + 1) (omega (arith, b))
 
 -- the loop over t's runs, before place i
 pub record Visiting (terms runs v : List ℕ) (n0 t end : ℕ) (w : List ℕ) (i n : ℕ) : Type 0 where
@@ -78,7 +78,7 @@ module _ (terms runs v : List ℕ) (n0 t end : ℕ) (H : Holds terms runs) (b : 
             ∙ sym (ap (λ (z : List ℕ). visitRuns (visitTerm t p) (map unpack z) (orderIn w n)) (part-cons runs i end h)) ∙ I .rest;
       }
 
-  module _ (w : List ℕ) (i n : ℕ) (I : Visiting terms runs v n0 t end w i n) (h : end ≤ i) (z : getD v t 0 ≡ 0) (N : Numbered (countIn terms) v (orderIn v n0)) where
+  module _ (w : List ℕ) (i n : ℕ) (I : Visiting terms runs v n0 t end w i n) (h : end ≤ i) (z : getD v (2 * t) 0 ≡ 0) (N : Numbered (countIn terms) v (orderIn v n0)) where
     all-visited : orderIn w n ≡ visitRuns (visitTerm t (poolOf terms runs)) (nodeAt (poolOf terms runs) t .runs) (orderIn v n0)
     unfolding part visitRuns
     all-visited = let e : end - i ≡ 0 = omega arith in rw e at (I .rest)
@@ -89,35 +89,35 @@ module _ (terms runs v : List ℕ) (n0 t end : ℕ) (H : Holds terms runs) (b : 
     not-yet : In t (orderIn w n) → ⊥
     not-yet j = children-new (poolOf terms runs) (H .valid) t (orderIn v n0) (rw (pool-length terms runs) b) (not-seen t (orderIn v n0) unseen) (rw all-visited at j)
 
-    pub visit-room : n < 16384
-    visit-room = omega (arith, one-more (countIn terms) w (orderIn w n) (I .walk .numbered) t b not-yet, part-length w ORDER n, H .few)
+    pub visit-room : n < countIn terms
+    visit-room = omega (arith, one-more (countIn terms) w (orderIn w n) (I .walk .numbered) t b not-yet, order-length w n)
 
     finished : orderIn w n ++ (t ∷ []) ≡ visitTerm (suc t) (poolOf terms runs) t (orderIn v n0)
     finished = rw all-visited (sym (visit-fresh (poolOf terms runs) t t (orderIn v n0) unseen))
 
     pub visit-length : n + 1 ≡ length (visitTerm (suc t) (poolOf terms runs) t (orderIn v n0))
-    visit-length = rw (← finished) (omega (arith, length-append (orderIn w n) (t ∷ []), part-length w ORDER n))
+    visit-length = rw (← finished) (omega (arith, length-append (orderIn w n) (t ∷ []), order-length w n))
 
     pub visit-walk : (w′ : List ℕ) → w′ ≡ settle w n t → Walk (countIn terms) v (orderIn v n0) w′ (visitTerm (suc t) (poolOf terms runs) t (orderIn v n0))
     visit-walk w′ e =
         let A = walk-more t (I .walk) b not-yet in
-        let f : settle w (length (orderIn w n)) t ≡ w′ = ap (λ (x : ℕ). settle w x t) (part-length w ORDER n) ∙ sym e in
+        let f : settle w (length (orderIn w n)) t ≡ w′ = ap (λ (x : ℕ). settle w x t) (order-length w n) ∙ sym e in
         rw (← finished, ← f) A
 
   -- a term that has its number
-  pub seen-already : (getD v t 0 ≡ 0 → ⊥) → Numbered (countIn terms) v (orderIn v n0)
+  pub seen-already : (getD v (2 * t) 0 ≡ 0 → ⊥) → Numbered (countIn terms) v (orderIn v n0)
       → (n0 ≡ length (visitTerm (suc t) (poolOf terms runs) t (orderIn v n0))) × Walk (countIn terms) v (orderIn v n0) v (visitTerm (suc t) (poolOf terms runs) t (orderIn v n0))
   seen-already z N =
       let e : visitTerm (suc t) (poolOf terms runs) t (orderIn v n0) ≡ orderIn v n0 = visit-seen (poolOf terms runs) t t (orderIn v n0) (seen (countIn terms) v (orderIn v n0) N t b z) in
-      (rw e (sym (part-length v ORDER n0)), rw e (walk-none N))
+      (rw e (sym (order-length v n0)), rw e (walk-none N))
 
 -- from the root, in a cleared buffer
-module _ (terms runs w : List ℕ) (m : ℕ) (w₁ : List ℕ) (H : Holds terms runs) (e : m ≡ countIn terms) (f : w₁ ≡ cleared m w) where
-  pub root-start : 32768 ≤ length w → Numbered (countIn terms) w₁ (orderIn w₁ 0)
-  unfolding part
+module _ (terms runs w : List ℕ) (m : ℕ) (w₁ : List ℕ) (H : Holds terms runs) (e : m ≡ countIn terms) (f : w₁ ≡ cleared (2 * m) w) where
+  pub root-start : 2 * countIn terms ≤ length w → Numbered (countIn terms) w₁ (orderIn w₁ 0)
+  unfolding orderFrom
   root-start h = rw (f, e) (numbered-none (countIn terms) w (H .few) h)
 
   pub root-finish : (root : ℕ) (w′ : List ℕ) (r : ℕ) → r ≡ length (visitTerm (suc root) (poolOf terms runs) root (orderIn w₁ 0))
       → Walk (countIn terms) w₁ (orderIn w₁ 0) w′ (visitTerm (suc root) (poolOf terms runs) root (orderIn w₁ 0)) → (w′ ≡ numbersOf terms runs root w) × Listed terms runs w′ root r
-  unfolding part numbersOf
-  root-finish root w′ r q A = (A .wrote ∙ ap (λ (z : List ℕ). settleAll 0 z w₁) (sym (A .grown)) ∙ ap (λ (z : List ℕ). settleAll 0 (subterms (poolOf terms runs) root) z) (f ∙ ap (λ (z : ℕ). cleared z w) e), record { count = q; numbered = A .numbered })
+  unfolding orderFrom numbersOf
+  root-finish root w′ r q A = (A .wrote ∙ ap (λ (z : List ℕ). settleAll 0 z w₁) (sym (A .grown)) ∙ ap (λ (z : List ℕ). settleAll 0 (subterms (poolOf terms runs) root) z) (f ∙ ap (λ (z : ℕ). cleared (2 * z) w) e), record { count = q; numbered = A .numbered })

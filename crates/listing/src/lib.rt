@@ -12,8 +12,7 @@ ghost use Rattle.listing.specs.Lines.{runIn, runsIn, headBytes, lineIn, 
 ghost use Rattle.listing.specs.Lists.{Lists};
 ghost use Rattle.listing.specs.Writing.{Wrote};
 
-// the work buffer: a term's number plus 1 at the term's place, the terms in the order of their numbers from ORDER on
-pub const ORDER: usize = 16384;
+// The work buffer has two numbers a term: at 2 * t the number of term t plus 1, at 2 * k + 1 the term of line k.
 
 // what the first line reports
 pub struct Report {
@@ -58,11 +57,11 @@ fn clear_marks(marks: &mut [u16], m: usize)
 
 // term t gets number n
 fn settle(marks: &mut [u16], n: usize, t: usize)
-    requires { ⌜ (32768 ≤ length (now marks)) × (n < 16384) × (t < 16384) ⌝ }
+    requires { ⌜ (2 * n + 1 < length (now marks)) × (2 * t < length (now marks)) × (n < 16384) × (t < 16384) ⌝ }
     ensures { λ _. ⌜ now (marks .exit) ≡ settle (now (marks .entry)) n t ⌝ }
 {
-    put2(marks, t, short(n + 1));
-    put2(marks, ORDER + n, short(t));
+    put2(marks, 2 * t, short(n + 1));
+    put2(marks, 2 * n + 1, short(t));
 }
 
 fn child(r: u64) -> usize
@@ -76,7 +75,7 @@ fn number(terms: &[u32], runs: &[u64], marks: &mut [u16], n0: usize, t: usize) -
     requires { ⌜ Holds (now terms) (now runs) × (t < countIn (now terms)) × Numbered (countIn (now terms)) (now marks) (orderIn (now marks) n0) ⌝ }
     ensures { λ r. ⌜ (r ≡ length (visitTerm (suc t) (poolOf (now (terms .entry)) (now (runs .entry))) t (orderIn (now (marks .entry)) n0))) × Walk (countIn (now (terms .entry))) (now (marks .entry)) (orderIn (now (marks .entry)) n0) (now (marks .exit)) (visitTerm (suc t) (poolOf (now (terms .entry)) (now (runs .entry))) t (orderIn (now (marks .entry)) n0)) ⌝ }
 {
-    if marks[t] != 0 {
+    if marks[2 * t] != 0 {
         return n0;
     }
     let end = terms::first(terms, t + 1);
@@ -92,11 +91,11 @@ fn number(terms: &[u32], runs: &[u64], marks: &mut [u16], n0: usize, t: usize) -
 
 // The root's subterms are numbered: how many they are.
 pub fn number_all(terms: &[u32], runs: &[u64], marks: &mut [u16], root: usize) -> usize
-    requires { ⌜ Holds (now terms) (now runs) × (root < countIn (now terms)) × (32768 ≤ length (now marks)) ⌝ }
+    requires { ⌜ Holds (now terms) (now runs) × (root < countIn (now terms)) × (2 * countIn (now terms) ≤ length (now marks)) ⌝ }
     ensures { λ r. ⌜ (now (marks .exit) ≡ numbersOf (now (terms .entry)) (now (runs .entry)) root (now (marks .entry))) × Listed (now (terms .entry)) (now (runs .entry)) (now (marks .exit)) root r ⌝ }
 {
     let m = terms::count(terms);
-    clear_marks(marks, m);
+    clear_marks(marks, 2 * m);
     number(terms, runs, marks, 0, root)
 }
 
@@ -117,14 +116,14 @@ fn num(x: u16) -> usize
 }
 
 fn number_of(marks: &[u16], t: usize) -> u64
-    requires { ⌜ (t < length (now marks)) × (0 < getD (now marks) t 0) ⌝ }
-    ensures { λ r. ⌜ r ≡ getD (now (marks .entry)) t 0 - 1 ⌝ }
+    requires { ⌜ 0 < getD (now marks) (2 * t) 0 ⌝ }
+    ensures { λ r. ⌜ r ≡ getD (now (marks .entry)) (2 * t) 0 - 1 ⌝ }
 {
-    (num(marks[t]) - 1) as u64
+    (num(marks[2 * t]) - 1) as u64
 }
 
 fn run_width(marks: &[u16], r: u64) -> usize
-    requires { ⌜ (32768 ≤ length (now marks)) × (0 < getD (now marks) (r % 16384) 0) ⌝ }
+    requires { ⌜ 0 < getD (now marks) (2 * (r % 16384)) 0 ⌝ }
     ensures { λ n. ⌜ (n ≡ length (runIn (now (marks .entry)) r)) × (n ≤ 42) ⌝ }
 {
     let a = digits(number_of(marks, child(r)));
@@ -132,7 +131,7 @@ fn run_width(marks: &[u16], r: u64) -> usize
 }
 
 fn runs_width(runs: &[u64], marks: &[u16], from: usize, to: usize) -> usize
-    requires { ⌜ (32768 ≤ length (now marks)) × (from ≤ to) × (to ≤ 65536) × (to ≤ length (now runs)) × Named (now marks) (now runs) from to ⌝ }
+    requires { ⌜ (from ≤ to) × (to ≤ 65536) × (to ≤ length (now runs)) × Named (now marks) (now runs) from to ⌝ }
     ensures { λ n. ⌜ (n ≡ length (runsIn (now (runs .entry)) (now (marks .entry)) from (to - from))) × (n ≤ 42 * 65536) ⌝ }
 {
     let mut i = from;
@@ -158,10 +157,10 @@ fn head_width(h: u32, v: u32) -> usize
 }
 
 fn term_at(marks: &[u16], k: usize) -> usize
-    requires { ⌜ (32768 ≤ length (now marks)) × (k < 16384) ⌝ }
-    ensures { λ r. ⌜ r ≡ getD (now (marks .entry)) (16384 + k) 0 ⌝ }
+    requires { ⌜ 2 * k + 1 < length (now marks) ⌝ }
+    ensures { λ r. ⌜ r ≡ getD (now (marks .entry)) (2 * k + 1) 0 ⌝ }
 {
-    num(marks[ORDER + k])
+    num(marks[2 * k + 1])
 }
 
 fn line_width(terms: &[u32], runs: &[u64], marks: &[u16], n: usize, k: usize) -> usize
@@ -268,7 +267,7 @@ pub fn labelled(out: &mut [u8], at: usize, b: &[u8], v: u64) -> usize
 }
 
 fn write_run(out: &mut [u8], at: usize, marks: &[u16], r: u64) -> usize
-    requires { ⌜ (32768 ≤ length (now marks)) × (0 < getD (now marks) (r % 16384) 0) × (at + length (runIn (now marks) r) ≤ length (now out)) ⌝ }
+    requires { ⌜ (0 < getD (now marks) (2 * (r % 16384)) 0) × (at + length (runIn (now marks) r) ≤ length (now out)) ⌝ }
     ensures { λ n. ⌜ Wrote (runIn (now (marks .entry)) r) (now (out .entry)) at (now (out .exit)) n ⌝ }
 {
     let a = labelled(out, at, b" ", number_of(marks, child(r)));
@@ -283,7 +282,7 @@ fn write_runs(
     from: usize,
     to: usize,
 ) -> usize
-    requires { ⌜ (32768 ≤ length (now marks)) × (from ≤ to) × (to ≤ length (now runs)) × Named (now marks) (now runs) from to × (at0 + length (runsIn (now runs) (now marks) from (to - from)) ≤ length (now out)) ⌝ }
+    requires { ⌜ (from ≤ to) × (to ≤ length (now runs)) × Named (now marks) (now runs) from to × (at0 + length (runsIn (now runs) (now marks) from (to - from)) ≤ length (now out)) ⌝ }
     ensures { λ n. ⌜ Wrote (runsIn (now (runs .entry)) (now (marks .entry)) from (to - from)) (now (out .entry)) at0 (now (out .exit)) n ⌝ }
 {
     let mut i = from;
@@ -398,7 +397,7 @@ pub fn list(
     root: usize,
     f: Report,
 ) -> Written
-    requires { ⌜ Holds (now terms) (now runs) × (root < countIn (now terms)) × (32768 ≤ length (now marks)) ⌝ }
+    requires { ⌜ Holds (now terms) (now runs) × (root < countIn (now terms)) × (2 * countIn (now terms) ≤ length (now marks)) ⌝ }
     ensures { λ r. ⌜ Lists (now (terms .entry)) (now (runs .entry)) root f (now (marks .entry)) (now (out .entry)) (now (marks .exit)) (now (out .exit)) r ⌝ }
 {
     let n = number_all(terms, runs, marks, root);

@@ -18,7 +18,6 @@ termIn index pairs p = getD pairs (8192 + numberIn index p) 0
 
 -- n pairs are known
 pub record Known (n : ℕ) (index pairs : List ℕ) : Type 0 where
-  pub wide : 65536 ≤ length index
   pub long : 24576 ≤ length pairs
   pub few : n ≤ 4096
   pub below : (i : ℕ) → getD index i 0 < n

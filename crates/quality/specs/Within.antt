@@ -11,8 +11,16 @@ use Rattle.image.specs.declared.Image.{Image}
 use Rattle.quality.specs.Known.{Known, numberIn, qualityIn}
 
 -- "classes (1 to 256)"
-pub class-few : (s : List ℕ) (im : Image) → Loaded s im → Valid (tablesOf s) → (c : ℕ) → c < im .classes → c < 256
+class-few : (s : List ℕ) (im : Image) → Loaded s im → Valid (tablesOf s) → (c : ℕ) → c < im .classes → c < 256
 class-few s im l v c h = omega (arith, classes-many s im l, v .counts .fewClasses)
+
+-- an index with 256 numbers for each class of the image has a number for each pair of its classes
+pub place-fits : (s : List ℕ) (im : Image) → Loaded s im → Valid (tablesOf s) → (m : ℕ) → 256 * im .classes ≤ m → (l r : ℕ) → l < im .classes → r < im .classes → l * 256 + r < m
+place-fits s im x v m wide l r h k = omega (arith, class-few s im x v r k)
+
+-- and 65,536 numbers are enough for every image
+pub wide-all : (s : List ℕ) (im : Image) → Loaded s im → Valid (tablesOf s) → (m : ℕ) → 65536 ≤ m → 256 * im .classes ≤ m
+wide-all s im x v m h = omega (arith, classes-many s im x, v .counts .fewClasses)
 
 module _ {n : ℕ} {index pairs : List ℕ} (K : Known n index pairs) where
   -- the number of a pair

@@ -1,6 +1,6 @@
 // Qualities by pair, and the best structural action of a pair (exact_fixed.rs).
 ghost use mathlib.Core.Path.{_≡_};
-ghost use Prim.Native.Nat.{_+_, _≤_, _<_};
+ghost use Prim.Native.Nat.{_+_, _*_, _≤_, _<_};
 ghost use lib.ListN.{length, getD, set};
 ghost use Rattle.spec.specs.Image.{tablesOf};
 ghost use Rattle.spec.specs.Round as round;
@@ -66,7 +66,7 @@ const MASS: usize = 4096;
 const TERM: usize = 8192;
 
 fn number_of(index: &[u16], l: usize, r: usize) -> usize
-    requires { ⌜ (65536 ≤ length (now index)) × (l < 256) × (r < 256) ⌝ }
+    requires { ⌜ l * 256 + r < length (now index) ⌝ }
     ensures { λ x. ⌜ x ≡ numberIn (now (index .entry)) (l, r) ⌝ }
 {
     num(index[l * 256 + r])
@@ -74,7 +74,7 @@ fn number_of(index: &[u16], l: usize, r: usize) -> usize
 
 // The number of the pair (l, r) in the field that begins at `at`.
 fn field(index: &[u16], pairs: &[u32], n: usize, l: usize, r: usize, at: usize) -> u32
-    requires { ⌜ Known n (now index) (now pairs) × (l < 256) × (r < 256) × (at ≤ 8192) ⌝ }
+    requires { ⌜ Known n (now index) (now pairs) × (l * 256 + r < length (now index)) × (at ≤ 8192) ⌝ }
     ensures { λ x. ⌜ x ≡ getD (now (pairs .entry)) (at + numberIn (now (index .entry)) (l, r)) 0 ⌝ }
 {
     let k = number_of(index, l, r);
@@ -82,21 +82,21 @@ fn field(index: &[u16], pairs: &[u32], n: usize, l: usize, r: usize, at: usize) 
 }
 
 pub fn size_of(index: &[u16], pairs: &[u32], n: usize, l: usize, r: usize) -> u32
-    requires { ⌜ Known n (now index) (now pairs) × (l < 256) × (r < 256) ⌝ }
+    requires { ⌜ Known n (now index) (now pairs) × (l * 256 + r < length (now index)) ⌝ }
     ensures { λ x. ⌜ x ≡ qualityIn (now (index .entry)) (now (pairs .entry)) (l, r) .0 ⌝ }
 {
     field(index, pairs, n, l, r, SIZE)
 }
 
 pub fn mass_of(index: &[u16], pairs: &[u32], n: usize, l: usize, r: usize) -> u32
-    requires { ⌜ Known n (now index) (now pairs) × (l < 256) × (r < 256) ⌝ }
+    requires { ⌜ Known n (now index) (now pairs) × (l * 256 + r < length (now index)) ⌝ }
     ensures { λ x. ⌜ x ≡ qualityIn (now (index .entry)) (now (pairs .entry)) (l, r) .1 ⌝ }
 {
     field(index, pairs, n, l, r, MASS)
 }
 
 pub fn term_of(index: &[u16], pairs: &[u32], n: usize, l: usize, r: usize) -> u32
-    requires { ⌜ Known n (now index) (now pairs) × (l < 256) × (r < 256) ⌝ }
+    requires { ⌜ Known n (now index) (now pairs) × (l * 256 + r < length (now index)) ⌝ }
     ensures { λ x. ⌜ x ≡ termIn (now (index .entry)) (now (pairs .entry)) (l, r) ⌝ }
 {
     field(index, pairs, n, l, r, TERM)
@@ -125,7 +125,7 @@ fn structural_quality(
     pairs: &[u32],
     n: usize,
 ) -> Quality
-    requires { ⌜ Loaded (now s) im × Valid (tablesOf (now s)) × Stands (tablesOf (now s)) v × Known n (now index) (now pairs) ⌝ }
+    requires { ⌜ Loaded (now s) im × Valid (tablesOf (now s)) × Stands (tablesOf (now s)) v × Known n (now index) (now pairs) × (256 * im .classes ≤ length (now index)) ⌝ }
     ensures { λ x. ⌜ Weighs (qualityIn (now (index .entry)) (now (pairs .entry))) (actionAt (tablesOf (now (s .entry))) v) (x .size) (x .mass) ⌝ }
 {
     let m = count(s, im, v);
@@ -147,7 +147,7 @@ fn structural_quality(
 
 // "a strictly better action replaces"
 fn offer(s: &[u8], im: Image, v: State, index: &[u16], pairs: &[u32], n: usize, b: Best) -> Best
-    requires { ⌜ Loaded (now s) im × Valid (tablesOf (now s)) × Stands (tablesOf (now s)) v × Known n (now index) (now pairs) ⌝ }
+    requires { ⌜ Loaded (now s) im × Valid (tablesOf (now s)) × Stands (tablesOf (now s)) v × Known n (now index) (now pairs) × (256 * im .classes ≤ length (now index)) ⌝ }
     ensures { λ x. ⌜ Offered (tablesOf (now (s .entry))) (qualityIn (now (index .entry)) (now (pairs .entry))) v b x ⌝ }
 {
     let q = structural_quality(s, im, v, index, pairs, n);
@@ -171,7 +171,7 @@ pub fn best_aligned(
     l: usize,
     r: usize,
 ) -> Best
-    requires { ⌜ Loaded (now s) im × Valid (tablesOf (now s)) × (l < im .classes) × (r < im .classes) × Known n (now index) (now pairs) ⌝ }
+    requires { ⌜ Loaded (now s) im × Valid (tablesOf (now s)) × (l < im .classes) × (r < im .classes) × Known n (now index) (now pairs) × (256 * im .classes ≤ length (now index)) ⌝ }
     ensures { λ x. ⌜ Aligns (tablesOf (now (s .entry))) (qualityIn (now (index .entry)) (now (pairs .entry))) (l, r) x ⌝ }
 {
     let mut best = Best {
@@ -203,7 +203,7 @@ pub fn list_action(
     n: usize,
     list: &mut [u64],
 ) -> usize
-    requires { ⌜ Loaded (now s) im × Valid (tablesOf (now s)) × Stands (tablesOf (now s)) v × Known n (now index) (now pairs) × (64 ≤ length (now list)) ⌝ }
+    requires { ⌜ Loaded (now s) im × Valid (tablesOf (now s)) × Stands (tablesOf (now s)) v × Known n (now index) (now pairs) × (64 ≤ length (now list)) × (256 * im .classes ≤ length (now index)) ⌝ }
     ensures { λ m. ⌜ (m ≡ length (runsOf (termIn (now (index .entry)) (now (pairs .entry))) (actionAt (tablesOf (now (s .entry))) v .pairs))) × (now (list .exit) ≡ over (runsOf (termIn (now (index .entry)) (now (pairs .entry))) (actionAt (tablesOf (now (s .entry))) v .pairs)) (now (list .entry))) ⌝ }
 {
     let m = count(s, im, v);

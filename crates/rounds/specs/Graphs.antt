@@ -1,7 +1,7 @@
 -- What the arrays of a built graph hold.
 use mathlib.Core.Path.{_≡_, sym, ap, ap₂, _∙_}
 use mathlib.Core.List.{List}
-use Prim.Native.Nat.{ℕ, _+_, _≤_, _<_}
+use Prim.Native.Nat.{ℕ, _+_, _*_, _≤_, _<_}
 use native.Mathlib.Omega.{arith}
 use lib.ListN.{length, getD}
 use Rattle.spec.specs.Bytes.{place, Two, sameTwo}
@@ -33,7 +33,7 @@ pub record Graphs (t : Tables) (ps : List Two) (n : ℕ) (index : List ℕ) : Ty
   pub many : length ps ≡ n
   pub some : 0 < n
   pub few : n ≤ 4096
-  pub wide : 65536 ≤ length index
+  pub wide : 256 * length (t .classes) ≤ length index
   pub below : (i : ℕ) → getD index i 0 < n
   pub numbers : (p : Two) → In p ps → numberIn index p ≡ place (sameTwo p) ps
   pub closed : Closed t ps
@@ -79,7 +79,6 @@ module _ (t : Tables) (ps : List Two) (n : ℕ) (index : List ℕ) (G : Graphs t
   module _ (S : Standing t ps s) where
     pub known-here : Known n index pairs
     known-here = record {
-      wide = G .wide;
       long = R .long;
       few = G .few;
       below = G .below;

@@ -2,6 +2,7 @@ pub mod Arrays
 pub mod ArrayLaws
 pub mod Settling
 pub mod Spending
+pub mod Shorts
 pub mod Graphs
 pub mod Turning
 pub mod TakeLaws

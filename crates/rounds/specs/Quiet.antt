@@ -61,6 +61,7 @@ abbrev pub Marks : Tables → List Two → List Two → List ℕ → List ℕ �
 Marks t ps qs left right (R.Finished c b) = Marked t ps qs left right (length ps)
 Marks t ps qs left right R.Cut = Unit
 Marks t ps qs left right R.Full = Unit
+Marks t ps qs left right R.Short = Unit
 
 pub marks-finished : (t : Tables) (ps qs : List Two) (left right : List ℕ) (r : Round) → Marks t ps qs left right r → (c : Bool) (b : Budget) → r ≡ R.Finished c b → Marked t ps qs left right (length ps)
 marks-finished t ps qs left right r X c b e = rw e at X

@@ -30,7 +30,7 @@ use Rattle.terms.specs.PartLaws.{part-at}
 use Rattle.rounds.specs.Graphs.{InRange, Reads}
 use Rattle.rounds.specs.Quiet.{Quiet, Marks, marks-finished, quiet-next}
 use Rattle.budget.specs.declared.Budget.{Budget}
-use Rattle.rounds.specs.Turning.{Turning, Relaxes, relaxes-full, relaxes-cut, relaxes-finished, turns-done, turns-changed, turns-qualities}
+use Rattle.rounds.specs.Turning.{Turning, Relaxes, relaxes-full, relaxes-short, relaxes-cut, relaxes-finished, turns-done, turns-changed, turns-qualities}
 use Rattle.rounds.specs.Outcomes.{RanTo}
 use Rattle.rounds.specs.declared.Outcome.{Outcome}
 use Rattle.rounds.specs.declared.Ran.the-variants as R
@@ -52,7 +52,7 @@ pub record Running (t : Tables) (ps : List Two) (n : ℕ) (m : Res run.Outcome) 
 pub standing-any : (t : Tables) (ps : List Two) (pairs terms runs : List ℕ) (n r b c d : ℕ) → Standing t ps (stateIn pairs terms runs n r b) → Standing t ps (stateIn pairs terms runs n c d)
 standing-any t ps pairs terms runs n r b c d S = record { many = S .many; named = S .named; valid = S .valid; within = S .within; low = S .low; small = S .small }
 
-module _ (t : Tables) (ps : List Two) (n : ℕ) (many : length ps ≡ n) (some : 0 < n) (m : Res run.Outcome) (pairs terms runs : List ℕ) (rounds b : ℕ) (X : Running t ps n m pairs terms runs rounds b) where
+module _ (room : ℕ) (t : Tables) (ps : List Two) (n : ℕ) (many : length ps ≡ n) (some : 0 < n) (m : Res run.Outcome) (pairs terms runs : List ℕ) (rounds b : ℕ) (X : Running t ps n m pairs terms runs rounds b) where
   abbrev Here : State
   Here = stateIn pairs terms runs n rounds b
 
@@ -74,7 +74,7 @@ module _ (t : Tables) (ps : List Two) (n : ℕ) (many : length ps ≡ n) (some :
 
   -- the run ends with the state, in a pool that may have grown
   ends : (complete : Bool) (pairs′ terms′ runs′ : List ℕ) → m ≡ ok (outcome complete ps Here) → Reads Read pairs′ (length ps) → Holds terms′ runs′ → Extends (poolOf terms runs) (poolOf terms′ runs′)
-      → RanTo m terms′ runs′ (R.Done (reportedIn pairs′ complete n rounds))
+      → RanTo room m terms′ runs′ (R.Done (reportedIn pairs′ complete n rounds))
   ends complete pairs′ terms′ runs′ e R H g =
       let same = report pairs′ R complete (poolOf terms′ runs′) in
       let root : getD (Here .terms) 0 0 ≡ getD pairs′ 8192 0 = ap (λ (o : run.Outcome). o .root) same in (
@@ -85,15 +85,15 @@ module _ (t : Tables) (ps : List Two) (n : ℕ) (many : length ps ≡ n) (some :
         omega (arith, root, extends-within g (getD (Here .terms) 0 0) (X .standing .within 0 has-some), pool-length terms′ runs′),
       )
 
-  expires : b ≡ 0 → RanTo m terms runs (R.Done (reportedIn pairs false n rounds))
+  expires : b ≡ 0 → RanTo room m terms runs (R.Done (reportedIn pairs false n rounds))
   expires e = ends false pairs terms runs (X .rest ∙ rounds-expired t ps Here e) (rw many (record { long = X .long; qualities = refl; terms = refl })) (X .holds) (extends-refl (poolOf terms runs))
 
   module _ (c : ℕ) (left : b ≡ c + 1) where
-    run-refused : (terms′ runs′ : List ℕ) → roundAt t ps Read c ≡ refused 13 → RanTo m terms′ runs′ (R.Stopped 13)
+    run-refused : (terms′ runs′ : List ℕ) → roundAt t ps Read c ≡ refused 13 → RanTo room m terms′ runs′ (R.Stopped 13)
     run-refused terms′ runs′ e = X .rest ∙ rounds-refused t ps Here c left 13 e
 
     run-cut : (pairs′ terms′ runs′ : List ℕ) → (roundAt t ps Read c ≡ ok cutShort) × Reads Read pairs′ (length ps) × Holds terms′ runs′ × Extends (poolOf terms runs) (poolOf terms′ runs′)
-        → RanTo m terms′ runs′ (R.Done (reportedIn pairs′ false n rounds))
+        → RanTo room m terms′ runs′ (R.Done (reportedIn pairs′ false n rounds))
     run-cut pairs′ terms′ runs′ (e, R, H, g) = ends false pairs′ terms′ runs′ (X .rest ∙ rounds-cut t ps Here c left e) R H g
 
     module _ (pairs′ terms′ runs′ : List ℕ) (d : ℕ) (changed : Bool) (T : Turning t ps Read (roundAt t ps Read c) pairs′ terms′ runs′ (length ps) d changed) where
@@ -106,7 +106,7 @@ module _ (t : Tables) (ps : List Two) (n : ℕ) (many : length ps ≡ n) (some :
       told : changed ≡ any changes (turnsAt t ps Read)
       told = turns-changed t ps Read (roundAt t ps Read c) pairs′ terms′ runs′ d changed T
 
-      run-quiet : changed ≡ false → RanTo m terms′ runs′ (R.Done (reportedIn pairs′ true n rounds))
+      run-quiet : changed ≡ false → RanTo room m terms′ runs′ (R.Done (reportedIn pairs′ true n rounds))
       run-quiet q = ends true pairs′ terms′ runs′ (X .rest ∙ rounds-quiet t ps Here c left After d done (sym told ∙ q)) (T .reads) (T .holds) (T .midway .grown)
 
       -- the checks of the round
@@ -128,21 +128,24 @@ module _ (t : Tables) (ps : List Two) (n : ℕ) (many : length ps ≡ n) (some :
           }
 
   -- ---- by what the code answers: the round x, the outcome o
-  pub run-expired : (o : Outcome) → o ≡ reportedIn pairs false n rounds → b ≡ 0 → RanTo m terms runs (R.Done o)
+  pub run-expired : (o : Outcome) → o ≡ reportedIn pairs false n rounds → b ≡ 0 → RanTo room m terms runs (R.Done o)
   run-expired o q e = rw q (expires e)
 
-  module _ (c : ℕ) (left : b ≡ c + 1) (pairs′ terms′ runs′ : List ℕ) (x : Round) (Y : Relaxes t ps Read (roundAt t ps Read c) pairs′ terms′ runs′ x) where
-    pub round-full : x ≡ U.Full → RanTo m terms′ runs′ (R.Stopped 13)
-    round-full e = run-refused c left terms′ runs′ (relaxes-full t ps Read (roundAt t ps Read c) pairs′ terms′ runs′ x Y e)
+  module _ (c : ℕ) (left : b ≡ c + 1) (pairs′ terms′ runs′ : List ℕ) (x : Round) (Y : Relaxes room t ps Read (roundAt t ps Read c) pairs′ terms′ runs′ x) where
+    pub round-full : x ≡ U.Full → RanTo room m terms′ runs′ (R.Stopped 13)
+    round-full e = run-refused c left terms′ runs′ (relaxes-full room t ps Read (roundAt t ps Read c) pairs′ terms′ runs′ x Y e)
 
-    pub round-cut : x ≡ U.Cut → (o : Outcome) → o ≡ reportedIn pairs′ false n rounds → RanTo m terms′ runs′ (R.Done o)
-    round-cut e o q = rw q (run-cut c left pairs′ terms′ runs′ (relaxes-cut t ps Read (roundAt t ps Read c) pairs′ terms′ runs′ x Y e))
+    pub round-short : x ≡ U.Short → RanTo room m terms′ runs′ R.Short
+    round-short e = relaxes-short room t ps Read (roundAt t ps Read c) pairs′ terms′ runs′ x Y e
+
+    pub round-cut : x ≡ U.Cut → (o : Outcome) → o ≡ reportedIn pairs′ false n rounds → RanTo room m terms′ runs′ (R.Done o)
+    round-cut e o q = rw q (run-cut c left pairs′ terms′ runs′ (relaxes-cut room t ps Read (roundAt t ps Read c) pairs′ terms′ runs′ x Y e))
 
     module _ (changed : Bool) (d : Budget) (e : x ≡ U.Finished changed d) where
       turned : Turning t ps Read (roundAt t ps Read c) pairs′ terms′ runs′ (length ps) (d .left) changed
-      turned = relaxes-finished t ps Read (roundAt t ps Read c) pairs′ terms′ runs′ x Y changed d e
+      turned = relaxes-finished room t ps Read (roundAt t ps Read c) pairs′ terms′ runs′ x Y changed d e
 
-      pub round-quiet : changed ≡ false → (o : Outcome) → o ≡ reportedIn pairs′ true n rounds → RanTo m terms′ runs′ (R.Done o)
+      pub round-quiet : changed ≡ false → (o : Outcome) → o ≡ reportedIn pairs′ true n rounds → RanTo room m terms′ runs′ (R.Done o)
       round-quiet z o q = rw q (run-quiet c left pairs′ terms′ runs′ (d .left) changed turned z)
 
       pub round-left : c ≡ n + d .left

@@ -22,6 +22,7 @@ use Rattle.terms.specs.Buffers.{poolOf, part}
 use Rattle.terms.specs.Chains.{Holds}
 use Rattle.rounds.specs.Arrays.{twos, NEW, qualitiesIn, termsIn, given}
 use Rattle.rounds.specs.ArrayLaws.{given-length, qualities-more, terms-more, old-kept}
+use Rattle.rounds.specs.Shorts.{ShortRun}
 use Rattle.rounds.specs.Graphs.{Graphs, Reads, turn-here, choice-here}
 use Rattle.budget.specs.declared.Budget.{Budget}
 use Rattle.rounds.specs.declared.Step.{Step}
@@ -39,14 +40,18 @@ pub record Moved (w : Turn) (m : Res Interned) (k : ℕ) (pairs pairs′ terms�
   pub holds : Holds terms′ runs′
   pub changed : c ≡ changes w
 
-abbrev pub Steps : Turn → Res Interned → ℕ → List ℕ → List ℕ → List ℕ → List ℕ → Step → Type 0
-Steps w m k pairs pairs′ terms′ runs′ (P.To c) = Moved w m k pairs pairs′ terms′ runs′ c
-Steps w m k pairs pairs′ terms′ runs′ P.Full = (n : ℕ) × (m ≡ refused n)
+abbrev pub Steps : ℕ → Turn → Res Interned → ℕ → List ℕ → List ℕ → List ℕ → List ℕ → Step → Type 0
+Steps room w m k pairs pairs′ terms′ runs′ (P.To c) = Moved w m k pairs pairs′ terms′ runs′ c
+Steps room w m k pairs pairs′ terms′ runs′ P.Full = (n : ℕ) × (m ≡ refused n)
+Steps room w m k pairs pairs′ terms′ runs′ P.Short = ShortRun room terms′ runs′
 
 -- by what the turn answered
-module _ (w : Turn) (m : Res Interned) (k : ℕ) (pairs pairs′ terms′ runs′ : List ℕ) (r : Step) (X : Steps w m k pairs pairs′ terms′ runs′ r) where
+module _ (room : ℕ) (w : Turn) (m : Res Interned) (k : ℕ) (pairs pairs′ terms′ runs′ : List ℕ) (r : Step) (X : Steps room w m k pairs pairs′ terms′ runs′ r) where
   pub steps-full : r ≡ P.Full → (n : ℕ) × (m ≡ refused n)
   steps-full e = rw e at X
+
+  pub steps-short : r ≡ P.Short → ShortRun room terms′ runs′
+  steps-short e = rw e at X
 
   pub steps-to : (c : Bool) → r ≡ P.To c → Moved w m k pairs pairs′ terms′ runs′ c
   steps-to c e = rw e at X
@@ -68,15 +73,19 @@ pub record Turning (t : Tables) (ps : List Two) (s : State) (whole : Res (Checke
   pub reads : Reads s pairs (length ps)
   pub holds : Holds terms runs
 
-abbrev pub Relaxes : Tables → List Two → State → Res (Checked Terms) → List ℕ → List ℕ → List ℕ → Round → Type 0
-Relaxes t ps s whole pairs terms runs (R.Finished c b) = Turning t ps s whole pairs terms runs (length ps) (b .left) c
-Relaxes t ps s whole pairs terms runs R.Cut = (whole ≡ ok cutShort) × Reads s pairs (length ps) × Holds terms runs × Extends (s .pool) (poolOf terms runs)
-Relaxes t ps s whole pairs terms runs R.Full = whole ≡ refused 13
+abbrev pub Relaxes : ℕ → Tables → List Two → State → Res (Checked Terms) → List ℕ → List ℕ → List ℕ → Round → Type 0
+Relaxes room t ps s whole pairs terms runs (R.Finished c b) = Turning t ps s whole pairs terms runs (length ps) (b .left) c
+Relaxes room t ps s whole pairs terms runs R.Cut = (whole ≡ ok cutShort) × Reads s pairs (length ps) × Holds terms runs × Extends (s .pool) (poolOf terms runs)
+Relaxes room t ps s whole pairs terms runs R.Full = whole ≡ refused 13
+Relaxes room t ps s whole pairs terms runs R.Short = ShortRun room terms runs
 
 -- by what the round answered
-module _ (t : Tables) (ps : List Two) (s : State) (whole : Res (Checked Terms)) (pairs terms runs : List ℕ) (r : Round) (X : Relaxes t ps s whole pairs terms runs r) where
+module _ (room : ℕ) (t : Tables) (ps : List Two) (s : State) (whole : Res (Checked Terms)) (pairs terms runs : List ℕ) (r : Round) (X : Relaxes room t ps s whole pairs terms runs r) where
   pub relaxes-full : r ≡ R.Full → whole ≡ refused 13
   relaxes-full e = rw e at X
+
+  pub relaxes-short : r ≡ R.Short → ShortRun room terms runs
+  relaxes-short e = rw e at X
 
   pub relaxes-cut : r ≡ R.Cut → (whole ≡ ok cutShort) × Reads s pairs (length ps) × Holds terms runs × Extends (s .pool) (poolOf terms runs)
   relaxes-cut e = rw e at X

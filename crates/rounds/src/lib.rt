@@ -4,8 +4,8 @@ use image::Image;
 use turns::Taken;
 ghost use mathlib.Core.Path.{_≡_};
 ghost use mathlib.Core.Bool.{false};
-ghost use Prim.Native.Nat.{_+_, _≤_, _<_};
-ghost use lib.ListN.{length, getD, set, replicate};
+ghost use Prim.Native.Nat.{_+_, _*_, _≤_, _<_};
+ghost use lib.ListN.{length, getD, set};
 ghost use Rattle.spec.specs.Image.{tablesOf};
 ghost use Rattle.laws.specs.Valid.{Valid};
 ghost use Rattle.image.specs.Loaded.{Loaded};
@@ -15,6 +15,7 @@ ghost use Rattle.lgg.specs.Standing.{Standing};
 ghost use Rattle.quality.specs.Known.{Known, numberIn, qualityIn};
 ghost use Rattle.terms.specs.Buffers.{poolOf};
 ghost use Rattle.terms.specs.Chains.{Holds};
+ghost use Rattle.turns.specs.Room.{Roomy};
 ghost use Rattle.changes.specs.Marks.{liveOf};
 ghost use Rattle.laws.specs.Buffers.{over};
 ghost use Rattle.rounds.specs.Arrays.{NEW, pairsIn, qualitiesIn, termsIn, given, stateIn};
@@ -35,23 +36,26 @@ pub struct Outcome {
     pub root: usize,
 }
 
-// an outcome, or a refusal
+// an outcome; or a refusal; or that a buffer is too short
 pub enum Ran {
     Done(Outcome),
     Stopped(u8),
+    Short,
 }
 
-// a pair's turn: whether it changed; or refusal 13
+// a pair's turn: whether it changed; or refusal 13; or that a buffer is too short
 enum Step {
     To(bool),
     Full,
+    Short,
 }
 
-// a round: whether a pair changed, with the budget left; cut short; refusal 13
+// a round: whether a pair changed, with the budget left; cut short; refusal 13; a buffer is too short
 enum Round {
     Finished(bool, Budget),
     Cut,
     Full,
+    Short,
 }
 
 fn put4(s: &mut [u32], at: usize, v: u32)
@@ -147,17 +151,17 @@ fn take_one(
     r: usize,
     k: usize,
     ones: &[u8],
-    sizes: &mut [u32; 4225],
-    masses: &mut [u32; 4225],
-    costs: &mut [u64; 12675],
-    flow: &mut [u64; 4225],
-    list: &mut [u64; 4225],
+    sizes: &mut [u32],
+    masses: &mut [u32],
+    costs: &mut [u64],
+    flow: &mut [u64],
+    list: &mut [u64],
     pairs: &mut [u32],
     terms: &mut [u32],
     runs: &mut [u64],
 ) -> Step
-    requires { ⌜ Loaded (now s) im × Valid (tablesOf (now s)) × (l < im .classes) × (r < im .classes) × (k < 4096) × Known n (now index) (now pairs) × (now ones ≡ replicate 4225 1) × Holds (now terms) (now runs) × TermsHeld n (now pairs) (now terms) ⌝ }
-    ensures { λ x. ⌜ Steps (turnIn (tablesOf (now (s .entry))) (now (index .entry)) (now (pairs .entry)) (l, r)) (termMade (tablesOf (now (s .entry))) (now (index .entry)) (now (pairs .entry)) (poolOf (now (terms .entry)) (now (runs .entry))) (l, r)) k (now (pairs .entry)) (now (pairs .exit)) (now (terms .exit)) (now (runs .exit)) x ⌝ }
+    requires { ⌜ Loaded (now s) im × Valid (tablesOf (now s)) × (l < im .classes) × (r < im .classes) × (k < 4096) × Known n (now index) (now pairs) × Roomy (now ones) (now sizes) (now masses) (now costs) (now flow) (now list) × Holds (now terms) (now runs) × TermsHeld n (now pairs) (now terms) × (256 * im .classes ≤ length (now index)) ⌝ }
+    ensures { λ x. ⌜ Steps (length (now (sizes .entry))) (turnIn (tablesOf (now (s .entry))) (now (index .entry)) (now (pairs .entry)) (l, r)) (termMade (tablesOf (now (s .entry))) (now (index .entry)) (now (pairs .entry)) (poolOf (now (terms .entry)) (now (runs .entry))) (l, r)) k (now (pairs .entry)) (now (pairs .exit)) (now (terms .exit)) (now (runs .exit)) x ⌝ }
 {
     let w = turns::take_turn(
         s,
@@ -179,6 +183,9 @@ fn take_one(
     match w {
         Taken::Full => {
             return Step::Full;
+        }
+        Taken::Short => {
+            return Step::Short;
         }
         Taken::To(x) => {
             let term = x.term;
@@ -223,18 +230,18 @@ fn visit(
     llive: &[u8; 256],
     rlive: &[u8; 256],
     ones: &[u8],
-    sizes: &mut [u32; 4225],
-    masses: &mut [u32; 4225],
-    costs: &mut [u64; 12675],
-    flow: &mut [u64; 4225],
-    list: &mut [u64; 4225],
+    sizes: &mut [u32],
+    masses: &mut [u32],
+    costs: &mut [u64],
+    flow: &mut [u64],
+    list: &mut [u64],
     pairs: &mut [u32],
     terms: &mut [u32],
     runs: &mut [u64],
 ) -> Step
-    requires { ⌜ Loaded (now s) im × Valid (tablesOf (now s)) × (l < im .classes) × (r < im .classes) × (k < 4096) × Known n (now index) (now pairs) × (now ones ≡ replicate 4225 1) × Holds (now terms) (now runs) × TermsHeld n (now pairs) (now terms)
-        × (numberIn (now index) (l, r) ≡ k) × (liveIn (now llive) (now rlive) (l, r) ≡ false → turnIn (tablesOf (now s)) (now index) (now pairs) (l, r) ≡ unturned (qualityIn (now index) (now pairs) (l, r))) ⌝ }
-    ensures { λ x. ⌜ Steps (turnIn (tablesOf (now (s .entry))) (now (index .entry)) (now (pairs .entry)) (l, r)) (termMade (tablesOf (now (s .entry))) (now (index .entry)) (now (pairs .entry)) (poolOf (now (terms .entry)) (now (runs .entry))) (l, r)) k (now (pairs .entry)) (now (pairs .exit)) (now (terms .exit)) (now (runs .exit)) x ⌝ }
+    requires { ⌜ Loaded (now s) im × Valid (tablesOf (now s)) × (l < im .classes) × (r < im .classes) × (k < 4096) × Known n (now index) (now pairs) × Roomy (now ones) (now sizes) (now masses) (now costs) (now flow) (now list) × Holds (now terms) (now runs) × TermsHeld n (now pairs) (now terms)
+        × (numberIn (now index) (l, r) ≡ k) × (liveIn (now llive) (now rlive) (l, r) ≡ false → turnIn (tablesOf (now s)) (now index) (now pairs) (l, r) ≡ unturned (qualityIn (now index) (now pairs) (l, r))) × (256 * im .classes ≤ length (now index)) ⌝ }
+    ensures { λ x. ⌜ Steps (length (now (sizes .entry))) (turnIn (tablesOf (now (s .entry))) (now (index .entry)) (now (pairs .entry)) (l, r)) (termMade (tablesOf (now (s .entry))) (now (index .entry)) (now (pairs .entry)) (poolOf (now (terms .entry)) (now (runs .entry))) (l, r)) k (now (pairs .entry)) (now (pairs .exit)) (now (terms .exit)) (now (runs .exit)) x ⌝ }
 {
     if live(llive, rlive, l, r) {
         return take_one(
@@ -284,19 +291,19 @@ fn relax_all(
     lmarks: &mut [u8],
     rmarks: &mut [u8],
     ones: &[u8],
-    sizes: &mut [u32; 4225],
-    masses: &mut [u32; 4225],
-    costs: &mut [u64; 12675],
-    flow: &mut [u64; 4225],
-    list: &mut [u64; 4225],
+    sizes: &mut [u32],
+    masses: &mut [u32],
+    costs: &mut [u64],
+    flow: &mut [u64],
+    list: &mut [u64],
     pairs: &mut [u32],
     terms: &mut [u32],
     runs: &mut [u64],
     b: Budget,
 ) -> Round
-    requires { ⌜ Loaded (now s) im × Valid (tablesOf (now s)) × (n ≤ length (now lefts)) × (n ≤ length (now rights)) × Graphs (tablesOf (now s)) (pairsIn (now lefts) (now rights) n) n (now index) × (now ones ≡ replicate 4225 1) × (24576 ≤ length (now pairs)) × Holds (now terms) (now runs) × Standing (tablesOf (now s)) (pairsIn (now lefts) (now rights) n) (stateIn (now pairs) (now terms) (now runs) n 0 0)
+    requires { ⌜ Loaded (now s) im × Valid (tablesOf (now s)) × (n ≤ length (now lefts)) × (n ≤ length (now rights)) × Graphs (tablesOf (now s)) (pairsIn (now lefts) (now rights) n) n (now index) × Roomy (now ones) (now sizes) (now masses) (now costs) (now flow) (now list) × (24576 ≤ length (now pairs)) × Holds (now terms) (now runs) × Standing (tablesOf (now s)) (pairsIn (now lefts) (now rights) n) (stateIn (now pairs) (now terms) (now runs) n 0 0)
         × Quiet (tablesOf (now s)) (pairsIn (now lefts) (now rights) n) (qualitiesIn (now pairs) 0 n) (now llive) (now rlive) × (256 ≤ length (now lmarks)) × (256 ≤ length (now rmarks)) ⌝ }
-    ensures { λ x. ⌜ Relaxes (tablesOf (now (s .entry))) (pairsIn (now (lefts .entry)) (now (rights .entry)) n) (stateIn (now (pairs .entry)) (now (terms .entry)) (now (runs .entry)) n 0 0) (roundAt (tablesOf (now (s .entry))) (pairsIn (now (lefts .entry)) (now (rights .entry)) n) (stateIn (now (pairs .entry)) (now (terms .entry)) (now (runs .entry)) n 0 0) (b .left)) (now (pairs .exit)) (now (terms .exit)) (now (runs .exit)) x
+    ensures { λ x. ⌜ Relaxes (length (now (sizes .entry))) (tablesOf (now (s .entry))) (pairsIn (now (lefts .entry)) (now (rights .entry)) n) (stateIn (now (pairs .entry)) (now (terms .entry)) (now (runs .entry)) n 0 0) (roundAt (tablesOf (now (s .entry))) (pairsIn (now (lefts .entry)) (now (rights .entry)) n) (stateIn (now (pairs .entry)) (now (terms .entry)) (now (runs .entry)) n 0 0) (b .left)) (now (pairs .exit)) (now (terms .exit)) (now (runs .exit)) x
         × Marks (tablesOf (now (s .entry))) (pairsIn (now (lefts .entry)) (now (rights .entry)) n) (qualitiesIn (now (pairs .entry)) 0 n) (now (lmarks .exit)) (now (rmarks .exit)) x ⌝ }
 {
     let mut changed = false;
@@ -333,6 +340,9 @@ fn relax_all(
         match w {
             Step::Full => {
                 return Round::Full;
+            }
+            Step::Short => {
+                return Round::Short;
             }
             Step::To(c) => {
                 mark(c, l, r, lmarks, rmarks);
@@ -372,22 +382,22 @@ pub fn run_rounds(
     rights: &[u16],
     index: &[u16],
     n: usize,
+    ones: &[u8],
+    sizes: &mut [u32],
+    masses: &mut [u32],
+    costs: &mut [u64],
+    flow: &mut [u64],
+    list: &mut [u64],
     pairs: &mut [u32],
     terms: &mut [u32],
     runs: &mut [u64],
     b: Budget,
 ) -> Ran
-    requires { ⌜ Loaded (now s) im × Valid (tablesOf (now s)) × (n ≤ length (now lefts)) × (n ≤ length (now rights)) × Graphs (tablesOf (now s)) (pairsIn (now lefts) (now rights) n) n (now index) × (24576 ≤ length (now pairs)) × Holds (now terms) (now runs) × Standing (tablesOf (now s)) (pairsIn (now lefts) (now rights) n) (stateIn (now pairs) (now terms) (now runs) n 0 (b .left)) ⌝ }
-    ensures { λ x. ⌜ RanTo (roundsOf (tablesOf (now (s .entry))) (pairsIn (now (lefts .entry)) (now (rights .entry)) n) (stateIn (now (pairs .entry)) (now (terms .entry)) (now (runs .entry)) n 0 (b .left))) (now (terms .exit)) (now (runs .exit)) x ⌝ }
+    requires { ⌜ Loaded (now s) im × Valid (tablesOf (now s)) × (n ≤ length (now lefts)) × (n ≤ length (now rights)) × Graphs (tablesOf (now s)) (pairsIn (now lefts) (now rights) n) n (now index) × (24576 ≤ length (now pairs)) × Holds (now terms) (now runs) × Standing (tablesOf (now s)) (pairsIn (now lefts) (now rights) n) (stateIn (now pairs) (now terms) (now runs) n 0 (b .left)) × Roomy (now ones) (now sizes) (now masses) (now costs) (now flow) (now list) ⌝ }
+    ensures { λ x. ⌜ RanTo (length (now (sizes .entry))) (roundsOf (tablesOf (now (s .entry))) (pairsIn (now (lefts .entry)) (now (rights .entry)) n) (stateIn (now (pairs .entry)) (now (terms .entry)) (now (runs .entry)) n 0 (b .left))) (now (terms .exit)) (now (runs .exit)) x ⌝ }
 {
     let mut llive = [1u8; 256];
     let mut rlive = [1u8; 256];
-    let ones = [1u8; 4225];
-    let mut sizes = [0u32; 4225];
-    let mut masses = [0u32; 4225];
-    let mut costs = [0u64; 12675];
-    let mut flow = [0u64; 4225];
-    let mut list = [0u64; 4225];
     let mut rounds = 0u32;
     let mut bud = b;
     loop {
@@ -409,12 +419,12 @@ pub fn run_rounds(
             &rlive,
             &mut lmarks,
             &mut rmarks,
-            &ones,
-            &mut sizes,
-            &mut masses,
-            &mut costs,
-            &mut flow,
-            &mut list,
+            ones,
+            sizes,
+            masses,
+            costs,
+            flow,
+            list,
             pairs,
             terms,
             runs,
@@ -423,6 +433,9 @@ pub fn run_rounds(
         match x {
             Round::Full => {
                 return Ran::Stopped(13);
+            }
+            Round::Short => {
+                return Ran::Short;
             }
             Round::Cut => {
                 return Ran::Done(reported(pairs, false, n, rounds));

@@ -97,8 +97,8 @@ column-first k c = omega arith
 pub column-next : (at c i k : ℕ) → at ≡ k + i * c → at + c ≡ k + (i + 1) * c
 column-next at c i k e = omega arith
 
-pub column-cell : (at c i k n : ℕ) → at ≡ k + i * c → k < c → i < n → n * c ≤ 4225 → at < 4225
-column-cell at c i k n e h l b = omega (arith, mul-le-mul-right {m = suc i} {n = n} c l)
+pub column-cell : (at c i k n : ℕ) → at ≡ k + i * c → k < c → i < n → at < n * c
+column-cell at c i k n e h l = omega (arith, mul-le-mul-right {m = suc i} {n = n} c l)
 
 -- ---- the cells of r rows and c columns
 module _ (g x y : List ℕ) (r c u : ℕ) (m : List ℕ) where

@@ -1,6 +1,6 @@
--- At most 65 rows and 65 columns fit the buffers.
+-- At most 65 rows and 65 columns: 4,225 cells and 132 nodes; the cells of a row.
 use Prim.Native.Nat.{ℕ, suc, _+_, _*_, _≤_, _<_}
-use native.Mathlib.Nat.{mul-le-mul}
+use native.Mathlib.Nat.{mul-le-mul, mul-le-mul-right}
 use native.Mathlib.Omega.{arith}
 use mathlib.Core.List.{List}
 use Rattle.spec.specs.Transport.{Problem, weight, nodeCount}
@@ -10,8 +10,8 @@ use Rattle.flow.specs.Magnitude.{Small}
 pub cells-fit : (r c : ℕ) → r ≤ 65 → c ≤ 65 → r * c ≤ 4225
 cells-fit r c h k = omega (arith, mul-le-mul {n₁ = r} {m₁ = c} {n₂ = 65} {m₂ = 65} h k)
 
-pub row-fits : (i r c : ℕ) → i < r → r ≤ 65 → c ≤ 65 → i * c + c ≤ 4225
-row-fits i r c h k l = omega (arith, mul-le-mul {n₁ = suc i} {m₁ = c} {n₂ = 65} {m₂ = 65} (omega arith) l)
+pub row-fits : (i r c : ℕ) → i < r → i * c + c ≤ r * c
+row-fits i r c h = omega (arith, mul-le-mul-right {m = suc i} {n = r} c h)
 
 module _ (p : Problem) (S : Small p) (x : List ℕ) (I : Partial p (weight p) x) where
   pub few : nodeCount p ≤ 132

@@ -27,12 +27,12 @@ headOf m = getD m 660 0
 abbrev pub countOf : List ℕ → ℕ
 countOf m = getD m 661 0
 
--- the costs: 4,225 low words, 4,225 high words, 4,225 capacities
+-- the costs: three numbers a cell, its cost's low word and high word, and its capacity
 abbrev pub costOf : List ℕ → ℕ → Wide
-costOf g k = record { lo = getD g k 0; hi = getD g (4225 + k) 0 }
+costOf g k = record { lo = getD g (3 * k) 0; hi = getD g (3 * k + 1) 0 }
 
 abbrev pub capOf : List ℕ → ℕ → ℕ
-capOf g k = getD g (8450 + k) 0
+capOf g k = getD g (3 * k + 2) 0
 
 -- node v joins the queue
 unfoldable pub joined : List ℕ → ℕ → List ℕ

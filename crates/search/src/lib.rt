@@ -23,12 +23,12 @@ fn label(net: &[u64; 662], v: usize) -> Wide
 
 // The cost of cell k.
 fn cost(costs: &[u64], k: usize) -> Wide
-    requires { ⌜ (k < 4225) × (12675 ≤ length (now costs)) ⌝ }
+    requires { ⌜ 3 * k + 2 < length (now costs) ⌝ }
     ensures { λ r. ⌜ r ≡ costOf (now (costs .entry)) k ⌝ }
 {
     Wide {
-        lo: costs[k],
-        hi: costs[4225 + k],
+        lo: costs[3 * k],
+        hi: costs[3 * k + 1],
     }
 }
 
@@ -115,10 +115,10 @@ fn along_cell(
     v: usize,
     d: Wide,
 )
-    requires { ⌜ (v < 132) × (k < 4225) × (12675 ≤ length (now costs)) × (4225 ≤ length (now flow)) ⌝ }
+    requires { ⌜ (v < 132) × (3 * k + 2 < length (now costs)) × (k < length (now flow)) ⌝ }
     ensures { λ _. ⌜ now (net .exit) ≡ alongCell (now (costs .entry)) (now (flow .entry)) (now (net .entry)) k u v d ⌝ }
 {
-    if flow[k] < costs[8450 + k] {
+    if flow[k] < costs[3 * k + 2] {
         relax(net, u, v, d.wrapping_add(cost(costs, k)));
         return;
     }
@@ -134,7 +134,7 @@ fn against_cell(
     v: usize,
     d: Wide,
 )
-    requires { ⌜ (v < 132) × (k < 4225) × (12675 ≤ length (now costs)) × (4225 ≤ length (now flow)) ⌝ }
+    requires { ⌜ (v < 132) × (3 * k + 2 < length (now costs)) × (k < length (now flow)) ⌝ }
     ensures { λ _. ⌜ now (net .exit) ≡ againstCell (now (costs .entry)) (now (flow .entry)) (now (net .entry)) k u v d ⌝ }
 {
     if 0 < flow[k] {
@@ -167,7 +167,7 @@ fn along_row(
     u: usize,
     v: usize,
 )
-    requires { ⌜ (u < 132) × (v + n ≤ 132) × (k + n ≤ 4225) × (12675 ≤ length (now costs)) × (4225 ≤ length (now flow)) ⌝ }
+    requires { ⌜ (u < 132) × (v + n ≤ 132) × (3 * (k + n) ≤ length (now costs)) × (k + n ≤ length (now flow)) ⌝ }
     ensures { λ _. ⌜ now (net .exit) ≡ alongRow (now (costs .entry)) (now (flow .entry)) u (labelOf (now (net .entry)) u) n k v (now (net .entry)) ⌝ }
 {
     let d = label(net, u);
@@ -189,7 +189,7 @@ fn against_column(
     u: usize,
     v: usize,
 )
-    requires { ⌜ (u < 132) × (v + n ≤ 132) × (k < c) × (n * c ≤ 4225) × (c ≤ 65) × (12675 ≤ length (now costs)) × (4225 ≤ length (now flow)) ⌝ }
+    requires { ⌜ (u < 132) × (v + n ≤ 132) × (k < c) × (c ≤ 65) × (3 * (n * c) ≤ length (now costs)) × (n * c ≤ length (now flow)) ⌝ }
     ensures { λ _. ⌜ now (net .exit) ≡ againstColumn (now (costs .entry)) (now (flow .entry)) c u (labelOf (now (net .entry)) u) n k v (now (net .entry)) ⌝ }
 {
     let d = label(net, u);
@@ -212,7 +212,7 @@ fn visit(
     c: usize,
     u: usize,
 )
-    requires { ⌜ (r ≤ 65) × (c ≤ 65) × (12675 ≤ length (now costs)) × (4225 ≤ length (now flow)) ⌝ }
+    requires { ⌜ (r ≤ 65) × (c ≤ 65) × (3 * (r * c) ≤ length (now costs)) × (r * c ≤ length (now flow)) ⌝ }
     ensures { λ _. ⌜ now (net .exit) ≡ visited (now (costs .entry)) (now (flow .entry)) (now (left .entry)) r c u (now (net .entry)) ⌝ }
 {
     if u == 0 {
@@ -279,7 +279,7 @@ pub fn search(
     r: usize,
     c: usize,
 ) -> bool
-    requires { ⌜ (r ≤ 65) × (c ≤ 65) × (12675 ≤ length (now costs)) × (4225 ≤ length (now flow)) × (length (now net) ≡ 662) × Ready r c (now costs) (now flow) (now left) ⌝ }
+    requires { ⌜ (r ≤ 65) × (c ≤ 65) × (3 * (r * c) ≤ length (now costs)) × (r * c ≤ length (now flow)) × (length (now net) ≡ 662) × Ready r c (now costs) (now flow) (now left) ⌝ }
     ensures { λ b. ⌜ (now (net .exit) ≡ searchedNet (now (costs .entry)) (now (flow .entry)) (now (left .entry)) r c (now (net .entry))) × (b ≡ not (eqb (stateOf (now (net .exit)) (1 + r + c)) 0))
         × ((R : Ready r c (now (costs .entry)) (now (flow .entry)) (now (left .entry))) → Found R (now (net .exit)) b) ⌝ }
 {

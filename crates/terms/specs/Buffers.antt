@@ -1,5 +1,5 @@
 -- The pool's buffers, and the pool that their numbers stand for.
--- terms: four numbers a term (where its runs begin, head and operation, value, the term before it in its chain), where the last term's runs end, the chains' last terms, the count.
+-- terms: the chains' last terms, the count, then four numbers a term (where its runs begin, head and operation, value, the term before it in its chain), and where the last term's runs end.
 -- runs: a run is one number, count * 16384 + child.
 use mathlib.Core.List.{List, [], _∷_, _++_, map}
 use Prim.Native.Nat.{ℕ, zero, suc, _+_, _*_, _-_, _/_, _%_}
@@ -10,28 +10,45 @@ use Rattle.spec.specs.Pool.{Pool, Node}
 abbrev pub BUCKETS : ℕ
 BUCKETS = 4096
 
--- where the chains' last terms stand, where the count stands, how many numbers there are
+-- where the chains' last terms stand, and where the count stands
 abbrev pub BUCKET : ℕ
-BUCKET = 65537
+BUCKET = 0
 
 abbrev pub COUNT : ℕ
-COUNT = 69633
+COUNT = 4096
+
+-- where the first term's four numbers stand
+abbrev pub FIRSTS : ℕ
+FIRSTS = 4097
+
+abbrev pub HEADS : ℕ
+HEADS = 4098
+
+abbrev pub VALUES : ℕ
+VALUES = 4099
+
+abbrev pub CHAINS : ℕ
+CHAINS = 4100
+
+-- how many numbers no term needs, and how many a whole pool
+abbrev pub LEAST : ℕ
+LEAST = 4098
 
 abbrev pub NUMBERS : ℕ
 NUMBERS = 69634
 
 abbrev pub firstIn : List ℕ → ℕ → ℕ
-firstIn terms i = getD terms (i * 4) 0
+firstIn terms i = getD terms (FIRSTS + i * 4) 0
 
 abbrev pub headIn : List ℕ → ℕ → ℕ
-headIn terms i = getD terms (i * 4 + 1) 0
+headIn terms i = getD terms (HEADS + i * 4) 0
 
 abbrev pub valueIn : List ℕ → ℕ → ℕ
-valueIn terms i = getD terms (i * 4 + 2) 0
+valueIn terms i = getD terms (VALUES + i * 4) 0
 
 -- a chain's terms by their number plus 1, 0 at its end
 abbrev pub chainIn : List ℕ → ℕ → ℕ
-chainIn terms i = getD terms (i * 4 + 3) 0
+chainIn terms i = getD terms (CHAINS + i * 4) 0
 
 abbrev pub bucketIn : List ℕ → ℕ → ℕ
 bucketIn terms b = getD terms (BUCKET + b) 0

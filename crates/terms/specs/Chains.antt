@@ -6,7 +6,7 @@ use lib.ListN.{length, getD}
 use Rattle.spec.specs.Bytes.{sum}
 use Rattle.spec.specs.Pool.{TERMS, RUNS}
 use Rattle.lgg.specs.Pool.{PoolValid}
-use Rattle.terms.specs.Buffers.{BUCKETS, NUMBERS, firstIn, headIn, valueIn, chainIn, bucketIn, countIn, partIn, poolOf, part, nodesIn}
+use Rattle.terms.specs.Buffers.{BUCKETS, LEAST, NUMBERS, firstIn, headIn, valueIn, chainIn, bucketIn, countIn, partIn, poolOf, part, nodesIn}
 
 abbrev pub mixOf : ℕ → ℕ → ℕ
 mixOf x r = (x * 31 + r % 4294967296 + r / 4294967296) % 4294967296
@@ -35,10 +35,14 @@ pub record Chained (terms runs : List ℕ) (n : ℕ) : Type 0 where
   pub link : (i : ℕ) → i < n → 0 < chainIn terms i → keyIn terms runs (chainIn terms i - 1) ≡ keyIn terms runs i
   pub next : (i j : ℕ) → i < n → j < i → keyIn terms runs j ≡ keyIn terms runs i → j < chainIn terms i
 
+-- Buffers for every pool within the limits.
+abbrev pub Whole : List ℕ → List ℕ → Type 0
+Whole terms runs = (NUMBERS ≤ length terms) × (RUNS ≤ length runs)
+
 -- The buffers hold a pool.
 pub record Holds (terms runs : List ℕ) : Type 0 where
-  pub long : NUMBERS ≤ length terms
-  pub roomy : RUNS ≤ length runs
+  pub long : LEAST + countIn terms * 4 ≤ length terms
+  pub roomy : firstIn terms (countIn terms) ≤ length runs
   pub few : countIn terms ≤ TERMS
   pub begins : firstIn terms 0 ≡ 0
   pub rises : (i : ℕ) → i < countIn terms → firstIn terms i ≤ firstIn terms (i + 1)

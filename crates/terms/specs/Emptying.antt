@@ -7,9 +7,9 @@ use native.Mathlib.Nat.{not-suc-le-zero, eq-or-lt-of-le}
 use native.Mathlib.Omega.{arith}
 use lib.ListN.{length, getD, set, replicate, length-set, length-replicate, getD-replicate}
 use lib.Seq.{getD-set-other}
-use Rattle.spec.specs.Pool.{Pool, RUNS}
+use Rattle.spec.specs.Pool.{Pool}
 use Rattle.lgg.specs.Pool.{empty-valid}
-use Rattle.terms.specs.Buffers.{BUCKETS, BUCKET, COUNT, NUMBERS, part, nodesIn, poolOf, firstIn, bucketIn, countIn}
+use Rattle.terms.specs.Buffers.{BUCKETS, BUCKET, COUNT, FIRSTS, LEAST, part, nodesIn, poolOf, firstIn, bucketIn, countIn}
 use Rattle.terms.specs.Chains.{Chained, Holds}
 
 -- n numbers from place a on are 0
@@ -20,7 +20,7 @@ zeroed a (suc n) l = set (zeroed a n l) (a + n) 0
 -- no term: where the first term's runs begin, the chains' last terms and the count are 0
 unfoldable pub emptied : List ℕ → List ℕ
 unfolding zeroed
-emptied terms = set (zeroed BUCKET BUCKETS (set terms 0 0)) COUNT 0
+emptied terms = set (zeroed BUCKET BUCKETS (set terms FIRSTS 0)) COUNT 0
 
 pub zeroed-none : (a : ℕ) (l : List ℕ) → zeroed a 0 l ≡ l
 unfolding zeroed
@@ -40,10 +40,10 @@ set-zero [] i = refl
 set-zero (x ∷ l) zero = refl
 set-zero (x ∷ l) (suc i) = set-zero l i
 
-zeroed-before : (a n : ℕ) (l : List ℕ) (i : ℕ) → i < a → getD (zeroed a n l) i 0 ≡ getD l i 0
+zeroed-after : (a n : ℕ) (l : List ℕ) (i : ℕ) → a + n ≤ i → getD (zeroed a n l) i 0 ≡ getD l i 0
 unfolding zeroed
-zeroed-before a zero l i h = refl
-zeroed-before a (suc n) l i h = getD-set-other (zeroed a n l) (a + n) i 0 0 (λ e. omega arith) ∙ zeroed-before a n l i h
+zeroed-after a zero l i h = refl
+zeroed-after a (suc n) l i h = getD-set-other (zeroed a n l) (a + n) i 0 0 (λ e. omega arith) ∙ zeroed-after a n l i (omega arith)
 
 zeroed-at : (a n : ℕ) (l : List ℕ) (i : ℕ) → i < n → getD (zeroed a n l) (a + i) 0 ≡ 0
 unfolding zeroed
@@ -60,10 +60,10 @@ module _ (terms runs : List ℕ) (none : countIn terms ≡ 0) where
   unfolding nodesIn
   pool-none = rw none refl
 
-  pub holds-none : NUMBERS ≤ length terms → RUNS ≤ length runs → firstIn terms 0 ≡ 0 → ((b : ℕ) → b < BUCKETS → bucketIn terms b ≡ 0) → Holds terms runs
-  holds-none long roomy first chains = record {
-    long = long;
-    roomy = roomy;
+  pub holds-none : LEAST ≤ length terms → firstIn terms 0 ≡ 0 → ((b : ℕ) → b < BUCKETS → bucketIn terms b ≡ 0) → Holds terms runs
+  holds-none long first chains = record {
+    long = omega arith;
+    roomy = rw (none, first) (omega arith);
     few = omega arith;
     begins = first;
     rises = λ i h. no i h;
@@ -86,23 +86,23 @@ module _ (terms runs : List ℕ) (none : countIn terms ≡ 0) where
 module _ (terms runs : List ℕ) where
   emptied-count : countIn (emptied terms) ≡ 0
   unfolding emptied
-  emptied-count = set-zero (zeroed BUCKET BUCKETS (set terms 0 0)) COUNT
+  emptied-count = set-zero (zeroed BUCKET BUCKETS (set terms FIRSTS 0)) COUNT
 
   emptied-chains : (b : ℕ) → b < BUCKETS → bucketIn (emptied terms) b ≡ 0
   unfolding emptied
-  emptied-chains b h = getD-set-other (zeroed BUCKET BUCKETS (set terms 0 0)) COUNT (BUCKET + b) 0 0 (λ e. omega arith) ∙ zeroed-at BUCKET BUCKETS (set terms 0 0) b h
+  emptied-chains b h = getD-set-other (zeroed BUCKET BUCKETS (set terms FIRSTS 0)) COUNT (BUCKET + b) 0 0 (λ e. omega arith) ∙ zeroed-at BUCKET BUCKETS (set terms FIRSTS 0) b h
 
   emptied-first : firstIn (emptied terms) 0 ≡ 0
   unfolding emptied
-  emptied-first = getD-set-other (zeroed BUCKET BUCKETS (set terms 0 0)) COUNT 0 0 0 (λ e. omega arith) ∙ zeroed-before BUCKET BUCKETS (set terms 0 0) 0 (omega arith) ∙ set-zero terms 0
+  emptied-first = getD-set-other (zeroed BUCKET BUCKETS (set terms FIRSTS 0)) COUNT FIRSTS 0 0 (λ e. omega arith) ∙ zeroed-after BUCKET BUCKETS (set terms FIRSTS 0) FIRSTS (omega arith) ∙ set-zero terms FIRSTS
 
   pub emptied-length : length (emptied terms) ≡ length terms
   unfolding emptied
-  emptied-length = length-set (zeroed BUCKET BUCKETS (set terms 0 0)) COUNT 0 ∙ zeroed-length BUCKET BUCKETS (set terms 0 0) ∙ length-set terms 0 0
+  emptied-length = length-set (zeroed BUCKET BUCKETS (set terms FIRSTS 0)) COUNT 0 ∙ zeroed-length BUCKET BUCKETS (set terms FIRSTS 0) ∙ length-set terms FIRSTS 0
 
   -- Emptied buffers hold the empty pool.
-  pub emptied-holds : NUMBERS ≤ length terms → RUNS ≤ length runs → Holds (emptied terms) runs
-  emptied-holds h k = holds-none (emptied terms) runs emptied-count (omega (arith, emptied-length)) k emptied-first emptied-chains
+  pub emptied-holds : LEAST ≤ length terms → Holds (emptied terms) runs
+  emptied-holds h = holds-none (emptied terms) runs emptied-count (omega (arith, emptied-length)) emptied-first emptied-chains
 
   pub emptied-pool : poolOf (emptied terms) runs ≡ []
   emptied-pool = pool-none (emptied terms) runs emptied-count
@@ -115,8 +115,8 @@ zeros-at (suc n) (suc i) = zeros-at n i
 
 module _ (m n : ℕ) where
   -- Buffers of zeros hold the empty pool.
-  pub zeros-hold : NUMBERS ≤ m → RUNS ≤ n → Holds (replicate m 0) (replicate n 0)
-  zeros-hold h k = holds-none (replicate m 0) (replicate n 0) (zeros-at m COUNT) (omega (arith, length-replicate {A = ℕ} m 0)) (omega (arith, length-replicate {A = ℕ} n 0)) (zeros-at m 0) (λ b l. zeros-at m (BUCKET + b))
+  pub zeros-hold : LEAST ≤ m → Holds (replicate m 0) (replicate n 0)
+  zeros-hold h = holds-none (replicate m 0) (replicate n 0) (zeros-at m COUNT) (omega (arith, length-replicate {A = ℕ} m 0)) (zeros-at m FIRSTS) (λ b l. zeros-at m (BUCKET + b))
 
   pub zeros-pool : poolOf (replicate m 0) (replicate n 0) ≡ []
   zeros-pool = pool-none (replicate m 0) (replicate n 0) (zeros-at m COUNT)

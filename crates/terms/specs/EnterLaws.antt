@@ -11,7 +11,7 @@ use lib.Seq.{paste, length-paste, getD-set-same, getD-set-other}
 use Rattle.spec.specs.Bytes.{sum}
 use Rattle.spec.specs.Pool.{Pool, Node, TERMS, RUNS}
 use Rattle.lgg.specs.Pool.{PoolValid}
-use Rattle.terms.specs.Buffers.{BUCKETS, BUCKET, COUNT, NUMBERS, part, nodeOf, nodeIn, nodesIn, poolOf, partIn, lengthIn, firstIn, headIn, valueIn, chainIn, bucketIn, countIn}
+use Rattle.terms.specs.Buffers.{BUCKETS, BUCKET, COUNT, FIRSTS, HEADS, VALUES, CHAINS, LEAST, part, nodeOf, nodeIn, nodesIn, poolOf, partIn, lengthIn, firstIn, headIn, valueIn, chainIn, bucketIn, countIn}
 use Rattle.terms.specs.Chains.{keyOf, keyIn, Chained, Holds}
 use Rattle.terms.specs.Interning.{putTerm, putChain, enterTerm, enterRuns}
 use Rattle.terms.specs.PartLaws.{part-cong, paste-part, paste-before}
@@ -26,18 +26,18 @@ other : (l : List ℕ) (i a j : ℕ) → j ≢ i → getD (set l i a) j 0 ≡ ge
 other l i a j h = getD-set-other l i j a 0 h
 
 -- ---- the numbers after the term, N of them before: four stores of its own, its chain's, the count's
-module _ (t : List ℕ) (N h v e b c : ℕ) (room : N < TERMS) (long : NUMBERS ≤ length t) (small : b < BUCKETS) where
+module _ (t : List ℕ) (N h v e b c : ℕ) (long : LEAST + (N + 1) * 4 ≤ length t) (small : b < BUCKETS) where
   abbrev s1 : List ℕ
-  s1 = set t (N * 4 + 1) h
+  s1 = set t (HEADS + N * 4) h
 
   abbrev s2 : List ℕ
-  s2 = set s1 (N * 4 + 2) v
+  s2 = set s1 (VALUES + N * 4) v
 
   abbrev s3 : List ℕ
-  s3 = set s2 (N * 4 + 4) e
+  s3 = set s2 (FIRSTS + (N + 1) * 4) e
 
   abbrev s4 : List ℕ
-  s4 = set s3 (N * 4 + 3) c
+  s4 = set s3 (CHAINS + N * 4) c
 
   abbrev s5 : List ℕ
   s5 = set s4 (BUCKET + b) (N + 1)
@@ -48,44 +48,44 @@ module _ (t : List ℕ) (N h v e b c : ℕ) (room : N < TERMS) (long : NUMBERS �
   pub after-length : length s6 ≡ length t
   after-length = simp length-set
 
-  pub after-below : (i : ℕ) → i < N * 4 + 1 → getD s6 i 0 ≡ getD t i 0
-  after-below i k =
+  pub after-below : (i : ℕ) → FIRSTS ≤ i → i < HEADS + N * 4 → getD s6 i 0 ≡ getD t i 0
+  after-below i f k =
       other s5 COUNT (N + 1) i (omega arith)
       ∙ other s4 (BUCKET + b) (N + 1) i (omega arith)
-      ∙ other s3 (N * 4 + 3) c i (omega arith)
-      ∙ other s2 (N * 4 + 4) e i (omega arith)
-      ∙ other s1 (N * 4 + 2) v i (omega arith)
-      ∙ other t (N * 4 + 1) h i (omega arith)
+      ∙ other s3 (CHAINS + N * 4) c i (omega arith)
+      ∙ other s2 (FIRSTS + (N + 1) * 4) e i (omega arith)
+      ∙ other s1 (VALUES + N * 4) v i (omega arith)
+      ∙ other t (HEADS + N * 4) h i (omega arith)
 
-  pub after-head : getD s6 (N * 4 + 1) 0 ≡ h
+  pub after-head : getD s6 (HEADS + N * 4) 0 ≡ h
   after-head =
-      other s5 COUNT (N + 1) (N * 4 + 1) (omega arith)
-      ∙ other s4 (BUCKET + b) (N + 1) (N * 4 + 1) (omega arith)
-      ∙ other s3 (N * 4 + 3) c (N * 4 + 1) (omega arith)
-      ∙ other s2 (N * 4 + 4) e (N * 4 + 1) (omega arith)
-      ∙ other s1 (N * 4 + 2) v (N * 4 + 1) (omega arith)
-      ∙ getD-set-same t (N * 4 + 1) h 0 (omega arith)
+      other s5 COUNT (N + 1) (HEADS + N * 4) (omega arith)
+      ∙ other s4 (BUCKET + b) (N + 1) (HEADS + N * 4) (omega arith)
+      ∙ other s3 (CHAINS + N * 4) c (HEADS + N * 4) (omega arith)
+      ∙ other s2 (FIRSTS + (N + 1) * 4) e (HEADS + N * 4) (omega arith)
+      ∙ other s1 (VALUES + N * 4) v (HEADS + N * 4) (omega arith)
+      ∙ getD-set-same t (HEADS + N * 4) h 0 (omega arith)
 
-  pub after-value : getD s6 (N * 4 + 2) 0 ≡ v
+  pub after-value : getD s6 (VALUES + N * 4) 0 ≡ v
   after-value =
-      other s5 COUNT (N + 1) (N * 4 + 2) (omega arith)
-      ∙ other s4 (BUCKET + b) (N + 1) (N * 4 + 2) (omega arith)
-      ∙ other s3 (N * 4 + 3) c (N * 4 + 2) (omega arith)
-      ∙ other s2 (N * 4 + 4) e (N * 4 + 2) (omega arith)
-      ∙ getD-set-same s1 (N * 4 + 2) v 0 (simp length-set (omega arith))
+      other s5 COUNT (N + 1) (VALUES + N * 4) (omega arith)
+      ∙ other s4 (BUCKET + b) (N + 1) (VALUES + N * 4) (omega arith)
+      ∙ other s3 (CHAINS + N * 4) c (VALUES + N * 4) (omega arith)
+      ∙ other s2 (FIRSTS + (N + 1) * 4) e (VALUES + N * 4) (omega arith)
+      ∙ getD-set-same s1 (VALUES + N * 4) v 0 (simp length-set (omega arith))
 
-  pub after-chain : getD s6 (N * 4 + 3) 0 ≡ c
+  pub after-chain : getD s6 (CHAINS + N * 4) 0 ≡ c
   after-chain =
-      other s5 COUNT (N + 1) (N * 4 + 3) (omega arith)
-      ∙ other s4 (BUCKET + b) (N + 1) (N * 4 + 3) (omega arith)
-      ∙ getD-set-same s3 (N * 4 + 3) c 0 (simp length-set (omega arith))
+      other s5 COUNT (N + 1) (CHAINS + N * 4) (omega arith)
+      ∙ other s4 (BUCKET + b) (N + 1) (CHAINS + N * 4) (omega arith)
+      ∙ getD-set-same s3 (CHAINS + N * 4) c 0 (simp length-set (omega arith))
 
-  pub after-end : getD s6 (N * 4 + 4) 0 ≡ e
+  pub after-end : getD s6 (FIRSTS + (N + 1) * 4) 0 ≡ e
   after-end =
-      other s5 COUNT (N + 1) (N * 4 + 4) (omega arith)
-      ∙ other s4 (BUCKET + b) (N + 1) (N * 4 + 4) (omega arith)
-      ∙ other s3 (N * 4 + 3) c (N * 4 + 4) (omega arith)
-      ∙ getD-set-same s2 (N * 4 + 4) e 0 (simp length-set (omega arith))
+      other s5 COUNT (N + 1) (FIRSTS + (N + 1) * 4) (omega arith)
+      ∙ other s4 (BUCKET + b) (N + 1) (FIRSTS + (N + 1) * 4) (omega arith)
+      ∙ other s3 (CHAINS + N * 4) c (FIRSTS + (N + 1) * 4) (omega arith)
+      ∙ getD-set-same s2 (FIRSTS + (N + 1) * 4) e 0 (simp length-set (omega arith))
 
   pub after-bucket : getD s6 (BUCKET + b) 0 ≡ N + 1
   after-bucket = other s5 COUNT (N + 1) (BUCKET + b) (omega arith) ∙ getD-set-same s4 (BUCKET + b) (N + 1) 0 (simp length-set (omega arith))
@@ -94,10 +94,10 @@ module _ (t : List ℕ) (N h v e b c : ℕ) (room : N < TERMS) (long : NUMBERS �
   after-bucket-other d k ne =
       other s5 COUNT (N + 1) (BUCKET + d) (omega arith)
       ∙ other s4 (BUCKET + b) (N + 1) (BUCKET + d) (omega arith)
-      ∙ other s3 (N * 4 + 3) c (BUCKET + d) (omega arith)
-      ∙ other s2 (N * 4 + 4) e (BUCKET + d) (omega arith)
-      ∙ other s1 (N * 4 + 2) v (BUCKET + d) (omega arith)
-      ∙ other t (N * 4 + 1) h (BUCKET + d) (omega arith)
+      ∙ other s3 (CHAINS + N * 4) c (BUCKET + d) (omega arith)
+      ∙ other s2 (FIRSTS + (N + 1) * 4) e (BUCKET + d) (omega arith)
+      ∙ other s1 (VALUES + N * 4) v (BUCKET + d) (omega arith)
+      ∙ other t (HEADS + N * 4) h (BUCKET + d) (omega arith)
 
   pub after-count : getD s6 COUNT 0 ≡ N + 1
   after-count = getD-set-same s5 COUNT (N + 1) 0 (simp length-set (omega arith))
@@ -105,15 +105,15 @@ module _ (t : List ℕ) (N h v e b c : ℕ) (room : N < TERMS) (long : NUMBERS �
   -- the chain's number is read after the term's own stores, which do not touch it
   pub bucket-kept : getD s3 (BUCKET + b) 0 ≡ getD t (BUCKET + b) 0
   bucket-kept =
-      other s2 (N * 4 + 4) e (BUCKET + b) (omega arith)
-      ∙ other s1 (N * 4 + 2) v (BUCKET + b) (omega arith)
-      ∙ other t (N * 4 + 1) h (BUCKET + b) (omega arith)
+      other s2 (FIRSTS + (N + 1) * 4) e (BUCKET + b) (omega arith)
+      ∙ other s1 (VALUES + N * 4) v (BUCKET + b) (omega arith)
+      ∙ other t (HEADS + N * 4) h (BUCKET + b) (omega arith)
 
 -- What the buffers keep and gain when a term is entered.
 pub record Adds (terms runs list : List ℕ) (h v n b : ℕ) (terms′ runs′ : List ℕ) : Type 0 where
   pub longTerms : length terms′ ≡ length terms
   pub longRuns : length runs′ ≡ length runs
-  pub below : (i : ℕ) → i < countIn terms * 4 + 1 → getD terms′ i 0 ≡ getD terms i 0
+  pub below : (i : ℕ) → FIRSTS ≤ i → i < HEADS + countIn terms * 4 → getD terms′ i 0 ≡ getD terms i 0
   pub head : headIn terms′ (countIn terms) ≡ h
   pub value : valueIn terms′ (countIn terms) ≡ v
   pub chain : chainIn terms′ (countIn terms) ≡ bucketIn terms b
@@ -124,22 +124,22 @@ pub record Adds (terms runs list : List ℕ) (h v n b : ℕ) (terms′ runs′ :
   pub runsBelow : (i : ℕ) → i < firstIn terms (countIn terms) → getD runs′ i 0 ≡ getD runs i 0
   pub entered : part runs′ (firstIn terms (countIn terms)) n ≡ part list 0 n
 
-pub adds : (terms runs list : List ℕ) (h v n b : ℕ) → Holds terms runs → countIn terms < TERMS → firstIn terms (countIn terms) + n ≤ RUNS → b < BUCKETS → n ≤ length list
+pub adds : (terms runs list : List ℕ) (h v n b : ℕ) → LEAST + (countIn terms + 1) * 4 ≤ length terms → firstIn terms (countIn terms) + n ≤ length runs → b < BUCKETS → n ≤ length list
     → Adds terms runs list h v n b (enterTerm terms h v n b) (enterRuns terms runs list n)
 unfolding enterTerm enterRuns
-adds terms runs list h v n b H room fits small long = record {
-  longTerms = after-length t N h v e b c room l small;
-  longRuns = length-paste runs (firstIn terms N) list n (omega (arith, H .roomy)) long;
-  below = after-below t N h v e b c room l small;
-  head = after-head t N h v e b c room l small;
-  value = after-value t N h v e b c room l small;
-  chain = after-chain t N h v e b c room l small ∙ bucket-kept t N h v e b c room l small;
-  end = let z : (N + 1) * 4 ≡ N * 4 + 4 = omega arith in rw z (after-end t N h v e b c room l small);
-  bucket = after-bucket t N h v e b c room l small;
-  buckets = after-bucket-other t N h v e b c room l small;
-  count = after-count t N h v e b c room l small;
-  runsBelow = λ i k. paste-before runs list (firstIn terms N) n i k (omega (arith, H .roomy));
-  entered = paste-part runs list (firstIn terms N) n (omega (arith, H .roomy)) long;
+adds terms runs list h v n b room fits small long = record {
+  longTerms = after-length t N h v e b c room small;
+  longRuns = length-paste runs (firstIn terms N) list n fits long;
+  below = after-below t N h v e b c room small;
+  head = after-head t N h v e b c room small;
+  value = after-value t N h v e b c room small;
+  chain = after-chain t N h v e b c room small ∙ bucket-kept t N h v e b c room small;
+  end = after-end t N h v e b c room small;
+  bucket = after-bucket t N h v e b c room small;
+  buckets = after-bucket-other t N h v e b c room small;
+  count = after-count t N h v e b c room small;
+  runsBelow = λ i k. paste-before runs list (firstIn terms N) n i k (omega arith);
+  entered = paste-part runs list (firstIn terms N) n fits long;
 }
   where
     t : List ℕ
@@ -154,12 +154,9 @@ adds terms runs list h v n b H room fits small long = record {
     c : ℕ
     c = bucketIn (putTerm terms (countIn terms) h v (firstIn terms (countIn terms) + n)) b
 
-    l : NUMBERS ≤ length terms
-    l = H .long
-
 module _ (terms runs list : List ℕ) (h v n b : ℕ) (H : Holds terms runs) (own : b ≡ keyOf h v (part list 0 n)) (terms′ runs′ : List ℕ) (A : Adds terms runs list h v n b terms′ runs′) where
   first-same : (i : ℕ) → i ≤ countIn terms → firstIn terms′ i ≡ firstIn terms i
-  first-same i k = A .below (i * 4) (omega arith)
+  first-same i k = A .below (FIRSTS + i * 4) (omega arith) (omega arith)
 
   part-same : (i : ℕ) → i < countIn terms → partIn terms′ runs′ i ≡ partIn terms runs i
   part-same i k =
@@ -167,10 +164,10 @@ module _ (terms runs list : List ℕ) (h v n b : ℕ) (H : Holds terms runs) (ow
       (part-cong runs′ runs (firstIn terms i) (firstIn terms i) (lengthIn terms i) (λ j q. A .runsBelow (firstIn terms i + j) (omega (arith, first-rises terms runs H (i + 1) (omega arith)))))
 
   pub node-same : (i : ℕ) → i < countIn terms → nodeIn terms′ runs′ i ≡ nodeIn terms runs i
-  node-same i k = rw (A .below (i * 4 + 1) (omega arith), A .below (i * 4 + 2) (omega arith), part-same i k) refl
+  node-same i k = rw (A .below (HEADS + i * 4) (omega arith) (omega arith), A .below (VALUES + i * 4) (omega arith) (omega arith), part-same i k) refl
 
   key-same : (i : ℕ) → i < countIn terms → keyIn terms′ runs′ i ≡ keyIn terms runs i
-  key-same i k = rw (A .below (i * 4 + 1) (omega arith), A .below (i * 4 + 2) (omega arith), part-same i k) refl
+  key-same i k = rw (A .below (HEADS + i * 4) (omega arith) (omega arith), A .below (VALUES + i * 4) (omega arith) (omega arith), part-same i k) refl
 
   part-new : partIn terms′ runs′ (countIn terms) ≡ part list 0 n
   part-new = let z : firstIn terms (countIn terms) + n - firstIn terms (countIn terms) ≡ n = omega arith in rw (A .end, first-same (countIn terms) (omega arith), z) (A .entered)
@@ -221,7 +218,7 @@ module _ (terms runs list : List ℕ) (h v n b : ℕ) (H : Holds terms runs) (ow
       go (inr q) = rw (key-same i q) (at (keyIn terms runs i) (key-small (headIn terms i) (valueIn terms i) (partIn terms runs i)) q (H .chained .all i q) (ℕ-discrete (keyIn terms runs i) b))
 
   chain-same : (i : ℕ) → i < countIn terms → chainIn terms′ i ≡ chainIn terms i
-  chain-same i k = A .below (i * 4 + 3) (omega arith)
+  chain-same i k = A .below (CHAINS + i * 4) (omega arith) (omega arith)
 
   chains-falls : b < BUCKETS → (i : ℕ) → i < countIn terms + 1 → chainIn terms′ i ≤ i
   chains-falls s i k = go (either-new k)
@@ -269,10 +266,10 @@ module _ (terms runs list : List ℕ) (h v n b : ℕ) (H : Holds terms runs) (ow
       go (inr q) = rw (part-same i q) (H .light i q)
 
   -- the buffers hold the longer pool
-  pub holds-new : b < BUCKETS → countIn terms < TERMS → firstIn terms (countIn terms) + n ≤ RUNS → sum (part list 0 n) < 2 ^ 64 → PoolValid (poolOf terms′ runs′) → Holds terms′ runs′
-  holds-new s room fits light w = record {
-    long = omega (arith, A .longTerms, H .long);
-    roomy = omega (arith, A .longRuns, H .roomy);
+  pub holds-new : b < BUCKETS → countIn terms < TERMS → firstIn terms (countIn terms) + n ≤ RUNS → LEAST + (countIn terms + 1) * 4 ≤ length terms → firstIn terms (countIn terms) + n ≤ length runs → sum (part list 0 n) < 2 ^ 64 → PoolValid (poolOf terms′ runs′) → Holds terms′ runs′
+  holds-new s few ends room fits light w = record {
+    long = omega (arith, A .longTerms, A .count);
+    roomy = rw (A .count) (omega (arith, A .longRuns, A .end));
     few = omega (arith, A .count);
     begins = first-same 0 (omega arith) ∙ H .begins;
     rises = rw (A .count) rises-new;

@@ -14,7 +14,7 @@ use Rattle.spec.specs.Pool.{Pool, Node, nodeAt, TERMS, RUNS, sameNode, runCount
 use Rattle.lgg.specs.Pool.{PoolValid, NodeValid}
 use Rattle.lgg.specs.PoolTrees.{node-ext}
 use Rattle.lgg.specs.PoolIntern.{both-true, same-twos, place-passes, intern-there, intern-enters}
-use Rattle.terms.specs.Buffers.{BUCKETS, part, unpack, nodeOf, nodeIn, nodesIn, poolOf, partIn, lengthIn, firstIn, countIn}
+use Rattle.terms.specs.Buffers.{BUCKETS, LEAST, part, unpack, nodeOf, nodeIn, nodesIn, poolOf, partIn, lengthIn, firstIn, countIn}
 use Rattle.terms.specs.Chains.{keyOf, Holds}
 use Rattle.terms.specs.Interning.{Sought, enterTerm, enterRuns, enteredOf, poolAfter, grew, Interning}
 use Rattle.terms.specs.declared.Entered.{Entered}
@@ -109,19 +109,19 @@ module _ (terms runs list : List ℕ) (n h v : ℕ) (H : Holds terms runs) where
       let m : RUNS < runCount p + length (node .runs) = omega (arith, counted, node-runs) in
       refused-keeps (intern-new p node (absent s) ∙ rw (lt-ltb (length p) TERMS l, lt-leb (runCount p + length (node .runs)) RUNS m) refl)
 
-  pub intern-entered : Sought terms runs node 0 → countIn terms < TERMS → firstIn terms (countIn terms) + n ≤ RUNS → sum (part list 0 n) < 2 ^ 64 → NodeValid (countIn terms) node → n ≤ length list → (b : ℕ) → b ≡ keyOf h v (part list 0 n) → b < BUCKETS
+  pub intern-entered : Sought terms runs node 0 → countIn terms < TERMS → firstIn terms (countIn terms) + n ≤ RUNS → LEAST + (countIn terms + 1) * 4 ≤ length terms → firstIn terms (countIn terms) + n ≤ length runs → sum (part list 0 n) < 2 ^ 64 → NodeValid (countIn terms) node → n ≤ length list → (b : ℕ) → b ≡ keyOf h v (part list 0 n) → b < BUCKETS
       → Interning terms runs list n h v (enterTerm terms h v n b) (enterRuns terms runs list n) (E.Term (countIn terms))
-  intern-entered s k f light w long b own small =
+  intern-entered s k f room fits light w long b own small =
       let l : length p < TERMS = omega (arith, pool-length terms runs) in
       let m : runCount p + length (node .runs) ≤ RUNS = omega (arith, counted, node-runs) in
       let q : intern p node ≡ ok (interned (p ++ (node ∷ [])) (length p)) = intern-new p node (absent s) ∙ rw (lt-ltb (length p) TERMS l, le-leb (runCount p + length (node .runs)) RUNS m) refl in
-      let A = adds terms runs list h v n b H k f small long in
+      let A = adds terms runs list h v n b room fits small long in
       let new = pool-new terms runs list h v n b H own (enterTerm terms h v n b) (enterRuns terms runs list n) A in
       let valid : PoolValid (poolOf (enterTerm terms h v n b) (enterRuns terms runs list n)) = rw new (intern-enters p node _ (H .valid) (rw (pool-length terms runs) w) q .valid) in
       let g : ltb (length p) (length (p ++ (node ∷ []))) ≡ true = lt-ltb (length p) _ (omega (arith, length-append p (node ∷ []))) in record {
         answer = rw (q, pool-length terms runs) refl;
         pool = new ∙ sym (ap (poolAfter p) q);
-        holds = holds-new terms runs list h v n b H own (enterTerm terms h v n b) (enterRuns terms runs list n) A small k f light valid;
+        holds = holds-new terms runs list h v n b H own (enterTerm terms h v n b) (enterRuns terms runs list n) A small k f room fits light valid;
         termsAre = rw (q, g, ← own) refl;
         runsAre = rw (q, g) refl;
       }

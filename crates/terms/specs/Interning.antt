@@ -8,8 +8,8 @@ use lib.ListN.{length, getD, set}
 use lib.Seq.{paste}
 use Rattle.spec.specs.Bytes.{pick, Res, ok, refused}
 use Rattle.spec.specs.Pool.{Pool, Node, Interned, intern}
-use Rattle.terms.specs.Buffers.{BUCKET, COUNT, firstIn, countIn, bucketIn, poolOf, part, nodesIn, nodeIn, nodeOf}
-use Rattle.terms.specs.Chains.{Holds, keyOf}
+use Rattle.terms.specs.Buffers.{BUCKET, COUNT, FIRSTS, HEADS, VALUES, CHAINS, firstIn, countIn, bucketIn, poolOf, part, nodesIn, nodeIn, nodeOf}
+use Rattle.terms.specs.Chains.{Holds, Whole, keyOf}
 use Rattle.terms.specs.declared.Entered.{Entered}
 use Rattle.terms.specs.declared.Entered.the-variants as E
 
@@ -25,16 +25,22 @@ pub record Sought (terms runs : List ℕ) (n : Node) (r : ℕ) : Type 0 where
 
 -- one term more: its numbers, then it is the last of its chain and it is counted
 abbrev pub putTerm : List ℕ → ℕ → ℕ → ℕ → ℕ → List ℕ
-putTerm terms i h v e = set (set (set terms (i * 4 + 1) h) (i * 4 + 2) v) (i * 4 + 4) e
+putTerm terms i h v e = set (set (set terms (HEADS + i * 4) h) (VALUES + i * 4) v) (FIRSTS + (i + 1) * 4) e
 
 abbrev pub putChain : List ℕ → ℕ → ℕ → List ℕ
-putChain terms i b = set (set (set terms (i * 4 + 3) (bucketIn terms b)) (BUCKET + b) (i + 1)) COUNT (i + 1)
+putChain terms i b = set (set (set terms (CHAINS + i * 4) (bucketIn terms b)) (BUCKET + b) (i + 1)) COUNT (i + 1)
 
 unfoldable pub enterTerm : List ℕ → ℕ → ℕ → ℕ → ℕ → List ℕ
 enterTerm terms h v n b = putChain (putTerm terms (countIn terms) h v (firstIn terms (countIn terms) + n)) (countIn terms) b
 
 unfoldable pub enterRuns : List ℕ → List ℕ → List ℕ → ℕ → List ℕ
 enterRuns terms runs list n = paste runs (firstIn terms (countIn terms)) list n
+
+-- X holds of the answer, unless it is `Short`: only where the buffers are shorter than a whole pool's, and then S
+abbrev pub Unless : List ℕ → List ℕ → Entered → Type 0 → Type 0 → Type 0
+Unless terms runs E.Short S X = (Whole terms runs → ⊥) × S
+Unless terms runs (E.Term t) S X = X
+Unless terms runs E.Full S X = X
 
 -- refusal 13 is `Full`
 abbrev pub enteredOf : Res Interned → Entered

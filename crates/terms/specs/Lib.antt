@@ -6,6 +6,7 @@ pub mod PoolLaws
 pub mod ChainLaws
 pub mod EnterLaws
 pub mod InternLaws
+pub mod ShortLaws
 pub mod Emptying
 pub mod Growing
 pub mod Joining

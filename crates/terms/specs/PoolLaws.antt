@@ -92,9 +92,15 @@ module _ (terms runs : List ℕ) (H : Holds terms runs) where
   pub runs-fit : (i : ℕ) → i < countIn terms → firstIn terms i + lengthIn terms i ≤ RUNS
   runs-fit i h = omega (arith, first-fits (i + 1) (omega arith), H .rises i h)
 
+  pub first-inside : (i : ℕ) → i ≤ countIn terms → firstIn terms i ≤ length runs
+  first-inside i h = omega (arith, H .roomy, first-rises i h)
+
+  pub runs-inside : (i : ℕ) → i < countIn terms → firstIn terms i + lengthIn terms i ≤ length runs
+  runs-inside i h = omega (arith, first-inside (i + 1) (omega arith), H .rises i h)
+
   -- the runs of term t, from i to before m
   pub span-fits : (t i m : ℕ) → t < countIn terms → i ≡ firstIn terms t → m ≡ firstIn terms (t + 1) → (i ≤ m) × (m ≤ length runs) × (sum (part runs i (m - i)) < 2 ^ 64)
-  span-fits t i m h e f = rw (e, f) (H .rises t h, omega (arith, H .roomy, first-fits (t + 1) (omega arith)), H .light t h)
+  span-fits t i m h e f = rw (e, f) (H .rises t h, first-inside (t + 1) (omega arith), H .light t h)
 
 pub first-at : {t f : ℕ} (terms : List ℕ) → t ≡ countIn terms → f ≡ firstIn terms t → f ≡ firstIn terms (countIn terms)
 first-at terms e g = rw (← e) g

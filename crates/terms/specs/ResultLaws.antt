@@ -11,12 +11,13 @@ use Rattle.lgg.specs.Pool.{RunsBelow, NodeValid, op-valid}
 use Rattle.lgg.specs.PoolSort.{sort-perm, perm-below}
 use Rattle.terms.specs.Buffers.{part, unpack, nodesIn, poolOf, nodeOf, countIn}
 use Rattle.terms.specs.Chains.{Holds}
-use Rattle.terms.specs.Interning.{enteredOf, poolAfter, Interning}
+use Rattle.terms.specs.Interning.{enteredOf, poolAfter, Unless, Interning}
 use Rattle.terms.specs.Joining.{joinNumbers, over, Begins, joinedIn}
 use Rattle.terms.specs.Sorting.{sortNumbers, orderedIn}
 use Rattle.terms.specs.Growing.{Grows}
 use Rattle.terms.specs.GrowLaws.{grows-intern}
 use Rattle.terms.specs.Results.{actionList, ActionResult}
+use Rattle.terms.specs.ShortLaws.{unless-map}
 use Rattle.terms.specs.PartLaws.{part-length}
 use Rattle.terms.specs.JoinLaws.{part-take, part-front, joined-runs, join-sum}
 use Rattle.terms.specs.SortLaws.{sorted-runs, sort-length, sort-sum}
@@ -75,14 +76,18 @@ module _ (p : Pool) (list : List ℕ) (n : ℕ) (t : Bool) (list₁ : List ℕ) 
     list-is : list₂ ≡ over (joinNumbers [] (orderedIn t p list n)) (over (orderedIn t p list n) list)
     list-is = J .numbers ∙ ap (λ (l : List ℕ). over (joinNumbers [] l) list₁) front ∙ ap (λ (l : List ℕ). over (joinNumbers [] (orderedIn t p list n)) l) E
 
-pub action-result : (terms runs list : List ℕ) (n o : ℕ) (t : Bool) (list₁ : List ℕ) (E : list₁ ≡ over (orderedIn t (poolOf terms runs) list n) list) (list₂ : List ℕ) (m : ℕ) → Begins (joinedIn list₁ n) list₁ list₂ m
-    → o < 64 → (terms′ runs′ : List ℕ) (r : Entered) → Interning terms runs list₂ m o 0 terms′ runs′ r → ActionResult terms runs list n o t terms′ runs′ list₂ r
-action-result terms runs list n o t list₁ E list₂ m J h terms′ runs′ r I =
-    let e = action-node (poolOf terms runs) list n t list₁ E list₂ m J o h in record {
-      answer = I .answer ∙ ap (λ (x : Node). enteredOf (intern (poolOf terms runs) x)) e;
-      pool = I .pool ∙ ap (λ (x : Node). poolAfter (poolOf terms runs) (intern (poolOf terms runs) x)) e;
-      holds = I .holds;
-      grows = rw (← e) (grows-intern (begins-fits J) I);
-      listIs = list-is (poolOf terms runs) list n t list₁ E list₂ m J;
-      buffers = rw (← many-is (poolOf terms runs) list n t list₁ E list₂ m J) I;
-    }
+module _ (terms runs list : List ℕ) (n o : ℕ) (t : Bool) (list₁ : List ℕ) (E : list₁ ≡ over (orderedIn t (poolOf terms runs) list n) list) (list₂ : List ℕ) (m : ℕ) (J : Begins (joinedIn list₁ n) list₁ list₂ m) (h : o < 64) (terms′ runs′ : List ℕ) (r : Entered) where
+  action-result : Interning terms runs list₂ m o 0 terms′ runs′ r → ActionResult terms runs list n o t terms′ runs′ list₂ r
+  action-result I =
+      let e = action-node (poolOf terms runs) list n t list₁ E list₂ m J o h in record {
+        answer = I .answer ∙ ap (λ (x : Node). enteredOf (intern (poolOf terms runs) x)) e;
+        pool = I .pool ∙ ap (λ (x : Node). poolAfter (poolOf terms runs) (intern (poolOf terms runs) x)) e;
+        holds = I .holds;
+        grows = rw (← e) (grows-intern (begins-fits J) I);
+        listIs = list-is (poolOf terms runs) list n t list₁ E list₂ m J;
+        buffers = rw (← many-is (poolOf terms runs) list n t list₁ E list₂ m J) I;
+      }
+
+  pub action-answer : Unless terms runs r ((terms′ ≡ terms) × (runs′ ≡ runs)) (Interning terms runs list₂ m o 0 terms′ runs′ r)
+      → Unless terms runs r ((terms′ ≡ terms) × (runs′ ≡ runs) × (list₂ ≡ actionList t terms runs list n)) (ActionResult terms runs list n o t terms′ runs′ list₂ r)
+  action-answer = unless-map terms runs r (λ s. (s .0, s .1, list-is (poolOf terms runs) list n t list₁ E list₂ m J)) action-result

@@ -1,10 +1,10 @@
 // The term pool: terms over runs of (child, count), neighbours with the same child joined; a term's number is its place.
 ghost use mathlib.Core.Path.{_≡_};
-ghost use Prim.Native.Nat.{_+_, _-_, _^_, _/_, _%_, _≤_, _<_};
+ghost use Prim.Native.Nat.{_+_, _-_, _*_, _^_, _/_, _%_, _≤_, _<_};
 ghost use lib.ListN.{length, getD, set};
 ghost use lib.Seq.{paste};
 ghost use Rattle.lgg.specs.Pool.{NodeValid};
-ghost use Rattle.terms.specs.Buffers.{BUCKETS, BUCKET, NUMBERS, firstIn, headIn, valueIn, countIn, part, unpack, poolOf, nodeOf, nodeIn};
+ghost use Rattle.terms.specs.Buffers.{BUCKETS, BUCKET, COUNT, HEADS, VALUES, LEAST, firstIn, headIn, valueIn, countIn, part, unpack, poolOf, nodeOf, nodeIn};
 ghost use Rattle.terms.specs.Chains.{mixOf, fold, keyOf, Holds};
 ghost use Rattle.terms.specs.Joining.{appendNumber, joinedIn, over, Begins};
 ghost use Rattle.spec.specs.Bytes.{sum};
@@ -15,27 +15,40 @@ ghost use mathlib.Core.List.{map};
 ghost use Rattle.lgg.specs.Pool.{RunsBelow};
 ghost use Rattle.spec.specs.Pool.{structuralCmp, isGreater};
 ghost use mathlib.Core.Logic.{_≢_};
-ghost use Rattle.terms.specs.Interning.{Tells, Sought, putTerm, putChain, enterTerm, enterRuns, Interning};
+ghost use Rattle.terms.specs.Interning.{Tells, Sought, putTerm, putChain, enterTerm, enterRuns, Unless, Interning};
 ghost use Rattle.terms.specs.Emptying.{zeroed, emptied};
-ghost use Rattle.terms.specs.Results.{ActionResult};
+ghost use Rattle.terms.specs.Results.{actionList, ActionResult};
 
 pub const TERMS: usize = 16384;
 
 pub const RUNS: usize = 65536;
 
-// the numbers of `terms`: four a term, the end of the runs, the chains' last terms, the count
-pub const BUCKET: usize = 65537;
+// the numbers of `terms`: the chains' last terms, the count, then four a term, and the end of the runs
+pub const BUCKET: usize = 0;
 
 const BUCKETS: usize = 4096;
 
-pub const COUNT: usize = 69633;
+pub const COUNT: usize = 4096;
+
+// where the first term's four numbers stand
+const FIRSTS: usize = 4097;
+
+const HEADS: usize = 4098;
+
+const VALUES: usize = 4099;
+
+const CHAINS: usize = 4100;
+
+// how many numbers no term needs, and how many a whole pool
+pub const LEAST: usize = 4098;
 
 pub const NUMBERS: usize = 69634;
 
-// a term that was there or was entered; or refusal 13
+// a term that was there or was entered; or refusal 13; or the buffers are too short for the term, and the limits are not reached
 pub enum Entered {
     Term(usize),
     Full,
+    Short,
 }
 
 fn put(s: &mut [u32], at: usize, v: u32)
@@ -73,36 +86,36 @@ fn number(s: &[u32], at: usize) -> usize
 
 // ---- readers
 pub fn count(terms: &[u32]) -> usize
-    requires { ⌜ NUMBERS ≤ length (now terms) ⌝ }
+    requires { ⌜ COUNT < length (now terms) ⌝ }
     ensures { λ r. ⌜ (r ≡ countIn (now (terms .entry))) × (r < 4294967296) ⌝ }
 {
     number(terms, COUNT)
 }
 
 pub fn first(terms: &[u32], t: usize) -> usize
-    requires { ⌜ (NUMBERS ≤ length (now terms)) × (t ≤ 16384) ⌝ }
+    requires { ⌜ LEAST + t * 4 ≤ length (now terms) ⌝ }
     ensures { λ r. ⌜ (r ≡ firstIn (now (terms .entry)) t) × (r < 4294967296) ⌝ }
 {
-    number(terms, t * 4)
+    number(terms, FIRSTS + t * 4)
 }
 
 pub fn head(terms: &[u32], t: usize) -> u32
-    requires { ⌜ (NUMBERS ≤ length (now terms)) × (t < 16384) ⌝ }
+    requires { ⌜ HEADS + t * 4 < length (now terms) ⌝ }
     ensures { λ r. ⌜ r ≡ headIn (now (terms .entry)) t ⌝ }
 {
-    terms[t * 4 + 1]
+    terms[HEADS + t * 4]
 }
 
 pub fn value(terms: &[u32], t: usize) -> u32
-    requires { ⌜ (NUMBERS ≤ length (now terms)) × (t < 16384) ⌝ }
+    requires { ⌜ VALUES + t * 4 < length (now terms) ⌝ }
     ensures { λ r. ⌜ r ≡ valueIn (now (terms .entry)) t ⌝ }
 {
-    terms[t * 4 + 2]
+    terms[VALUES + t * 4]
 }
 
 // ---- the empty pool
 fn clear_chains(terms: &mut [u32])
-    requires { ⌜ NUMBERS ≤ length (now terms) ⌝ }
+    requires { ⌜ LEAST ≤ length (now terms) ⌝ }
     ensures { λ _. ⌜ now (terms .exit) ≡ zeroed BUCKET BUCKETS (now (terms .entry)) ⌝ }
 {
     let mut b = 0;
@@ -114,10 +127,10 @@ fn clear_chains(terms: &mut [u32])
 
 // No term, whatever the buffer held.
 pub fn empty(terms: &mut [u32])
-    requires { ⌜ NUMBERS ≤ length (now terms) ⌝ }
+    requires { ⌜ LEAST ≤ length (now terms) ⌝ }
     ensures { λ _. ⌜ now (terms .exit) ≡ emptied (now (terms .entry)) ⌝ }
 {
-    put(terms, 0, 0);
+    put(terms, FIRSTS, 0);
     clear_chains(terms);
     put(terms, COUNT, 0);
 }
@@ -200,7 +213,7 @@ fn look_up(
         if is_term(terms, runs, t - 1, list, n, h, v) {
             return t;
         }
-        t = number(terms, (t - 1) * 4 + 3);
+        t = number(terms, CHAINS + (t - 1) * 4);
     }
     0
 }
@@ -218,27 +231,27 @@ fn copy_runs(runs: &mut [u64], from: usize, list: &[u64], n: usize)
 }
 
 fn put_term(terms: &mut [u32], t: usize, h: u32, v: u32, end: u32)
-    requires { ⌜ (NUMBERS ≤ length (now terms)) × (t < 16384) ⌝ }
+    requires { ⌜ LEAST + (t + 1) * 4 ≤ length (now terms) ⌝ }
     ensures { λ _. ⌜ now (terms .exit) ≡ putTerm (now (terms .entry)) t h v end ⌝ }
 {
-    put(terms, t * 4 + 1, h);
-    put(terms, t * 4 + 2, v);
-    put(terms, t * 4 + 4, end);
+    put(terms, HEADS + t * 4, h);
+    put(terms, VALUES + t * 4, v);
+    put(terms, FIRSTS + (t + 1) * 4, end);
 }
 
 fn put_chain(terms: &mut [u32], t: usize, bucket: usize)
-    requires { ⌜ (NUMBERS ≤ length (now terms)) × (t < 16384) × (bucket < 4096) ⌝ }
+    requires { ⌜ (LEAST + (t + 1) * 4 ≤ length (now terms)) × (t < 16384) × (bucket < 4096) ⌝ }
     ensures { λ _. ⌜ now (terms .exit) ≡ putChain (now (terms .entry)) t bucket ⌝ }
 {
     let old = terms[BUCKET + bucket];
-    put(terms, t * 4 + 3, old);
+    put(terms, CHAINS + t * 4, old);
     put(terms, BUCKET + bucket, short(t + 1));
     put(terms, COUNT, short(t + 1));
 }
 
 // the term after the last one, in the chain of its key
 fn enter(terms: &mut [u32], runs: &mut [u64], bucket: usize, list: &[u64], n: usize, h: u32, v: u32)
-    requires { ⌜ Holds (now terms) (now runs) × (countIn (now terms) < 16384) × (firstIn (now terms) (countIn (now terms)) + n ≤ 65536) × (n ≤ length (now list)) × (bucket < 4096) ⌝ }
+    requires { ⌜ Holds (now terms) (now runs) × (countIn (now terms) < 16384) × (firstIn (now terms) (countIn (now terms)) + n ≤ 65536) × (LEAST + (countIn (now terms) + 1) * 4 ≤ length (now terms)) × (firstIn (now terms) (countIn (now terms)) + n ≤ length (now runs)) × (n ≤ length (now list)) × (bucket < 4096) ⌝ }
     ensures { λ _. ⌜ (now (terms .exit) ≡ enterTerm (now (terms .entry)) h v n bucket) × (now (runs .exit) ≡ enterRuns (now (terms .entry)) (now (runs .entry)) (now (list .entry)) n) ⌝ }
 {
     let t = count(terms);
@@ -258,7 +271,7 @@ pub fn intern(
     v: u32,
 ) -> Entered
     requires { ⌜ Holds (now terms) (now runs) × NodeValid (countIn (now terms)) (nodeOf h v (part (now list) 0 n)) × (n ≤ length (now list)) × (sum (part (now list) 0 n) < 2 ^ 64) ⌝ }
-    ensures { λ r. ⌜ Interning (now (terms .entry)) (now (runs .entry)) (now (list .entry)) n h v (now (terms .exit)) (now (runs .exit)) r ⌝ }
+    ensures { λ r. ⌜ Unless (now (terms .entry)) (now (runs .entry)) r ((now (terms .exit) ≡ now (terms .entry)) × (now (runs .exit) ≡ now (runs .entry))) (Interning (now (terms .entry)) (now (runs .entry)) (now (list .entry)) n h v (now (terms .exit)) (now (runs .exit)) r) ⌝ }
 {
     let bucket = key(list, n, h, v);
     let found = look_up(terms, runs, bucket, list, n, h, v);
@@ -272,6 +285,12 @@ pub fn intern(
     let from = first(terms, t);
     if n > RUNS - from {
         return Entered::Full;
+    }
+    if terms.len() < LEAST + (t + 1) * 4 {
+        return Entered::Short;
+    }
+    if n > runs.len() - from {
+        return Entered::Short;
     }
     enter(terms, runs, bucket, list, n, h, v);
     Entered::Term(t)
@@ -551,7 +570,7 @@ pub fn intern_action_result(
     commutative: bool,
 ) -> Entered
     requires { ⌜ Holds (now terms) (now runs) × (n ≤ length (now list)) × RunsBelow (countIn (now terms)) (map unpack (part (now list) 0 n)) × (sum (part (now list) 0 n) < 2 ^ 64) × (op < 64) ⌝ }
-    ensures { λ r. ⌜ ActionResult (now (terms .entry)) (now (runs .entry)) (now (list .entry)) n op commutative (now (terms .exit)) (now (runs .exit)) (now (list .exit)) r ⌝ }
+    ensures { λ r. ⌜ Unless (now (terms .entry)) (now (runs .entry)) r ((now (terms .exit) ≡ now (terms .entry)) × (now (runs .exit) ≡ now (runs .entry)) × (now (list .exit) ≡ actionList commutative (now (terms .entry)) (now (runs .entry)) (now (list .entry)) n)) (ActionResult (now (terms .entry)) (now (runs .entry)) (now (list .entry)) n op commutative (now (terms .exit)) (now (runs .exit)) (now (list .exit)) r) ⌝ }
 {
     order_children(terms, runs, list, n, commutative);
     let m = join_runs(list, n);

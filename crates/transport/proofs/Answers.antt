@@ -16,6 +16,7 @@ use Rattle.spec.specs.Meaning.{Plan}
 use Rattle.spec.specs.Transport.{solveCells, solvedBy, planSize, planMass, planAfter}
 use Rattle.wide.specs.Value.{unsigned}
 use Rattle.wide.specs.Wrap.{Natural}
+use Rattle.search.specs.Fits.{cells-fit}
 use Rattle.flow.specs.Sums.{sum-term}
 use Rattle.flow.specs.Network.{rowFlow-is}
 use Rattle.flow.specs.Search.{true-false}
@@ -107,15 +108,16 @@ shape-right supply demand sizes masses flags plan costs flow lc lf e =
     let (b, b′) = both-true (leb (length demand) 65) (both (eqb (length sizes) n) (both (eqb (length masses) n) (both (eqb (length flags) n) (eqb (length plan) n)))) a′ in
     let (c, c′) = both-true (eqb (length sizes) n) (both (eqb (length masses) n) (both (eqb (length flags) n) (eqb (length plan) n))) b′ in
     let (d, d′) = both-true (eqb (length masses) n) (both (eqb (length flags) n) (eqb (length plan) n)) c′ in
-    let (f, g) = both-true (eqb (length flags) n) (eqb (length plan) n) d′ in (
+    let (f, g) = both-true (eqb (length flags) n) (eqb (length plan) n) d′ in
+    let few = cells-fit (length supply) (length demand) (le-of (length supply) 65 a) (le-of (length demand) 65 b) in (
       record {
         rows = le-of (length supply) 65 a;
         columns = le-of (length demand) 65 b;
         sizesLong = eq-of (length sizes) n c;
         massesLong = eq-of (length masses) n d;
         allowedLong = eq-of (length flags) n f;
-        costsLong = lc;
-        flowLong = lf;
+        costsLong = omega (arith, lc, few);
+        flowLong = omega (arith, lf, few);
       },
       eq-of (length plan) n g,
     )

@@ -28,7 +28,6 @@ use Rattle.transport.specs.Sending.{Midway, Sent, stuck, along}
 use Rattle.transport.specs.SolvedLaws.{place-of}
 use Rattle.search.specs.Walk.{walkNet, Leads, arrived, onward}
 use Rattle.transport.specs.Path.{Step, Steps, noStep, andStep, leftOn, leastOn, sentOn, sent, Low, Balanced, rowSum, columnSum}
-use Rattle.search.specs.Fits.{cells-fit}
 use Rattle.transport.proofs.PathLaws.{left-source, left-row, left-sink, left-back, sent-source, sent-row, sent-sink, sent-back}
 use Rattle.search.specs.Fits.{few}
 
@@ -196,7 +195,7 @@ module _ (p : Problem) (S : Small p) (x f : List ℕ) (I : Partial p (weight p) 
       go true = omega arith
       go false = omega arith
 
-  pub low-cells : 4225 ≤ length f → Low (rowsOf p) (colsOf p) f
+  pub low-cells : rowsOf p * colsOf p ≤ length f → Low (rowsOf p) (colsOf p) f
   low-cells h = record { room = h; low = λ k hk. cell k hk (place-of (rowsOf p) (colsOf p) k hk) }
     where
       cell : (k : ℕ) → k < rowsOf p * colsOf p → (i : ℕ) × (j : ℕ) × (i < rowsOf p) × (j < colsOf p) × (k ≡ i * colsOf p + j) → getD f k 0 < 2 ^ 32
@@ -225,8 +224,8 @@ steps-cast : {r r′ c c′ : ℕ} {l : List Two} → r ≡ r′ → c ≡ c′ 
 steps-cast e f S = rw (e, f) at S
 
 module _ {r c : ℕ} {supply demand g f : List ℕ} (M : Midway r c supply demand g f) where
-  pub low-of : 4225 ≤ length f → Low r c f
-  low-of h = rw (M .rows, M .cols) at (low-cells (M .p) (M .small) (M .x) f (M .partly) (M .flow) h)
+  pub low-of : r * c ≤ length f → Low r c f
+  low-of h = rw (M .rows, M .cols) at (low-cells (M .p) (M .small) (M .x) f (M .partly) (M .flow) (rw (M .rows, M .cols) h))
 
   abbrev pub ready-of : (y : List ℕ) → Balanced r c supply demand f y → Ready r c g f y
   ready-of y B = record {
@@ -260,7 +259,7 @@ module _ {r c : ℕ} {supply demand g f : List ℕ} (M : Midway r c supply deman
     pub walk : walkNet m 131 (1 + r + c) [] ≡ pathOf (M .p) (weight (M .p)) (M .x)
     pub steps : Steps r c (pathOf (M .p) (weight (M .p)) (M .x))
     pub least : (rest : ℕ) → leastOn g f y r c rest (pathOf (M .p) (weight (M .p)) (M .x)) ≡ leastLeft (M .p) (weight (M .p)) rest (M .x)
-    pub sends : 4225 ≤ length f → (δ : ℕ) → FlowHolds (M .p) (push (M .p) δ (pathOf (M .p) (weight (M .p)) (M .x)) (M .x)) (sent r c δ (pathOf (M .p) (weight (M .p)) (M .x)) f)
+    pub sends : r * c ≤ length f → (δ : ℕ) → FlowHolds (M .p) (push (M .p) δ (pathOf (M .p) (weight (M .p)) (M .x)) (M .x)) (sent r c δ (pathOf (M .p) (weight (M .p)) (M .x)) f)
 
   pub way : (y : List ℕ) (B : Balanced r c supply demand f y) (m : List ℕ) → Found (ready-of y B) m true → Way y m
   way y B m W = go (status (M .p) (weight (M .p)) (M .x) (M .partly .π) (M .partly .pot) (dearest (M .p) (weight (M .p))) (dear (M .p) (weight (M .p))) (searched (M .p) (weight (M .p)) (M .x)) (at-rest .hops) (at-rest .good) (sink (M .p)))
@@ -286,11 +285,11 @@ module _ {r c : ℕ} {supply demand g f : List ℕ} (M : Midway r c supply deman
             sends = λ h δ.
                 let q : sent r c δ (pathOf (M .p) (weight (M .p)) (M .x)) f ≡ sent (rowsOf (M .p)) (colsOf (M .p)) δ (pathOf (M .p) (weight (M .p)) (M .x)) f = λ i. sent (sym (M .rows) i) (sym (M .cols) i) δ (pathOf (M .p) (weight (M .p)) (M .x)) f in
                 rw q (push-both (M .p) δ (M .x) π′ (at-rest .hops) 0 (pathOf (M .p) (weight (M .p)) (M .x)) t (M .x) f
-                (record { long = M .partly .len; room = omega (arith, h, cells-fit (rowsOf (M .p)) (colsOf (M .p)) (M .small .fewRows) (M .small .fewColumns)); holds = M .flow }) .holds);
+                (record { long = M .partly .len; room = rw (M .rows, M .cols) h; holds = M .flow }) .holds);
           }
 
   -- the bottleneck is at most what is left, and the units find room in every cell
-  pub units-fit : (y m : List ℕ) → Way y m → (rest n : ℕ) (l : List Two) → rest < 2 ^ 39 → l ≡ walkNet m 131 (1 + r + c) [] → n ≡ leastOn g f y r c rest l → 4225 ≤ length f → (k : ℕ) → k < r * c → getD f k 0 + 131 * n < 2 ^ 64
+  pub units-fit : (y m : List ℕ) → Way y m → (rest n : ℕ) (l : List Two) → rest < 2 ^ 39 → l ≡ walkNet m 131 (1 + r + c) [] → n ≡ leastOn g f y r c rest l → r * c ≤ length f → (k : ℕ) → k < r * c → getD f k 0 + 131 * n < 2 ^ 64
   units-fit y m W rest n l h e q b k hk =
       let t : n ≡ leastLeft (M .p) (weight (M .p)) rest (M .x) = q ∙ ap (leastOn g f y r c rest) (e ∙ W .walk) ∙ W .least rest in
       omega (arith, t, bottleneck-le (M .p) (weight (M .p)) (M .x) rest (pathOf (M .p) (weight (M .p)) (M .x)), low-of b .low k hk)
@@ -298,7 +297,7 @@ module _ {r c : ℕ} {supply demand g f : List ℕ} (M : Midway r c supply deman
   pub path-steps : (y m : List ℕ) → Way y m → (l : List Two) → l ≡ walkNet m 131 (1 + r + c) [] → Steps r c l
   path-steps y m W l e = rw (e ∙ W .walk) (W .steps)
 
-  pub sent-along : (y m : List ℕ) → Way y m → (rest n : ℕ) (l : List Two) (f′ : List ℕ) → l ≡ walkNet m 131 (1 + r + c) [] → n ≡ leastOn g f y r c rest l → f′ ≡ sent r c n l f → 4225 ≤ length f → Sent M rest n f′
+  pub sent-along : (y m : List ℕ) → Way y m → (rest n : ℕ) (l : List Two) (f′ : List ℕ) → l ≡ walkNet m 131 (1 + r + c) [] → n ≡ leastOn g f y r c rest l → f′ ≡ sent r c n l f → r * c ≤ length f → Sent M rest n f′
   sent-along y m W rest n l f′ e q s b =
       along (W .k) (W .label) (q ∙ ap (leastOn g f y r c rest) (e ∙ W .walk) ∙ W .least rest)
       (rw (s ∙ ap (λ (o : List Two). sent r c n o f) (e ∙ W .walk)) (W .sends b n))

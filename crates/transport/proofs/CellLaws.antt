@@ -109,11 +109,11 @@ natural-of d n a b e h =
     let (u, v, w) = words-natural n h in
     record { low = a; high = rw y v; is = rw (x, y) w }
 
-module _ (g : List ℕ) (len : 12675 ≤ length g) (k : ℕ) (hk : k < 4225) (d : Wide) (cap : ℕ) where
-  far : (z : ℕ) → z ≢ k → z ≢ 4225 + k → z ≢ 8450 + k → getD (celled g k d cap) z 0 ≡ getD g z 0
+module _ (g : List ℕ) (k : ℕ) (fits : 3 * k + 2 < length g) (d : Wide) (cap : ℕ) where
+  far : (z : ℕ) → z ≢ 3 * k → z ≢ 3 * k + 1 → z ≢ 3 * k + 2 → getD (celled g k d cap) z 0 ≡ getD g z 0
   far z a b e =
-      getD-set-other (set (set g k (d .lo)) (4225 + k) (d .hi)) (8450 + k) z cap 0 e
-      ∙ getD-set-other (set g k (d .lo)) (4225 + k) z (d .hi) 0 b ∙ getD-set-other g k z (d .lo) 0 a
+      getD-set-other (set (set g (3 * k) (d .lo)) (3 * k + 1) (d .hi)) (3 * k + 2) z cap 0 e
+      ∙ getD-set-other (set g (3 * k) (d .lo)) (3 * k + 1) z (d .hi) 0 b ∙ getD-set-other g (3 * k) z (d .lo) 0 a
 
   pub celled-size : length (celled g k d cap) ≡ length g
   celled-size = simp length-set
@@ -121,30 +121,30 @@ module _ (g : List ℕ) (len : 12675 ≤ length g) (k : ℕ) (hk : k < 4225) (d 
   pub celled-cost : costOf (celled g k d cap) k ≡ d
   celled-cost = λ i. record { lo = low i; hi = high i }
     where
-      low : getD (celled g k d cap) k 0 ≡ d .lo
+      low : getD (celled g k d cap) (3 * k) 0 ≡ d .lo
       low =
-          getD-set-other (set (set g k (d .lo)) (4225 + k) (d .hi)) (8450 + k) k cap 0 (omega arith)
-          ∙ getD-set-other (set g k (d .lo)) (4225 + k) k (d .hi) 0 (omega arith) ∙ getD-set-same g k (d .lo) 0 (omega arith)
+          getD-set-other (set (set g (3 * k) (d .lo)) (3 * k + 1) (d .hi)) (3 * k + 2) (3 * k) cap 0 (omega arith)
+          ∙ getD-set-other (set g (3 * k) (d .lo)) (3 * k + 1) (3 * k) (d .hi) 0 (omega arith) ∙ getD-set-same g (3 * k) (d .lo) 0 (omega arith)
 
-      high : getD (celled g k d cap) (4225 + k) 0 ≡ d .hi
+      high : getD (celled g k d cap) (3 * k + 1) 0 ≡ d .hi
       high =
-          getD-set-other (set (set g k (d .lo)) (4225 + k) (d .hi)) (8450 + k) (4225 + k) cap 0 (omega arith)
-          ∙ getD-set-same (set g k (d .lo)) (4225 + k) (d .hi) 0 (rw (length-set g k (d .lo)) (omega arith))
+          getD-set-other (set (set g (3 * k) (d .lo)) (3 * k + 1) (d .hi)) (3 * k + 2) (3 * k + 1) cap 0 (omega arith)
+          ∙ getD-set-same (set g (3 * k) (d .lo)) (3 * k + 1) (d .hi) 0 (rw (length-set g (3 * k) (d .lo)) (omega arith))
 
   pub celled-cap : capOf (celled g k d cap) k ≡ cap
-  celled-cap = getD-set-same (set (set g k (d .lo)) (4225 + k) (d .hi)) (8450 + k) cap 0 (simp length-set (omega arith))
+  celled-cap = getD-set-same (set (set g (3 * k) (d .lo)) (3 * k + 1) (d .hi)) (3 * k + 2) cap 0 (simp length-set (omega arith))
 
-  pub celled-cost-off : (z : ℕ) → z < 4225 → z ≢ k → costOf (celled g k d cap) z ≡ costOf g z
-  celled-cost-off z hz ne = λ i. record { lo = far z ne (omega arith) (omega arith) i; hi = far (4225 + z) (omega arith) (omega arith) (omega arith) i }
+  pub celled-cost-off : (z : ℕ) → z ≢ k → costOf (celled g k d cap) z ≡ costOf g z
+  celled-cost-off z ne = λ i. record { lo = far (3 * z) (omega arith) (omega arith) (omega arith) i; hi = far (3 * z + 1) (omega arith) (omega arith) (omega arith) i }
 
-  pub celled-cap-off : (z : ℕ) → z < 4225 → z ≢ k → capOf (celled g k d cap) z ≡ capOf g z
-  celled-cap-off z hz ne = far (8450 + z) (omega arith) (omega arith) (omega arith)
+  pub celled-cap-off : (z : ℕ) → z ≢ k → capOf (celled g k d cap) z ≡ capOf g z
+  celled-cap-off z ne = far (3 * z + 2) (omega arith) (omega arith) (omega arith)
 
-pub laid-turn : (supply demand sizes masses flags : List ℕ) (c w : ℕ) (g : List ℕ) (n : ℕ) (d : Wide) → n < 4225 → LaidTo supply demand sizes masses flags c w g n
+pub laid-turn : (supply demand sizes masses flags : List ℕ) (c w : ℕ) (g : List ℕ) (n : ℕ) (d : Wide) → n < length sizes → LaidTo supply demand sizes masses flags c w g n
     → Natural d (ifAllowed flags n (getD sizes n 0 * w + getD masses n 0))
     → LaidTo supply demand sizes masses flags c w (celled g n d (ifAllowed flags n (min (getD supply (n / c) 0) (getD demand (n % c) 0)))) (n + 1)
 laid-turn supply demand sizes masses flags c w g n d h L D = record {
-  size = rw (celled-size g (L .size) n h d cap) (L .size);
+  size = rw (celled-size g n fits d cap) (L .size);
   costs = λ k hk. costs k hk (ℕ-discrete k n);
   caps = λ k hk. caps k hk (ℕ-discrete k n);
 }
@@ -152,13 +152,16 @@ laid-turn supply demand sizes masses flags c w g n d h L D = record {
     cap : ℕ
     cap = ifAllowed flags n (min (getD supply (n / c) 0) (getD demand (n % c) 0))
 
+    fits : 3 * n + 2 < length g
+    fits = omega (arith, L .size)
+
     costs : (k : ℕ) → k < n + 1 → Dec (k ≡ n) → Natural (costOf (celled g n d (ifAllowed flags n (min (getD supply (n / c) 0) (getD demand (n % c) 0)))) k) (ifAllowed flags k (getD sizes k 0 * w + getD masses k 0))
-    costs k hk (yes e) = rw (e, celled-cost g (L .size) n h d cap) D
-    costs k hk (no e) = rw (celled-cost-off g (L .size) n h d cap k (omega arith) e) (L .costs k (omega arith))
+    costs k hk (yes e) = rw (e, celled-cost g n fits d cap) D
+    costs k hk (no e) = rw (celled-cost-off g n fits d cap k e) (L .costs k (omega arith))
 
     caps : (k : ℕ) → k < n + 1 → Dec (k ≡ n) → capOf (celled g n d (ifAllowed flags n (min (getD supply (n / c) 0) (getD demand (n % c) 0)))) k ≡ ifAllowed flags k (min (getD supply (k / c) 0) (getD demand (k % c) 0))
-    caps k hk (yes e) = rw e (celled-cap g (L .size) n h d cap)
-    caps k hk (no e) = celled-cap-off g (L .size) n h d cap k (omega arith) e ∙ L .caps k (omega arith)
+    caps k hk (yes e) = rw e (celled-cap g n fits d cap)
+    caps k hk (no e) = celled-cap-off g n fits d cap k e ∙ L .caps k (omega arith)
 
 natural-words : (d : Wide) (x : ℕ) → Natural d x → d ≡ wordsOf x
 natural-words d x N = λ i. record { lo = low (d .lo) (d .hi) x (N .low) (N .is) i; hi = high (d .lo) (d .hi) x (N .low) (N .is) i }

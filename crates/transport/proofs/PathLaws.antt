@@ -146,16 +146,18 @@ next-place at k i d e = omega arith
 pub first-place : (k d : ℕ) → k ≡ k + 0 * d
 first-place k d = omega arith
 
-module _ (r c : ℕ) (f : List ℕ) (L : Low r c f) (hr : r ≤ 65) (hc : c ≤ 65) where
-  pub row-reads : (i : ℕ) → i < r → (j : ℕ) → j < c → (i * c + j * 1 < 4225) × (getD f (i * c + j * 1) 0 < 2 ^ 32)
+module _ (r c : ℕ) (f : List ℕ) (L : Low r c f) where
+  pub row-reads : (i : ℕ) → i < r → (j : ℕ) → j < c → (i * c + j * 1 < length f) × (getD f (i * c + j * 1) 0 < 2 ^ 32)
   row-reads i hi j hj =
       let e : j * 1 ≡ j = omega arith in
-      rw e (place-fits i j c (omega arith) hj hc, L .low (i * c + j) (digits-lt hi hj))
+      let k = digits-lt {q = i} hi hj in
+      rw e (omega (arith, k, L .room), L .low (i * c + j) k)
 
-  pub column-reads : (j : ℕ) → j < c → (i : ℕ) → i < r → (j + i * c < 4225) × (getD f (j + i * c) 0 < 2 ^ 32)
+  pub column-reads : (j : ℕ) → j < c → (i : ℕ) → i < r → (j + i * c < length f) × (getD f (j + i * c) 0 < 2 ^ 32)
   column-reads j hj i hi =
       let e : j + i * c ≡ i * c + j = omega arith in
-      rw e (place-fits i j c (omega arith) hj hc, L .low (i * c + j) (digits-lt hi hj))
+      let k = digits-lt {q = i} hi hj in
+      rw e (omega (arith, k, L .room), L .low (i * c + j) k)
 
 module _ (r c : ℕ) (supply f y₀ y : List ℕ) (n : ℕ) where
   pub rows-turn : n < 65 → RowsLeft r c supply f y₀ y n → RowsLeft r c supply f y₀ (set y n (getD supply n 0 - rowSum f c n)) (n + 1)

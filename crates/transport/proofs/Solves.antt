@@ -2,7 +2,6 @@
 use mathlib.Core.Path.{_≡_, refl, sym, ap, _∙_}
 use mathlib.Core.Bool.{Bool, true, false, not}
 use mathlib.Core.List.{List, _++_, map}
-use Rattle.search.specs.Fits.{cells-fit}
 use mathlib.Core.Option.{Option, none, some}
 use Prim.Native.Nat.{ℕ, _+_, _-_, _*_, _^_, _≤_, _<_}
 use native.Mathlib.Nat.{zero-add, zero-mul, mul-zero}
@@ -213,7 +212,7 @@ module _ (supply demand sizes masses flags costs flow : List ℕ) where
     start-problem S f w g y e v q u L E = refl
 
     pub plan-in : (g y₀ : List ℕ) (S : Start (length supply) (length demand) supply demand g y₀) → S .p ≡ problemOf supply demand sizes masses flags → 0 < length supply → 0 < length demand → sum supply ≡ sum demand
-        → (b : Bool) (y : List ℕ) → 4225 ≤ length y → Answered S b y → PlanIn (problemOf supply demand sizes masses flags) b y
+        → (b : Bool) (y : List ℕ) → length supply * length demand ≤ length y → Answered S b y → PlanIn (problemOf supply demand sizes masses flags) b y
     plan-in g y₀ S ep hr hc ev b y ly A = rw (← ep) (go A)
       where
         ev′ : sum (S .p .supply) ≡ sum (S .p .demand)
@@ -230,7 +229,7 @@ module _ (supply demand sizes masses flags costs flow : List ℕ) where
             inj q = cc
 
             fits : rowsOf (S .p) * colsOf (S .p) ≤ length y
-            fits = omega (arith, ly, cells-fit (rowsOf (S .p)) (colsOf (S .p)) (S .small .fewRows) (S .small .fewColumns))
+            fits = rw (S .rows, S .cols) ly
 
             whole : (z : List ℕ) → z ≡ x → take (rowsOf (S .p) * colsOf (S .p)) y ≡ z
             whole z q = rw q (ext-getD 0 (take (rowsOf (S .p) * colsOf (S .p)) y) x (length-take-le (rowsOf (S .p) * colsOf (S .p)) y fits ∙ sym (I .len))
@@ -243,11 +242,11 @@ module _ (supply demand sizes masses flags costs flow : List ℕ) where
 module _ (supply demand sizes masses flags costs flow : List ℕ) (Z : Shaped supply demand sizes masses flags costs flow) (hr : 0 < length supply) (hc : 0 < length demand) (ev : sum supply ≡ sum demand)
     (w : ℕ) (g : List ℕ) (ew : w ≡ weight (problemOf supply demand sizes masses flags)) (eg : g ≡ laidFrom supply demand sizes masses flags (length demand) w (length sizes) 0 costs)
     (y : List ℕ) (rest : drop (length supply * length demand) y ≡ drop (length supply * length demand) flow) where
-  pub solved-plan : 4225 ≤ length y → PlanIn (problemOf supply demand sizes masses flags) true y → Solves supply demand sizes masses flags costs flow g y true
+  pub solved-plan : length supply * length demand ≤ length y → PlanIn (problemOf supply demand sizes masses flags) true y → Solves supply demand sizes masses flags costs flow g y true
   unfolding problemOf
   solved-plan l P = record {
     is = P .is;
-    flow = flow-plan (problemOf supply demand sizes masses flags) flow y P (omega (arith, l, cells-fit (length supply) (length demand) (Z .rows) (Z .columns))) rest;
+    flow = flow-plan (problemOf supply demand sizes masses flags) flow y P l rest;
     costs = costs-laid supply demand sizes masses flags costs hr hc ev w g ew eg;
   }
 

@@ -44,13 +44,13 @@ ifAllowed allowed k x = pick (eqb (getD allowed k 0) 0) 0 x
 
 -- the costs g after n cells, with c columns and the weight w
 pub record LaidTo (supply demand sizes masses allowed : List ℕ) (c w : ℕ) (g : List ℕ) (n : ℕ) : Type 0 where
-  pub size : 12675 ≤ length g
+  pub size : 3 * length sizes ≤ length g
   pub costs : (k : ℕ) → k < n → Natural (costOf g k) (ifAllowed allowed k (getD sizes k 0 * w + getD masses k 0))
   pub caps : (k : ℕ) → k < n → capOf g k ≡ ifAllowed allowed k (min (getD supply (k / c) 0) (getD demand (k % c) 0))
 
--- one cell's cost and capacity
+-- one cell's cost and capacity, three numbers
 abbrev pub celled : List ℕ → ℕ → Wide → ℕ → List ℕ
-celled g k d cap = set (set (set g k (d .lo)) (4225 + k) (d .hi)) (8450 + k) cap
+celled g k d cap = set (set (set g (3 * k) (d .lo)) (3 * k + 1) (d .hi)) (3 * k + 2) cap
 
 -- the two words of a number
 abbrev pub wordsOf : ℕ → Wide

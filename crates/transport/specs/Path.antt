@@ -44,7 +44,7 @@ sent r c δ (s ∷ l) f = sent r c δ l (sentOn r c δ (s .0) (s .1) f)
 
 -- the cells of a plan f of r rows and c columns are 32-bit numbers
 pub record Low (r c : ℕ) (f : List ℕ) : Type 0 where
-  pub room : 4225 ≤ length f
+  pub room : r * c ≤ length f
   pub low : (k : ℕ) → k < r * c → getD f k 0 < 2 ^ 32
 
 abbrev pub rowSum : List ℕ → ℕ → ℕ → ℕ

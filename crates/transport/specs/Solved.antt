@@ -10,15 +10,15 @@ use Rattle.spec.specs.Bytes.{pick, both, sum}
 use Rattle.spec.specs.Transport.{Problem, rowsOf, colsOf, weight, solveCells}
 use Rattle.transport.specs.Cells.{problemOf, laidFrom}
 
--- at most 65 rows and columns, cells rows × columns, work buffers long enough
+-- at most 65 rows and columns, cells rows × columns, work buffers of three numbers and one number a cell
 pub record Shaped (supply demand sizes masses allowed costs flow : List ℕ) : Type 0 where
   pub rows : length supply ≤ 65
   pub columns : length demand ≤ 65
   pub sizesLong : length sizes ≡ length supply * length demand
   pub massesLong : length masses ≡ length supply * length demand
   pub allowedLong : length allowed ≡ length supply * length demand
-  pub costsLong : 12675 ≤ length costs
-  pub flowLong : 4225 ≤ length flow
+  pub costsLong : 3 * (length supply * length demand) ≤ length costs
+  pub flowLong : length supply * length demand ≤ length flow
 
 abbrev pub isPlan : Option (List ℕ) → Bool
 isPlan none = false

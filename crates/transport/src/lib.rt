@@ -34,7 +34,7 @@ fn less(a: u64, b: u64) -> u64
 // The cell of row i and column j of c.
 fn place(i: usize, j: usize, c: usize) -> usize
     requires { ⌜ (i < 65) × (j < c) × (c ≤ 65) ⌝ }
-    ensures { λ k. ⌜ (k ≡ i * c + j) × (k < 4225) ⌝ }
+    ensures { λ k. ⌜ k ≡ i * c + j ⌝ }
 {
     i * c + j
 }
@@ -49,7 +49,7 @@ fn left_on(
     u: usize,
     v: usize,
 ) -> u64
-    requires { ⌜ (r ≤ 65) × (c ≤ 65) × (12675 ≤ length (now costs)) × (4225 ≤ length (now flow)) × Step r c u v ⌝ }
+    requires { ⌜ (r ≤ 65) × (c ≤ 65) × (3 * (r * c) ≤ length (now costs)) × (r * c ≤ length (now flow)) × Step r c u v ⌝ }
     ensures { λ b. ⌜ b ≡ leftOn (now (costs .entry)) (now (flow .entry)) (now (left .entry)) r c u v ⌝ }
 {
     if u == 0 {
@@ -57,7 +57,7 @@ fn left_on(
     }
     if u <= r {
         let k = place(u - 1, v - 1 - r, c);
-        return less(costs[8450 + k], flow[k]);
+        return less(costs[3 * k + 2], flow[k]);
     }
     if v == 1 + r + c {
         return left[65 + (u - 1 - r)];
@@ -77,7 +77,7 @@ fn bottleneck(
     from: usize,
     most: u64,
 ) -> u64
-    requires { ⌜ (r ≤ 65) × (c ≤ 65) × (12675 ≤ length (now costs)) × (4225 ≤ length (now flow)) × (from ≤ 131) × Steps r c (stepsFrom (now path) (131 - from) from) ⌝ }
+    requires { ⌜ (r ≤ 65) × (c ≤ 65) × (3 * (r * c) ≤ length (now costs)) × (r * c ≤ length (now flow)) × (from ≤ 131) × Steps r c (stepsFrom (now path) (131 - from) from) ⌝ }
     ensures { λ b. ⌜ b ≡ leastOn (now (costs .entry)) (now (flow .entry)) (now (left .entry)) r c most (stepsFrom (now (path .entry)) (131 - from) from) ⌝ }
 {
     let mut b = most;
@@ -107,7 +107,7 @@ fn put_flow(flow: &mut [u64], k: usize, x: u64)
 
 // n units along the step from u to v.
 fn send_on(flow: &mut [u64], r: usize, c: usize, u: usize, v: usize, n: u64)
-    requires { ⌜ (r ≤ 65) × (c ≤ 65) × (4225 ≤ length (now flow)) × Step r c u v × ((k : ℕ) → k < r * c → getD (now flow) k 0 + n < 2 ^ 64) ⌝ }
+    requires { ⌜ (r ≤ 65) × (c ≤ 65) × (r * c ≤ length (now flow)) × Step r c u v × ((k : ℕ) → k < r * c → getD (now flow) k 0 + n < 2 ^ 64) ⌝ }
     ensures { λ _. ⌜ now (flow .exit) ≡ sentOn r c n u v (now (flow .entry)) ⌝ }
 {
     if u == 0 {
@@ -129,7 +129,7 @@ fn send_on(flow: &mut [u64], r: usize, c: usize, u: usize, v: usize, n: u64)
 
 // n units along the path from place `from` on.
 fn send(flow: &mut [u64], path: &[u64; 132], r: usize, c: usize, from: usize, n: u64)
-    requires { ⌜ (r ≤ 65) × (c ≤ 65) × (4225 ≤ length (now flow)) × (from ≤ 131) × Steps r c (stepsFrom (now path) (131 - from) from) × ((k : ℕ) → k < r * c → getD (now flow) k 0 + 131 * n < 2 ^ 64) ⌝ }
+    requires { ⌜ (r ≤ 65) × (c ≤ 65) × (r * c ≤ length (now flow)) × (from ≤ 131) × Steps r c (stepsFrom (now path) (131 - from) from) × ((k : ℕ) → k < r * c → getD (now flow) k 0 + 131 * n < 2 ^ 64) ⌝ }
     ensures { λ _. ⌜ now (flow .exit) ≡ sent r c n (stepsFrom (now (path .entry)) (131 - from) from) (now (flow .entry)) ⌝ }
 {
     let mut a = from;
@@ -154,7 +154,7 @@ fn put_left(left: &mut [u64; 195], at: usize, x: u64)
 
 // The sum of n entries of the plan from place k on, d apart.
 fn sum_every(flow: &[u64], k: usize, d: usize, n: usize) -> u64
-    requires { ⌜ (n ≤ 65) × (d ≤ 65) × (4225 ≤ length (now flow)) × ((i : ℕ) → i < n → (k + i * d < 4225) × (getD (now flow) (k + i * d) 0 < 2 ^ 32)) × (k ≤ 4225) ⌝ }
+    requires { ⌜ (n ≤ 65) × (d ≤ 65) × ((i : ℕ) → i < n → (k + i * d < length (now flow)) × (getD (now flow) (k + i * d) 0 < 2 ^ 32)) ⌝ }
     ensures { λ r. ⌜ r ≡ sumTo n (λ i. getD (now (flow .entry)) (k + i * d) 0) ⌝ }
 {
     let mut s = 0;
@@ -215,7 +215,7 @@ fn augment(
     path: &mut [u64; 132],
     rest: u64,
 ) -> u64
-    requires { ⌜ (length (now supply) ≤ 65) × (length (now demand) ≤ 65) × (12675 ≤ length (now costs)) × (4225 ≤ length (now flow)) × (length (now left) ≡ 195) × (length (now net) ≡ 662) × (length (now path) ≡ 132) × (rest < 2 ^ 39)
+    requires { ⌜ (length (now supply) ≤ 65) × (length (now demand) ≤ 65) × (3 * (length (now supply) * length (now demand)) ≤ length (now costs)) × (length (now supply) * length (now demand) ≤ length (now flow)) × (length (now left) ≡ 195) × (length (now net) ≡ 662) × (length (now path) ≡ 132) × (rest < 2 ^ 39)
         × Midway (length (now supply)) (length (now demand)) (now supply) (now demand) (now costs) (now flow) ⌝ }
     ensures { λ n. ⌜ (length (now (left .exit)) ≡ 195) × (length (now (net .exit)) ≡ 662) × (length (now (path .exit)) ≡ 132)
         × ((M : Midway (length (now (supply .entry))) (length (now (demand .entry))) (now (supply .entry)) (now (demand .entry)) (now (costs .entry)) (now (flow .entry))) → Sent M rest n (now (flow .exit)))
@@ -235,7 +235,7 @@ fn augment(
 
 // One path after the other until all units are sent; false where a search does not reach the sink.
 fn send_all(supply: &[u32], demand: &[u32], costs: &[u64], flow: &mut [u64], total: u64) -> bool
-    requires { ⌜ (length (now supply) ≤ 65) × (length (now demand) ≤ 65) × (12675 ≤ length (now costs)) × (4225 ≤ length (now flow)) × (total ≡ sum (now supply))
+    requires { ⌜ (length (now supply) ≤ 65) × (length (now demand) ≤ 65) × (3 * (length (now supply) * length (now demand)) ≤ length (now costs)) × (length (now supply) * length (now demand) ≤ length (now flow)) × (total ≡ sum (now supply))
         × Start (length (now supply)) (length (now demand)) (now supply) (now demand) (now costs) (now flow) ⌝ }
     ensures { λ b. ⌜ ((S : Start (length (now (supply .entry))) (length (now (demand .entry))) (now (supply .entry)) (now (demand .entry)) (now (costs .entry)) (now (flow .entry))) → Answered S b (now (flow .exit)))
         × (drop (length (now (supply .entry)) * length (now (demand .entry))) (now (flow .exit)) ≡ drop (length (now (supply .entry)) * length (now (demand .entry))) (now (flow .entry))) ⌝ }
@@ -321,12 +321,13 @@ fn put_cost(costs: &mut [u64], k: usize, x: u64)
 }
 
 fn put_cell(costs: &mut [u64], k: usize, d: Wide, cap: u64)
-    requires { ⌜ (k < 4225) × (12675 ≤ length (now costs)) ⌝ }
+    requires { ⌜ 3 * k + 2 < length (now costs) ⌝ }
     ensures { λ _. ⌜ now (costs .exit) ≡ celled (now (costs .entry)) k d cap ⌝ }
 {
-    put_cost(costs, k, d.lo);
-    put_cost(costs, 4225 + k, d.hi);
-    put_cost(costs, 8450 + k, cap);
+    let at = 3 * k;
+    put_cost(costs, at, d.lo);
+    put_cost(costs, at + 1, d.hi);
+    put_cost(costs, at + 2, cap);
 }
 
 // What a cell costs, 0 where it is forbidden.
@@ -351,7 +352,7 @@ fn lay(
     costs: &mut [u64],
 )
     requires { ⌜ (length (now supply) ≤ 65) × (length (now demand) ≤ 65) × (length (now sizes) ≡ length (now supply) * length (now demand)) × (length (now masses) ≡ length (now supply) * length (now demand))
-        × (length (now allowed) ≡ length (now supply) * length (now demand)) × (12675 ≤ length (now costs)) × (unsigned w < 2 ^ 71) × (0 < length (now demand)) ⌝ }
+        × (length (now allowed) ≡ length (now supply) * length (now demand)) × (3 * (length (now supply) * length (now demand)) ≤ length (now costs)) × (unsigned w < 2 ^ 71) × (0 < length (now demand)) ⌝ }
     ensures { λ _. ⌜ LaidTo (now (supply .entry)) (now (demand .entry)) (now (sizes .entry)) (now (masses .entry)) (now (allowed .entry)) (length (now (demand .entry))) (unsigned w) (now (costs .exit)) (length (now (supply .entry)) * length (now (demand .entry)))
         × (now (costs .exit) ≡ laidFrom (now (supply .entry)) (now (demand .entry)) (now (sizes .entry)) (now (masses .entry)) (now (allowed .entry)) (length (now (demand .entry))) (unsigned w) (length (now (sizes .entry))) 0 (now (costs .entry))) ⌝ }
 {

@@ -34,7 +34,8 @@ use Rattle.quality.specs.declared.Best.{Best}
 use Rattle.turns.specs.Listing.{runsOver}
 use Rattle.turns.specs.Offers.{Work, workOf, offersIn}
 use Rattle.turns.specs.Agreeing.{Chosen, Agrees, Same, turn-agrees, turn-same}
-use Rattle.turns.specs.Taking.{takenOf, turnIn, termList, Ended, changedBy, Takes, Leaves}
+use Rattle.turns.specs.Taking.{takenOf, UnlessShort, turnIn, termList, Ended, changedBy, Takes, Leaves}
+use Rattle.turns.specs.declared.Taken.{Taken}
 use Rattle.turns.specs.declared.Taken.the-variants as T
 
 -- ---- a run as one number, and back
@@ -139,6 +140,12 @@ module _ (t : Tables) (of : Two → ℕ) (terms runs : List ℕ) (hold : Holds t
         })
 
 -- ---- the answer
+-- an answer's statement from that of the turn's end
+pub taken-map : (room : ℕ) (terms runs : List ℕ) (r : Taken) {S S′ X X′ : Type 0} → (S → S′) → (X → X′) → UnlessShort 4225 terms runs r S X → UnlessShort room terms runs r S′ X′
+taken-map room terms runs T.Short f g u = (λ h w. u .0 (omega arith) w, f (u .1))
+taken-map room terms runs (T.To w) f g u = g u
+taken-map room terms runs T.Full f g u = g u
+
 pub changed-is : (t : Tables) (of : Two → ℕ) (list : List ℕ) (h : How) (c : Choice) → Chosen t of list h c → changedBy h ≡ elim c [ stay ↦ false | act o ps x ↦ true ]
 changed-is t of list H.Stay c e = rw e refl
 changed-is t of list (H.Aligned v) c e = rw (e .1) refl
@@ -185,11 +192,12 @@ module _ (t : Tables) (q : Two → Two) (of : Two → ℕ) (p : Two) where
       grows = D .grows;
     }
 
-    pub turn-leaves : (s m c f l s′ m′ c′ f′ : List ℕ) → Same (workOf s′ m′ c′ f′ list b) (turnIn t q of p s m c f l) → Leaves t q of p terms runs s m c f l s′ m′ c′ f′ list′
-    turn-leaves s m c f l s′ m′ c′ f′ S = record {
-      sizesAre = S .sizes;
-      massesAre = S .masses;
-      costsAre = S .costs;
-      flowIs = S .flow;
-      listIs = D .listIs ∙ ap (termList t of terms runs (turnOf t q p .choice)) (S .list);
-    }
+  pub turn-leaves : (terms runs s m c f l s′ m′ c′ f′ list list′ : List ℕ) (b : Best) → Same (workOf s′ m′ c′ f′ list b) (turnIn t q of p s m c f l) → list′ ≡ termList t of terms runs (turnOf t q p .choice) list
+      → Leaves t q of p terms runs s m c f l s′ m′ c′ f′ list′
+  turn-leaves terms runs s m c f l s′ m′ c′ f′ list list′ b S e = record {
+    sizesAre = S .sizes;
+    massesAre = S .masses;
+    costsAre = S .costs;
+    flowIs = S .flow;
+    listIs = e ∙ ap (termList t of terms runs (turnOf t q p .choice)) (S .list);
+  }

@@ -2,7 +2,7 @@
 use mathlib.Core.Path.{_≡_, refl, sym, ap, _∙_}
 use mathlib.Core.Bool.{Bool, true, false}
 use mathlib.Core.List.{List, [], _∷_, _++_, map}
-use Prim.Native.Nat.{ℕ, zero, suc, _+_, _^_, _≤_, _<_}
+use Prim.Native.Nat.{ℕ, zero, suc, _+_, _*_, _^_, _≤_, _<_}
 use native.Mathlib.Nat.{zero-add}
 use native.Mathlib.Omega.{arith}
 use native.Mathlib.Numerals.{add-one}
@@ -26,9 +26,9 @@ sizesAt q m = map (λ p. q p .0) (cellPairs m)
 abbrev pub massesAt : (Two → Two) → MonomialPair → List ℕ
 massesAt q m = map (λ p. q p .1) (cellPairs m)
 
--- the cells' classes are numbers of at most 8 bits
-abbrev pub Joined : MonomialPair → Type 0
-Joined m = (p : Two) → In p (cellPairs m) → (p .0 < 256) × (p .1 < 256)
+-- an index of j numbers has one for each cell's pair
+abbrev pub Joined : ℕ → MonomialPair → Type 0
+Joined j m = (p : Two) → In p (cellPairs m) → p .0 * 256 + p .1 < j
 
 -- ---- the first k numbers of z laid at the front of a buffer
 pub record Laid (z s₀ : List ℕ) (k : ℕ) (s : List ℕ) : Type 0 where
@@ -96,7 +96,5 @@ module _ (f : Two → ℕ) (ps : List Two) (k : ℕ) (h : k < length ps) (l r : 
   pub cell-value : (v : ℕ) → v ≡ f (with l r) → v ≡ getD (map f ps) k 0
   cell-value v u = u ∙ ap f e ∙ sym (value-at f ps k h)
 
-pub cell-joined : (m : MonomialPair) → Joined m → (k : ℕ) → k < length (cellPairs m) → (l r : ℕ) → with l r ≡ getD (cellPairs m) k (0, 0) → (l < 256) × (r < 256)
-cell-joined m J k h l r e =
-    let (a, b) = J (getD (cellPairs m) k (0, 0)) (get-in (cellPairs m) k h) in
-    (omega (arith, a, ap (λ (t : Two). t .0) e), omega (arith, b, ap (λ (t : Two). t .1) e))
+pub cell-joined : {j : ℕ} (m : MonomialPair) → Joined j m → (k : ℕ) → k < length (cellPairs m) → (l r : ℕ) → with l r ≡ getD (cellPairs m) k (0, 0) → l * 256 + r < j
+cell-joined m J k h l r e = omega (arith, J (getD (cellPairs m) k (0, 0)) (get-in (cellPairs m) k h), ap (λ (t : Two). t .0) e, ap (λ (t : Two). t .1) e)

@@ -1,5 +1,6 @@
 pub mod Cells
 pub mod Sums
+pub mod Room
 pub mod Laying
 pub mod Listing
 pub mod Better

@@ -21,7 +21,7 @@ use Rattle.transport.specs.Solved.{Solves, isPlan, flowAfter, Shaped}
 use Rattle.transport.specs.SolvedLaws.{plan-small, plan-begins, plan-long}
 use Rattle.quality.specs.Known.{over}
 use Rattle.quality.specs.declared.Best.{Best}
-use Rattle.turns.specs.Cells.{cells-fit, cells-length, held-length}
+use Rattle.turns.specs.Cells.{cells-length, held-length}
 use Rattle.turns.specs.Laying.{sizesAt, massesAt, value-at, narrow-at, count-at, counts-length}
 use Rattle.turns.specs.Offers.{Work, workOf, actionOf, problemAt, bestAfter, listAfter, offerIn, Tried}
 
@@ -83,7 +83,7 @@ module _ (q : Two → Two) (left right : List ℕ) (r c : ℕ) (a : length left 
     (supply₀ demand₀ sizes₀ masses₀ supply demand sizes masses ones : List ℕ)
     (u : supply ≡ over (counts (held r left)) supply₀) (w : demand ≡ over (counts (held c right)) demand₀)
     (s : sizes ≡ over (sizesAt q (pairOf (held r left) (held c right))) sizes₀) (m : masses ≡ over (massesAt q (pairOf (held r left) (held c right))) masses₀)
-    (i : ones ≡ replicate 4225 1) (fit : r * c ≤ 4225)
+    (i : ones ≡ replicate (length ones) 1) (fit : r * c ≤ length ones)
     (costs flow costs′ flow′ : List ℕ) (z : Bool) (S : Solves (take r supply) (take c demand) (take (r * c) sizes) (take (r * c) masses) (take (r * c) ones) costs flow costs′ flow′ z) where
   M : MonomialPair
   M = pairOf (held r left) (held c right)
@@ -107,7 +107,7 @@ module _ (q : Two → Two) (left right : List ℕ) (r c : ℕ) (a : length left 
   coled = front-is (counts (held c right)) demand₀ demand c w (counts-length right c b hc)
 
   allowed : take (r * c) ones ≡ replicate (length (cellPairs M)) 1
-  allowed = ap (take (r * c)) i ∙ take-ones (r * c) 4225 fit ∙ ap (λ (n : ℕ). replicate n 1) (sym many)
+  allowed = ap (take (r * c)) i ∙ take-ones (r * c) (length ones) fit ∙ ap (λ (n : ℕ). replicate n 1) (sym many)
 
   T : Solves (counts (held r left)) (counts (held c right)) (sizesAt q M) (massesAt q M) (replicate (length (cellPairs M)) 1) costs flow costs′ flow′ z
   T = rw (← rowed, ← coled, ← sized, ← massed, ← allowed) S
@@ -198,10 +198,9 @@ module _ (q : Two → Two) (of : Two → ℕ) (o : ℕ) (left right : List ℕ) 
 
 -- ---- parts of buffers, as the solver is given them
 module _ (supply demand sizes masses ones costs flow : List ℕ) (r c : ℕ) where
-  pub parts-shaped : r ≤ 65 → c ≤ 65 → 65 ≤ length supply → 65 ≤ length demand → 4225 ≤ length ones → 4225 ≤ length sizes → 4225 ≤ length masses → 12675 ≤ length costs → 4225 ≤ length flow
+  pub parts-shaped : r ≤ 65 → c ≤ 65 → 65 ≤ length supply → 65 ≤ length demand → r * c ≤ length ones → r * c ≤ length sizes → r * c ≤ length masses → 3 * (r * c) ≤ length costs → r * c ≤ length flow
       → Shaped (take (r - 0) supply) (take (c - 0) demand) (take (r * c - 0) sizes) (take (r * c - 0) masses) (take (r * c - 0) ones) costs flow
   parts-shaped hr hc a b d e f g h =
-      let k = cells-fit r c hr hc in
       let u = length-take-le r supply (omega arith) in
       let v = length-take-le c demand (omega arith) in
       rw (sub-zero r, sub-zero c, sub-zero (r * c))
@@ -211,8 +210,8 @@ module _ (supply demand sizes masses ones costs flow : List ℕ) (r c : ℕ) whe
         sizesLong = rw (u, v) (length-take-le (r * c) sizes (omega arith));
         massesLong = rw (u, v) (length-take-le (r * c) masses (omega arith));
         allowedLong = rw (u, v) (length-take-le (r * c) ones (omega arith));
-        costsLong = g;
-        flowLong = h;
+        costsLong = rw (u, v) g;
+        flowLong = rw (u, v) h;
       })
 
   pub parts-solved : (costs′ flow′ : List ℕ) (z : Bool) → Solves (take (r - 0) supply) (take (c - 0) demand) (take (r * c - 0) sizes) (take (r * c - 0) masses) (take (r * c - 0) ones) costs flow costs′ flow′ z

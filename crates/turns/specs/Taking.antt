@@ -2,7 +2,7 @@
 use mathlib.Core.Path.{_≡_}
 use mathlib.Core.Bool.{Bool, true, false}
 use mathlib.Core.List.{List}
-use Prim.Native.Nat.{ℕ}
+use Prim.Native.Nat.{ℕ, _≤_}
 use lib.ListN.{length}
 use Rattle.spec.specs.Bytes.{Two, Res, ok, refused}
 use Rattle.spec.specs.Image.{Tables, kindOf, isCommutative}
@@ -10,7 +10,7 @@ use Rattle.spec.specs.Pool.{Interned}
 use Rattle.spec.specs.Action.{transports}
 use Rattle.spec.specs.Round.{Choice, stay, act, Turn, changes, turnOf, choiceTerm}
 use Rattle.terms.specs.Buffers.{poolOf}
-use Rattle.terms.specs.Chains.{Holds}
+use Rattle.terms.specs.Chains.{Holds, Whole}
 use Rattle.terms.specs.Interning.{enteredOf, poolAfter}
 use Rattle.terms.specs.Growing.{Grows}
 use Rattle.terms.specs.Results.{actionList}
@@ -28,6 +28,12 @@ use Rattle.turns.specs.declared.Taken.the-variants as T
 abbrev pub takenOf : Turn → Res Interned → Taken
 takenOf w (ok a) = T.To (record { size = w .quality .0; mass = w .quality .1; term = a .term; changed = changes w })
 takenOf w (refused n) = T.Full
+
+-- X holds of the answer, unless it is `Short`: only where there is room for fewer cells than 65 rows and 65 columns have, or the pool's buffers are shorter than a whole pool's, and then S
+abbrev pub UnlessShort : ℕ → List ℕ → List ℕ → Taken → Type 0 → Type 0 → Type 0
+UnlessShort room terms runs T.Short S X = (4225 ≤ room → Whole terms runs → ⊥) × S
+UnlessShort room terms runs (T.To w) S X = X
+UnlessShort room terms runs T.Full S X = X
 
 -- The answer, and the pool with the winner's one final term. Where it is refused, the pool's buffers are as they were.
 pub record Takes (t : Tables) (q : Two → Two) (of : Two → ℕ) (p : Two) (terms runs terms′ runs′ : List ℕ) (r : Taken) : Type 0 where

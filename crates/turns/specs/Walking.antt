@@ -2,16 +2,17 @@
 use mathlib.Core.Path.{_≡_, refl, sym, ap, _∙_}
 use mathlib.Core.Bool.{Bool, true, false}
 use mathlib.Core.List.{List, [], _∷_, _++_}
-use Prim.Native.Nat.{ℕ, _≤_, _<_}
+use Prim.Native.Nat.{ℕ, _+_, _*_, _≤_, _<_}
 use native.Mathlib.Omega.{arith}
 use lib.ListN.{length}
 use Rattle.spec.specs.Bytes.{Two, both, each}
 use Rattle.spec.specs.Image.{Tables}
 use Rattle.spec.specs.Monomial.{pairOf, narrow}
-use Rattle.spec.specs.Action.{TransportAction, transports}
+use Rattle.spec.specs.Action.{TransportAction, transports, cellPairs}
 use Rattle.spec.specs.Meaning.{In, here}
 use Rattle.laws.specs.Valid.{Valid}
 use Rattle.lgg.specs.Lists.{in-left, in-right}
+use Rattle.lgg.specs.BestMembers.{IsPair}
 use Rattle.lgg.specs.TurnAgree.{transport-joins}
 use Rattle.lgg.specs.ReadingsWithin.{joins-within}
 use Rattle.ac_repr.specs.Terms.{held}
@@ -41,10 +42,10 @@ unfolding offersIn
 offers-one q of l a w w′ e f = rw e f
 
 -- ---- the cells of a pair's transports are pairs of classes of the image
-pub walk-joined : (t : Tables) → Valid t → (l r : ℕ) → l < length (t .classes) → r < length (t .classes) → (a : TransportAction) → In a (transports t l r) → Joined (a .sides)
-walk-joined t v l r h k a i p j = let (x, y) = joins-within t v (l, r) (h, k) p (transport-joins t (l, r) a i p j) in (omega (arith, x, v .counts .fewClasses), omega (arith, y, v .counts .fewClasses))
+pub walk-joined : (t : Tables) → Valid t → (l r : ℕ) → l < length (t .classes) → r < length (t .classes) → (a : TransportAction) → In a (transports t l r) → (p : Two) → In p (cellPairs (a .sides)) → IsPair t p
+walk-joined t v l r h k a i p j = joins-within t v (l, r) (h, k) p (transport-joins t (l, r) a i p j)
 
-pub one-joined : (l : List TransportAction) (a : TransportAction) → ((b : TransportAction) → In b l → Joined (b .sides)) → l ≡ a ∷ [] → Joined (a .sides)
+pub one-joined : {j : ℕ} (l : List TransportAction) (a : TransportAction) → ((b : TransportAction) → In b l → Joined j (b .sides)) → l ≡ a ∷ [] → Joined j (a .sides)
 one-joined l a h e = h a (rw e here)
 
 -- ---- what is found at a pair of places
@@ -77,7 +78,7 @@ module _ (t : Tables) (l r : ℕ) (w : Walk) (s u s′ u′ : List ℕ) (x : Pad
 pub record Walking (t : Tables) (q : Two → Two) (of : Two → ℕ) (l r : ℕ) (w₀ : Work) (x : Step) (w : Work) : Type 0 where
   pub rest : offersIn q of (actionsLeft t l r x) w ≡ offersIn q of (transports t l r) w₀
   pub within : Within t l r x
-  pub joined : (a : TransportAction) → In a (actionsLeft t l r x) → Joined (a .sides)
+  pub joined : (a : TransportAction) → In a (actionsLeft t l r x) → (p : Two) → In p (cellPairs (a .sides)) → IsPair t p
 
 -- how many pairs of places are left
 abbrev pub walkLeft : Tables → ℕ → ℕ → Step → ℕ
@@ -119,6 +120,6 @@ module _ (t : Tables) (q : Two → Two) (of : Two → ℕ) (l r : ℕ) (w₀ : W
         walking-less = rw (e, ← d .left) (omega arith)
 
     module _ (x : Step) (v : Walk) (e : x ≡ At v) (W : Walking t q of l r w₀ x w) where
-      pub walking-joined : (a : TransportAction) → In a (actionsAt t l r v) → Joined (a .sides)
+      pub walking-joined : Valid t → (j : ℕ) → 256 * length (t .classes) ≤ j → (a : TransportAction) → In a (actionsAt t l r v) → Joined j (a .sides)
       unfolding actionsLeft each
-      walking-joined a i = W .joined a (rw e (in-left (each (actionsAt t l r) (walks t l r (afterOf v))) i))
+      walking-joined valid j wide a i p k = let (x, y) = W .joined a (rw e (in-left (each (actionsAt t l r) (walks t l r (afterOf v))) i)) p k in omega (arith, x, y, wide, valid .counts .fewClasses)

@@ -20,14 +20,16 @@ ghost use Rattle.ac_repr.specs.Terms.{TERMS, NUMBERS, held};
 ghost use Rattle.ac_repr.specs.Walk.{actionsAt};
 ghost use Rattle.terms.specs.Buffers.{countIn, part, unpack};
 ghost use Rattle.terms.specs.Chains.{Holds};
+ghost use Rattle.terms.specs.Interning.{Unless};
 ghost use Rattle.terms.specs.Results.{ActionResult};
 ghost use Rattle.transport.specs.Solved.{Solves};
 ghost use Rattle.quality.specs.Known.{Known, over, qualityIn, termIn};
 ghost use Rattle.turns.specs.Agreeing.{Agrees, Chosen, Same};
-ghost use Rattle.turns.specs.Taking.{changedBy, Ended, Leaves, Takes, turnIn};
+ghost use Rattle.turns.specs.Taking.{changedBy, Ended, Leaves, Takes, termList, turnIn, UnlessShort};
 ghost use Rattle.turns.specs.Better.{Words};
 ghost use Rattle.turns.specs.Cells.{with};
 ghost use Rattle.turns.specs.Offers.{actionOf, bestAfter, listAfter, offerIn, offersIn, Tried, workOf};
+ghost use Rattle.turns.specs.Room.{Roomy, Enough};
 ghost use Rattle.turns.specs.Laying.{sizesAt, massesAt, Joined};
 ghost use Rattle.turns.specs.Listing.{manyAfter, cellAfter, runsAt};
 ghost use Rattle.turns.specs.Sums.{dot};
@@ -131,7 +133,7 @@ fn lay_cells(
     masses: &mut [u32],
 )
     requires { ⌜ Known n (now index) (now pairs) × (length (now left) ≡ NUMBERS) × (length (now right) ≡ NUMBERS) × (rows ≤ TERMS) × (cols ≤ TERMS)
-        × Joined (pairOf (held rows (now left)) (held cols (now right))) × (4225 ≤ length (now sizes)) × (4225 ≤ length (now masses)) ⌝ }
+        × Joined (length (now index)) (pairOf (held rows (now left)) (held cols (now right))) × (rows * cols ≤ length (now sizes)) × (rows * cols ≤ length (now masses)) ⌝ }
     ensures { λ _. ⌜ (now (sizes .exit) ≡ over (sizesAt (qualityIn (now (index .entry)) (now (pairs .entry))) (pairOf (held rows (now (left .entry))) (held cols (now (right .entry))))) (now (sizes .entry)))
         × (now (masses .exit) ≡ over (massesAt (qualityIn (now (index .entry)) (now (pairs .entry))) (pairOf (held rows (now (left .entry))) (held cols (now (right .entry))))) (now (masses .entry))) ⌝ }
 {
@@ -191,7 +193,7 @@ fn list_cell(
     list: &mut [u64],
     m: usize,
 ) -> usize
-    requires { ⌜ Known n (now index) (now pairs) × (p .left < 256) × (p .right < 256) × (x < 2 ^ 32) × (m < length (now list)) ⌝ }
+    requires { ⌜ Known n (now index) (now pairs) × (p .left * 256 + p .right < length (now index)) × (x < 2 ^ 32) × (m < length (now list)) ⌝ }
     ensures { λ r. ⌜ (r ≡ manyAfter m x) × (now (list .exit) ≡ cellAfter (now (list .entry)) m x (termIn (now (index .entry)) (now (pairs .entry)) (with (p .left) (p .right)))) ⌝ }
 {
     if x == 0 {
@@ -218,7 +220,7 @@ fn list_plan(
     list: &mut [u64],
 ) -> usize
     requires { ⌜ Known n (now index) (now pairs) × (length (now left) ≡ NUMBERS) × (length (now right) ≡ NUMBERS) × (rows ≤ TERMS) × (cols ≤ TERMS)
-        × Joined (pairOf (held rows (now left)) (held cols (now right))) × (length (now x) ≡ rows * cols) × ((k : ℕ) → k < length (now x) → getD (now x) k 0 < 2 ^ 32) × (4225 ≤ length (now list)) ⌝ }
+        × Joined (length (now index)) (pairOf (held rows (now left)) (held cols (now right))) × (length (now x) ≡ rows * cols) × ((k : ℕ) → k < length (now x) → getD (now x) k 0 < 2 ^ 32) × (rows * cols ≤ length (now list)) ⌝ }
     ensures { λ m. ⌜ (m ≡ length (runsAt (termIn (now (index .entry)) (now (pairs .entry))) (pairOf (held rows (now (left .entry))) (held cols (now (right .entry)))) (now (x .entry))))
         × (now (list .exit) ≡ over (runsAt (termIn (now (index .entry)) (now (pairs .entry))) (pairOf (held rows (now (left .entry))) (held cols (now (right .entry)))) (now (x .entry))) (now (list .entry))) ⌝ }
 {
@@ -245,8 +247,8 @@ fn solve(
     costs: &mut [u64],
     flow: &mut [u64],
 ) -> bool
-    requires { ⌜ (rows ≤ 65) × (cols ≤ 65) × (65 ≤ length (now supply)) × (65 ≤ length (now demand)) × (4225 ≤ length (now ones)) × (4225 ≤ length (now sizes)) × (4225 ≤ length (now masses))
-        × (12675 ≤ length (now costs)) × (4225 ≤ length (now flow)) ⌝ }
+    requires { ⌜ (rows ≤ 65) × (cols ≤ 65) × (65 ≤ length (now supply)) × (65 ≤ length (now demand)) × (rows * cols ≤ length (now ones)) × (rows * cols ≤ length (now sizes)) × (rows * cols ≤ length (now masses))
+        × (3 * (rows * cols) ≤ length (now costs)) × (rows * cols ≤ length (now flow)) ⌝ }
     ensures { λ b. ⌜ Solves (take rows (now (supply .entry))) (take cols (now (demand .entry))) (take (rows * cols) (now (sizes .entry))) (take (rows * cols) (now (masses .entry))) (take (rows * cols) (now (ones .entry)))
         (now (costs .entry)) (now (flow .entry)) (now (costs .exit)) (now (flow .exit)) b ⌝ }
 {
@@ -279,7 +281,7 @@ fn offer_plan(
     best: Best,
 ) -> Best
     requires { ⌜ Known n (now index) (now pairs) × (length (now left) ≡ NUMBERS) × (length (now right) ≡ NUMBERS) × (rows ≤ TERMS) × (cols ≤ TERMS)
-        × Joined (pairOf (held rows (now left)) (held cols (now right))) × (length (now x) ≡ rows * cols) × ((k : ℕ) → k < length (now x) → getD (now x) k 0 < 2 ^ 32) × (4225 ≤ length (now list))
+        × Joined (length (now index)) (pairOf (held rows (now left)) (held cols (now right))) × (length (now x) ≡ rows * cols) × ((k : ℕ) → k < length (now x) → getD (now x) k 0 < 2 ^ 32) × (rows * cols ≤ length (now list))
         × (now sizes ≡ sizesAt (qualityIn (now index) (now pairs)) (pairOf (held rows (now left)) (held cols (now right)))) × (now masses ≡ massesAt (qualityIn (now index) (now pairs)) (pairOf (held rows (now left)) (held cols (now right)))) ⌝ }
     ensures { λ r. ⌜ (r ≡ bestAfter (qualityIn (now (index .entry)) (now (pairs .entry))) (termIn (now (index .entry)) (now (pairs .entry))) (actionOf op (pairOf (held rows (now (left .entry))) (held cols (now (right .entry))))) (some (now (x .entry))) best)
         × (now (list .exit) ≡ listAfter (qualityIn (now (index .entry)) (now (pairs .entry))) (termIn (now (index .entry)) (now (pairs .entry))) (actionOf op (pairOf (held rows (now (left .entry))) (held cols (now (right .entry))))) (some (now (x .entry))) best (now (list .entry))) ⌝ }
@@ -313,8 +315,8 @@ fn plan_transport(
     flow: &mut [u64],
 ) -> bool
     requires { ⌜ Known n (now index) (now pairs) × (length (now left) ≡ NUMBERS) × (length (now right) ≡ NUMBERS) × (rows ≤ TERMS) × (cols ≤ TERMS)
-        × Joined (pairOf (held rows (now left)) (held cols (now right))) × (narrow (held rows (now left)) ≡ true) × (narrow (held cols (now right)) ≡ true) × (now ones ≡ replicate 4225 1)
-        × (4225 ≤ length (now sizes)) × (4225 ≤ length (now masses)) × (12675 ≤ length (now costs)) × (4225 ≤ length (now flow)) ⌝ }
+        × Joined (length (now index)) (pairOf (held rows (now left)) (held cols (now right))) × (narrow (held rows (now left)) ≡ true) × (narrow (held cols (now right)) ≡ true) × (now ones ≡ replicate (length (now ones)) 1)
+        × (rows * cols ≤ length (now ones)) × (rows * cols ≤ length (now sizes)) × (rows * cols ≤ length (now masses)) × (3 * (rows * cols) ≤ length (now costs)) × (rows * cols ≤ length (now flow)) ⌝ }
     ensures { λ b. ⌜ Tried (qualityIn (now (index .entry)) (now (pairs .entry))) (pairOf (held rows (now (left .entry))) (held cols (now (right .entry)))) (now (sizes .entry)) (now (masses .entry)) (now (costs .entry)) (now (flow .entry))
         (now (sizes .exit)) (now (masses .exit)) (now (costs .exit)) (now (flow .exit)) b ⌝ }
 {
@@ -336,6 +338,12 @@ fn plan_transport(
     )
 }
 
+// The best so far after an offer; or that the work buffers have no room for its cells.
+enum Offered {
+    To(Best),
+    Short,
+}
+
 // An action over two monomials: laid out, solved and offered.
 fn offer_transport(
     index: &[u16],
@@ -353,15 +361,18 @@ fn offer_transport(
     flow: &mut [u64],
     list: &mut [u64],
     best: Best,
-) -> Best
+) -> Offered
     requires { ⌜ Known n (now index) (now pairs) × (length (now left) ≡ NUMBERS) × (length (now right) ≡ NUMBERS) × (rows ≤ TERMS) × (cols ≤ TERMS)
-        × Joined (pairOf (held rows (now left)) (held cols (now right))) × (narrow (held rows (now left)) ≡ true) × (narrow (held cols (now right)) ≡ true) × (now ones ≡ replicate 4225 1)
-        × (4225 ≤ length (now sizes)) × (4225 ≤ length (now masses)) × (12675 ≤ length (now costs)) × (4225 ≤ length (now flow)) × (4225 ≤ length (now list)) ⌝ }
-    ensures { λ r. ⌜ workOf (now (sizes .exit)) (now (masses .exit)) (now (costs .exit)) (now (flow .exit)) (now (list .exit)) r
+        × Joined (length (now index)) (pairOf (held rows (now left)) (held cols (now right))) × (narrow (held rows (now left)) ≡ true) × (narrow (held cols (now right)) ≡ true)
+        × Roomy (now ones) (now sizes) (now masses) (now costs) (now flow) (now list) ⌝ }
+    ensures { λ r. ⌜ Enough (length (now (sizes .entry))) r (λ x. workOf (now (sizes .exit)) (now (masses .exit)) (now (costs .exit)) (now (flow .exit)) (now (list .exit)) x
         ≡ offerIn (qualityIn (now (index .entry)) (now (pairs .entry))) (termIn (now (index .entry)) (now (pairs .entry))) (actionOf op (pairOf (held rows (now (left .entry))) (held cols (now (right .entry)))))
-        (workOf (now (sizes .entry)) (now (masses .entry)) (now (costs .entry)) (now (flow .entry)) (now (list .entry)) best) ⌝ }
+        (workOf (now (sizes .entry)) (now (masses .entry)) (now (costs .entry)) (now (flow .entry)) (now (list .entry)) best)) ⌝ }
 {
     let count = rows * cols;
+    if count > sizes.len() {
+        return Offered::Short;
+    }
     if plan_transport(
         index,
         pairs,
@@ -376,7 +387,7 @@ fn offer_transport(
         costs,
         flow,
     ) {
-        return offer_plan(
+        return Offered::To(offer_plan(
             index,
             pairs,
             n,
@@ -390,9 +401,9 @@ fn offer_transport(
             &flow[0..count],
             list,
             best,
-        );
+        ));
     }
-    best
+    Offered::To(best)
 }
 
 // ---- the transports of a pair
@@ -413,19 +424,18 @@ fn offer_walk(
     flow: &mut [u64],
     list: &mut [u64],
     best: Best,
-) -> Best
-    requires { ⌜ Loaded (now s) im × Valid (tablesOf (now s)) × (l < im .classes) × (r < im .classes) × (w .op < im .operations) × Known n (now index) (now pairs) × (now ones ≡ replicate 4225 1)
-        × ((a : TransportAction) → In a (actionsAt (tablesOf (now s)) l r w) → Joined (a .sides))
-        × (4225 ≤ length (now sizes)) × (4225 ≤ length (now masses)) × (12675 ≤ length (now costs)) × (4225 ≤ length (now flow)) × (4225 ≤ length (now list)) ⌝ }
-    ensures { λ x. ⌜ workOf (now (sizes .exit)) (now (masses .exit)) (now (costs .exit)) (now (flow .exit)) (now (list .exit)) x
+) -> Offered
+    requires { ⌜ Loaded (now s) im × Valid (tablesOf (now s)) × (l < im .classes) × (r < im .classes) × (w .op < im .operations) × Known n (now index) (now pairs)
+        × ((a : TransportAction) → In a (actionsAt (tablesOf (now s)) l r w) → Joined (length (now index)) (a .sides)) × Roomy (now ones) (now sizes) (now masses) (now costs) (now flow) (now list) ⌝ }
+    ensures { λ o. ⌜ Enough (length (now (sizes .entry))) o (λ x. workOf (now (sizes .exit)) (now (masses .exit)) (now (costs .exit)) (now (flow .exit)) (now (list .exit)) x
         ≡ offersIn (qualityIn (now (index .entry)) (now (pairs .entry))) (termIn (now (index .entry)) (now (pairs .entry))) (actionsAt (tablesOf (now (s .entry))) l r w)
-        (workOf (now (sizes .entry)) (now (masses .entry)) (now (costs .entry)) (now (flow .entry)) (now (list .entry)) best) ⌝ }
+        (workOf (now (sizes .entry)) (now (masses .entry)) (now (costs .entry)) (now (flow .entry)) (now (list .entry)) best)) ⌝ }
 {
     let mut left = [0u64; 130];
     let mut right = [0u64; 130];
     let p = ac_repr::pairs::monomials(s, im, l, r, w, &mut left, &mut right);
     match p {
-        Padded::Nothing => best,
+        Padded::Nothing => Offered::To(best),
         Padded::Pair(rows, cols) => offer_transport(
             index,
             pairs,
@@ -462,22 +472,22 @@ fn offer_transports(
     flow: &mut [u64],
     list: &mut [u64],
     b: Best,
-) -> Best
-    requires { ⌜ Loaded (now s) im × Valid (tablesOf (now s)) × (l < im .classes) × (r < im .classes) × Known n (now index) (now pairs) × (now ones ≡ replicate 4225 1)
-        × (4225 ≤ length (now sizes)) × (4225 ≤ length (now masses)) × (12675 ≤ length (now costs)) × (4225 ≤ length (now flow)) × (4225 ≤ length (now list)) ⌝ }
-    ensures { λ x. ⌜ workOf (now (sizes .exit)) (now (masses .exit)) (now (costs .exit)) (now (flow .exit)) (now (list .exit)) x
+) -> Offered
+    requires { ⌜ Loaded (now s) im × Valid (tablesOf (now s)) × (l < im .classes) × (r < im .classes) × Known n (now index) (now pairs)
+        × Roomy (now ones) (now sizes) (now masses) (now costs) (now flow) (now list) × (256 * im .classes ≤ length (now index)) ⌝ }
+    ensures { λ o. ⌜ Enough (length (now (sizes .entry))) o (λ x. workOf (now (sizes .exit)) (now (masses .exit)) (now (costs .exit)) (now (flow .exit)) (now (list .exit)) x
         ≡ offersIn (qualityIn (now (index .entry)) (now (pairs .entry))) (termIn (now (index .entry)) (now (pairs .entry))) (transports (tablesOf (now (s .entry))) l r)
-        (workOf (now (sizes .entry)) (now (masses .entry)) (now (costs .entry)) (now (flow .entry)) (now (list .entry)) b) ⌝ }
+        (workOf (now (sizes .entry)) (now (masses .entry)) (now (costs .entry)) (now (flow .entry)) (now (list .entry)) b)) ⌝ }
 {
     let mut best = b;
     let mut x = ac_repr::pairs::first(s, im, l, r);
     loop {
         match x {
             Step::End => {
-                return best;
+                return Offered::To(best);
             }
             Step::At(w) => {
-                best = offer_walk(
+                let o = offer_walk(
                     s,
                     im,
                     index,
@@ -494,7 +504,15 @@ fn offer_transports(
                     list,
                     best,
                 );
-                x = ac_repr::pairs::next(s, im, l, r, w);
+                match o {
+                    Offered::Short => {
+                        return Offered::Short;
+                    }
+                    Offered::To(after) => {
+                        best = after;
+                        x = ac_repr::pairs::next(s, im, l, r, w);
+                    }
+                }
             }
         }
     }
@@ -516,13 +534,13 @@ fn turn(
     costs: &mut [u64],
     flow: &mut [u64],
     list: &mut [u64],
-) -> Best
-    requires { ⌜ Loaded (now s) im × Valid (tablesOf (now s)) × (l < im .classes) × (r < im .classes) × Known n (now index) (now pairs) × (now ones ≡ replicate 4225 1)
-        × (4225 ≤ length (now sizes)) × (4225 ≤ length (now masses)) × (12675 ≤ length (now costs)) × (4225 ≤ length (now flow)) × (4225 ≤ length (now list)) ⌝ }
-    ensures { λ x. ⌜ Agrees (tablesOf (now (s .entry))) (termIn (now (index .entry)) (now (pairs .entry))) (now (list .exit)) x (round.turnOf (tablesOf (now (s .entry))) (qualityIn (now (index .entry)) (now (pairs .entry))) (l, r))
+) -> Offered
+    requires { ⌜ Loaded (now s) im × Valid (tablesOf (now s)) × (l < im .classes) × (r < im .classes) × Known n (now index) (now pairs)
+        × Roomy (now ones) (now sizes) (now masses) (now costs) (now flow) (now list) × (256 * im .classes ≤ length (now index)) ⌝ }
+    ensures { λ o. ⌜ Enough (length (now (sizes .entry))) o (λ x. Agrees (tablesOf (now (s .entry))) (termIn (now (index .entry)) (now (pairs .entry))) (now (list .exit)) x (round.turnOf (tablesOf (now (s .entry))) (qualityIn (now (index .entry)) (now (pairs .entry))) (l, r))
         × Same (workOf (now (sizes .exit)) (now (masses .exit)) (now (costs .exit)) (now (flow .exit)) (now (list .exit)) x)
         (turnIn (tablesOf (now (s .entry))) (qualityIn (now (index .entry)) (now (pairs .entry))) (termIn (now (index .entry)) (now (pairs .entry))) (l, r) (now (sizes .entry)) (now (masses .entry)) (now (costs .entry)) (now (flow .entry)) (now (list .entry)))
-        × (x .size < 2 ^ 32) × (x .mass < 2 ^ 32) ⌝ }
+        × (x .size < 2 ^ 32) × (x .mass < 2 ^ 32)) ⌝ }
 {
     let b = quality::best_aligned(s, im, index, pairs, n, l, r);
     offer_transports(
@@ -554,7 +572,8 @@ fn intern_action(
     runs: &mut [u64],
 ) -> Entered
     requires { ⌜ Loaded (now s) im × (o < im .operations) × (o < 64) × Holds (now terms) (now runs) × (m ≤ length (now list)) × RunsBelow (countIn (now terms)) (map unpack (part (now list) 0 m)) × (sum (part (now list) 0 m) < 2 ^ 64) ⌝ }
-    ensures { λ x. ⌜ ActionResult (now (terms .entry)) (now (runs .entry)) (now (list .entry)) m o (isCommutative (kindOf (tablesOf (now (s .entry))) o)) (now (terms .exit)) (now (runs .exit)) (now (list .exit)) x ⌝ }
+    ensures { λ x. ⌜ Unless (now (terms .entry)) (now (runs .entry)) x ((now (terms .exit) ≡ now (terms .entry)) × (now (runs .exit) ≡ now (runs .entry)))
+        (ActionResult (now (terms .entry)) (now (runs .entry)) (now (list .entry)) m o (isCommutative (kindOf (tablesOf (now (s .entry))) o)) (now (terms .exit)) (now (runs .exit)) (now (list .exit)) x) ⌝ }
 {
     let commutative = id::is_commutative(image::kind(s, im, o));
     terms::intern_action_result(terms, runs, list, m, low(o), commutative)
@@ -575,10 +594,11 @@ fn turn_term(
     runs: &mut [u64],
 ) -> Entered
     requires { ⌜ Loaded (now s) im × Valid (tablesOf (now s)) × (l < im .classes) × (r < im .classes) × Known n (now index) (now pairs) × Holds (now terms) (now runs)
-        × ((k : ℕ) → k < n → getD (now pairs) (8192 + k) 0 < countIn (now terms)) × (4225 ≤ length (now list))
-        × Chosen (tablesOf (now s)) (termIn (now index) (now pairs)) (now list) how (round.turnOf (tablesOf (now s)) (qualityIn (now index) (now pairs)) (l, r) .choice) ⌝ }
-    ensures { λ x. ⌜ Ended (tablesOf (now (s .entry))) (termIn (now (index .entry)) (now (pairs .entry))) (now (terms .entry)) (now (runs .entry)) (termIn (now (index .entry)) (now (pairs .entry)) (l, r))
-        (round.turnOf (tablesOf (now (s .entry))) (qualityIn (now (index .entry)) (now (pairs .entry))) (l, r) .choice) (now (list .entry)) (now (terms .exit)) (now (runs .exit)) (now (list .exit)) x ⌝ }
+        × ((k : ℕ) → k < n → getD (now pairs) (8192 + k) 0 < countIn (now terms)) × (64 ≤ length (now list))
+        × Chosen (tablesOf (now s)) (termIn (now index) (now pairs)) (now list) how (round.turnOf (tablesOf (now s)) (qualityIn (now index) (now pairs)) (l, r) .choice) × (256 * im .classes ≤ length (now index)) ⌝ }
+    ensures { λ x. ⌜ Unless (now (terms .entry)) (now (runs .entry)) x ((now (terms .exit) ≡ now (terms .entry)) × (now (runs .exit) ≡ now (runs .entry)))
+        (Ended (tablesOf (now (s .entry))) (termIn (now (index .entry)) (now (pairs .entry))) (now (terms .entry)) (now (runs .entry)) (termIn (now (index .entry)) (now (pairs .entry)) (l, r))
+        (round.turnOf (tablesOf (now (s .entry))) (qualityIn (now (index .entry)) (now (pairs .entry))) (l, r) .choice) (now (list .entry)) (now (terms .exit)) (now (runs .exit)) (now (list .exit)) x) ⌝ }
 {
     match how {
         How::Stay => Entered::Term(num4(quality::term_of(index, pairs, n, l, r))),
@@ -609,13 +629,49 @@ pub struct Turned {
     pub changed: bool,
 }
 
-// What a turn gives; or refusal 13
+// What a turn gives; or refusal 13; or that a buffer is too short
 pub enum Taken {
     To(Turned),
     Full,
+    Short,
 }
 
-// A pair's turn over the previous round: its quality afterwards and its term; or refusal 13.
+// The turn ended with what it found best: the pair's quality, its final term, and whether an action was chosen.
+fn end_turn(
+    s: &[u8],
+    im: Image,
+    index: &[u16],
+    pairs: &[u32],
+    n: usize,
+    l: usize,
+    r: usize,
+    best: Best,
+    list: &mut [u64],
+    terms: &mut [u32],
+    runs: &mut [u64],
+) -> Taken
+    requires { ⌜ Loaded (now s) im × Valid (tablesOf (now s)) × (l < im .classes) × (r < im .classes) × Known n (now index) (now pairs) × Holds (now terms) (now runs)
+        × ((k : ℕ) → k < n → getD (now pairs) (8192 + k) 0 < countIn (now terms)) × (64 ≤ length (now list))
+        × Agrees (tablesOf (now s)) (termIn (now index) (now pairs)) (now list) best (round.turnOf (tablesOf (now s)) (qualityIn (now index) (now pairs)) (l, r)) × (best .size < 2 ^ 32) × (best .mass < 2 ^ 32) × (256 * im .classes ≤ length (now index)) ⌝ }
+    ensures { λ x. ⌜ UnlessShort 4225 (now (terms .entry)) (now (runs .entry)) x ((now (terms .exit) ≡ now (terms .entry)) × (now (runs .exit) ≡ now (runs .entry)))
+        (Takes (tablesOf (now (s .entry))) (qualityIn (now (index .entry)) (now (pairs .entry))) (termIn (now (index .entry)) (now (pairs .entry))) (l, r) (now (terms .entry)) (now (runs .entry)) (now (terms .exit)) (now (runs .exit)) x
+        × (now (list .exit) ≡ termList (tablesOf (now (s .entry))) (termIn (now (index .entry)) (now (pairs .entry))) (now (terms .entry)) (now (runs .entry)) (round.turnOf (tablesOf (now (s .entry))) (qualityIn (now (index .entry)) (now (pairs .entry))) (l, r) .choice) (now (list .entry)))) ⌝ }
+{
+    let how = best.how;
+    let e = turn_term(s, im, index, pairs, n, l, r, how, list, terms, runs);
+    match e {
+        Entered::Full => Taken::Full,
+        Entered::Short => Taken::Short,
+        Entered::Term(k) => Taken::To(Turned {
+            size: short(best.size),
+            mass: short(best.mass),
+            term: k,
+            changed: changed(how),
+        }),
+    }
+}
+
+// A pair's turn over the previous round: its quality afterwards and its term; or refusal 13. It has room for as many cells as `sizes` has numbers.
 pub fn take_turn(
     s: &[u8],
     im: Image,
@@ -625,21 +681,22 @@ pub fn take_turn(
     l: usize,
     r: usize,
     ones: &[u8],
-    sizes: &mut [u32; 4225],
-    masses: &mut [u32; 4225],
-    costs: &mut [u64; 12675],
-    flow: &mut [u64; 4225],
-    list: &mut [u64; 4225],
+    sizes: &mut [u32],
+    masses: &mut [u32],
+    costs: &mut [u64],
+    flow: &mut [u64],
+    list: &mut [u64],
     terms: &mut [u32],
     runs: &mut [u64],
 ) -> Taken
-    requires { ⌜ Loaded (now s) im × Valid (tablesOf (now s)) × (l < im .classes) × (r < im .classes) × Known n (now index) (now pairs) × (now ones ≡ replicate 4225 1) × Holds (now terms) (now runs)
-        × ((k : ℕ) → k < n → getD (now pairs) (8192 + k) 0 < countIn (now terms)) ⌝ }
-    ensures { λ x. ⌜ Takes (tablesOf (now (s .entry))) (qualityIn (now (index .entry)) (now (pairs .entry))) (termIn (now (index .entry)) (now (pairs .entry))) (l, r) (now (terms .entry)) (now (runs .entry)) (now (terms .exit)) (now (runs .exit)) x
+    requires { ⌜ Loaded (now s) im × Valid (tablesOf (now s)) × (l < im .classes) × (r < im .classes) × Known n (now index) (now pairs) × Roomy (now ones) (now sizes) (now masses) (now costs) (now flow) (now list) × Holds (now terms) (now runs)
+        × ((k : ℕ) → k < n → getD (now pairs) (8192 + k) 0 < countIn (now terms)) × (256 * im .classes ≤ length (now index)) ⌝ }
+    ensures { λ x. ⌜ UnlessShort (length (now (sizes .entry))) (now (terms .entry)) (now (runs .entry)) x ((now (terms .exit) ≡ now (terms .entry)) × (now (runs .exit) ≡ now (runs .entry)))
+        (Takes (tablesOf (now (s .entry))) (qualityIn (now (index .entry)) (now (pairs .entry))) (termIn (now (index .entry)) (now (pairs .entry))) (l, r) (now (terms .entry)) (now (runs .entry)) (now (terms .exit)) (now (runs .exit)) x
         × Leaves (tablesOf (now (s .entry))) (qualityIn (now (index .entry)) (now (pairs .entry))) (termIn (now (index .entry)) (now (pairs .entry))) (l, r) (now (terms .entry)) (now (runs .entry))
-        (now (sizes .entry)) (now (masses .entry)) (now (costs .entry)) (now (flow .entry)) (now (list .entry)) (now (sizes .exit)) (now (masses .exit)) (now (costs .exit)) (now (flow .exit)) (now (list .exit)) ⌝ }
+        (now (sizes .entry)) (now (masses .entry)) (now (costs .entry)) (now (flow .entry)) (now (list .entry)) (now (sizes .exit)) (now (masses .exit)) (now (costs .exit)) (now (flow .exit)) (now (list .exit))) ⌝ }
 {
-    let best = turn(
+    let o = turn(
         s,
         im,
         index,
@@ -654,15 +711,8 @@ pub fn take_turn(
         flow,
         list,
     );
-    let how = best.how;
-    let e = turn_term(s, im, index, pairs, n, l, r, how, list, terms, runs);
-    match e {
-        Entered::Full => Taken::Full,
-        Entered::Term(k) => Taken::To(Turned {
-            size: short(best.size),
-            mass: short(best.mass),
-            term: k,
-            changed: changed(how),
-        }),
+    match o {
+        Offered::Short => Taken::Short,
+        Offered::To(best) => end_turn(s, im, index, pairs, n, l, r, best, list, terms, runs),
     }
 }

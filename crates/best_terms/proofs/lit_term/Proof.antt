@@ -1,14 +1,8 @@
+use Rattle.terms.specs.ShortLaws.{unless-map}
 use Rattle.spec.specs.Pool.{litNode}
 use Rattle.terms.specs.Buffers.{countIn}
 use Rattle.best_terms.specs.BestRuns.{lit-node, lit-node-valid, sum-none, gives-of}
-use borrow.Author.Tests.{lt-ltb, le-ltb, le-leb, lt-leb, eq-eqb, ne-eqb}
-use Prim.Native.Nat.{ℕ, zero, suc, _≤_, _<_, _-_, _+_, _*_, _^_}
 use native.Mathlib.Omega.{arith}
-use native.Mathlib.Numerals.{add-one}
-use mathlib.Core.Path.{_≡_, refl, ap, sym, _∙_}
-use mathlib.Core.Logic.{⊎-elim}
-use mathlib.Core.List.{List, [], _∷_, _++_, append-nil}
-use lib.ListN.{length, take, drop, getD, set, length-set, length-take, length-drop, length-append, drop-of-length-le}
 use borrow.Author.Needs.{needs}
 use Rattle.best_terms.proofs.lit_term.Statement.{statement}
 use Rattle.best_terms.proofs.lit_term.Tie as tie
@@ -17,43 +11,43 @@ use Rattle.best_terms.proofs.lit_term.Lts as lts
 use Rattle.terms.proofs.intern.Reads as intern-reads
 use Rattle.best_terms.proofs.short.Reads as short-reads
 
--- src/lib.rt:100:32
+-- src/lib.rt:101:32
 slice-aggregate-intern : tie.Need-slice-aggregate-intern
 slice-aggregate-intern c = search needs
 
--- src/lib.rt:100:48
+-- src/lib.rt:101:48
 add-short : tie.Need-add-short
 add-short c = search needs
 
--- src/lib.rt:100:42
+-- src/lib.rt:101:42
 short-requires : tie.Need-short-requires
 short-requires c κs = search needs
 
--- src/lib.rt:100:58
+-- src/lib.rt:101:58
 cast-intern : tie.Need-cast-intern
 cast-intern c = search needs
 
--- src/lib.rt:100:5
+-- src/lib.rt:101:5
 intern-requires : tie.Need-intern-requires
 intern-requires c κs =
     let b = c .before .before .before .before .before .before in
     let a = b .args in
     (b .pre .0, lit-node-valid (countIn (a .terms .now)) (c .short .result) (a .op) (a .v) _ (c .short .ensures) (b .pre .1), omega arith, sum-none _)
 
--- src/lib.rt:95:1
+-- src/lib.rt:96:1
 same-length : tie.Need-same-length
 same-length c = search needs
 
--- src/lib.rt:95:1
+-- src/lib.rt:96:1
 same-length-2 : tie.Need-same-length-2
 same-length-2 c = search needs
 
--- src/lib.rt:95:1
+-- src/lib.rt:96:1
 returns : tie.Need-returns
 returns c =
     let b = c .before .before .before .before .before .before .before .before .before .before .before in
     let a = b .args in
-    gives-of (litNode (a .op) (a .v)) (lit-node (c .before .before .before .before .before .short .result) (a .op) (a .v) _ (c .before .before .before .before .before .short .ensures) (b .pre .1)) (omega arith) (c .before .before .before .before .intern .ensures)
+    unless-map (a .terms .now) (a .runs .now) (c .before .before .before .before .intern .result) (λ s. s) (gives-of (litNode (a .op) (a .v)) (lit-node (c .before .before .before .before .before .short .result) (a .op) (a .v) _ (c .before .before .before .before .before .short .ensures) (b .pre .1)) (omega arith)) (c .before .before .before .before .intern .ensures)
 
 pub lit-term-spec : {M : Type 1} → statement M
 lit-term-spec =

@@ -1,3 +1,4 @@
+use Rattle.terms.specs.ShortLaws.{unless-map}
 use mathlib.Core.List.{map}
 use Rattle.spec.specs.Image.{tablesOf, theMember, childrenOf}
 use Rattle.spec.specs.Pool.{opNode}
@@ -6,14 +7,7 @@ use Rattle.terms.specs.Buffers.{countIn}
 use Rattle.best_terms.specs.Bests.{keptRun}
 use Rattle.terms.specs.ResultLaws.{begins-fits}
 use Rattle.best_terms.specs.BestRuns.{ready, kept-light, kept-valid, joined-light, kept-node, gives-of}
-use borrow.Author.Tests.{lt-ltb, le-ltb, le-leb, lt-leb, eq-eqb, ne-eqb}
-use Prim.Native.Nat.{ℕ, zero, suc, _≤_, _<_, _-_, _+_, _*_, _^_}
 use native.Mathlib.Omega.{arith}
-use native.Mathlib.Numerals.{add-one}
-use mathlib.Core.Path.{_≡_, refl, ap, sym, _∙_}
-use mathlib.Core.Logic.{⊎-elim}
-use mathlib.Core.List.{List, [], _∷_, _++_, append-nil}
-use lib.ListN.{length, take, drop, getD, set, length-set, length-take, length-drop, length-append, drop-of-length-le}
 use borrow.Author.Needs.{needs}
 use Rattle.best_terms.proofs.op_term.Statement.{statement}
 use Rattle.best_terms.proofs.op_term.Tie as tie
@@ -26,19 +20,19 @@ use Rattle.terms.proofs.join_runs.Reads as join-runs-reads
 use Rattle.best_terms.proofs.kept_runs.Reads as kept-runs-reads
 use Rattle.best_terms.proofs.short.Reads as short-reads
 
--- src/lib.rt:116:9
+-- src/lib.rt:117:9
 first-child-requires : tie.Need-first-child-requires
 first-child-requires c κs = search needs
 
--- src/lib.rt:117:9
+-- src/lib.rt:118:9
 child-count-requires : tie.Need-child-count-requires
 child-count-requires c κs = search needs
 
--- src/lib.rt:118:28
+-- src/lib.rt:119:28
 slice-aggregate-kept-runs : tie.Need-slice-aggregate-kept-runs
 slice-aggregate-kept-runs c = search needs
 
--- src/lib.rt:118:5
+-- src/lib.rt:119:5
 kept-runs-requires : tie.Need-kept-runs-requires
 kept-runs-requires c κs =
     let b = c .before .before .before .before .before .before .before in
@@ -47,11 +41,11 @@ kept-runs-requires c κs =
     let n = c .before .child-count .ensures .0 in
     (b .pre .1, c .before .before .first-child .ensures .1, omega (arith, b .pre .4 .few), rw (k, n) (ready (tablesOf (a .s .now)) (a .best .now) (countIn (a .terms .now)) (a .m) (b .pre .4) (b .pre .0 .few) (a .im) (children-many (a .s .now) (a .im) (b .pre .1))))
 
--- src/lib.rt:119:30
+-- src/lib.rt:120:30
 slice-aggregate-join-runs : tie.Need-slice-aggregate-join-runs
 slice-aggregate-join-runs c = search needs
 
--- src/lib.rt:119:9
+-- src/lib.rt:120:9
 join-runs-requires : tie.Need-join-runs-requires
 join-runs-requires c κs =
     let b = c .before .before .before .before .before .before .before .before .before .before in
@@ -60,15 +54,15 @@ join-runs-requires c κs =
     let n = c .before .before .before .before .child-count .ensures .0 in
     (omega (arith, b .pre .4 .few), rw n (kept-light (tablesOf (a .s .now)) (a .best .now) (countIn (a .terms .now)) (a .m) (b .pre .4) (b .pre .0 .few) _ (rw (k, n) at (c .before .before .kept-runs .ensures))))
 
--- src/lib.rt:120:32
+-- src/lib.rt:121:32
 slice-aggregate-intern : tie.Need-slice-aggregate-intern
 slice-aggregate-intern c = search needs
 
--- src/lib.rt:120:42
+-- src/lib.rt:121:42
 short-requires : tie.Need-short-requires
 short-requires c κs = search needs
 
--- src/lib.rt:120:5
+-- src/lib.rt:121:5
 intern-requires : tie.Need-intern-requires
 intern-requires c κs =
     let b = c .before .before .before .before .before .before .before .before .before .before .before .before .before .before .before .before in
@@ -77,22 +71,22 @@ intern-requires c κs =
     let n = c .before .before .before .before .before .before .before .before .before .before .child-count .ensures .0 in
     (b .pre .0, rw (c .short .ensures) (kept-valid (tablesOf (a .s .now)) (a .best .now) (countIn (a .terms .now)) (a .m) (b .pre .4) (b .pre .0 .few) _ (rw (k, n) at (c .before .before .before .before .before .before .before .before .kept-runs .ensures)) _ (c .before .before .before .before .before .join-runs .result) (rw n at (c .before .before .before .before .before .join-runs .ensures)) (a .op) (b .pre .3)), begins-fits (c .before .before .before .before .before .join-runs .ensures), joined-light (tablesOf (a .s .now)) (a .best .now) (countIn (a .terms .now)) (a .m) (b .pre .4) (b .pre .0 .few) _ (rw (k, n) at (c .before .before .before .before .before .before .before .before .kept-runs .ensures)) _ (c .before .before .before .before .before .join-runs .result) (rw n at (c .before .before .before .before .before .join-runs .ensures)))
 
--- src/lib.rt:103:1
+-- src/lib.rt:104:1
 same-length : tie.Need-same-length
 same-length c = search needs
 
--- src/lib.rt:103:1
+-- src/lib.rt:104:1
 same-length-2 : tie.Need-same-length-2
 same-length-2 c = search needs
 
--- src/lib.rt:103:1
+-- src/lib.rt:104:1
 returns : tie.Need-returns
 returns c =
     let b = c .before .before .before .before .before .before .before .before .before .before .before .before .before .before .before .before .before .before .before .before .before in
     let a = b .args in
     let k = c .before .before .before .before .before .before .before .before .before .before .before .before .before .before .before .before .first-child .ensures .0 in
     let n = c .before .before .before .before .before .before .before .before .before .before .before .before .before .before .before .child-count .ensures .0 in
-    gives-of (opNode (a .op) (map (keptRun (a .best .now)) (childrenOf (tablesOf (a .s .now)) (theMember (tablesOf (a .s .now)) (a .m))))) (rw (c .before .before .before .before .before .short .ensures) (kept-node (tablesOf (a .s .now)) (a .best .now) (countIn (a .terms .now)) (a .m) (b .pre .4) (b .pre .0 .few) _ (rw (k, n) at (c .before .before .before .before .before .before .before .before .before .before .before .before .before .kept-runs .ensures)) _ (c .before .before .before .before .before .before .before .before .before .before .join-runs .result) (rw n at (c .before .before .before .before .before .before .before .before .before .before .join-runs .ensures)) (a .op) (b .pre .3))) (begins-fits (c .before .before .before .before .before .before .before .before .before .before .join-runs .ensures)) (c .before .before .before .before .intern .ensures)
+    unless-map (a .terms .now) (a .runs .now) (c .before .before .before .before .intern .result) (λ s. s) (gives-of (opNode (a .op) (map (keptRun (a .best .now)) (childrenOf (tablesOf (a .s .now)) (theMember (tablesOf (a .s .now)) (a .m))))) (rw (c .before .before .before .before .before .short .ensures) (kept-node (tablesOf (a .s .now)) (a .best .now) (countIn (a .terms .now)) (a .m) (b .pre .4) (b .pre .0 .few) _ (rw (k, n) at (c .before .before .before .before .before .before .before .before .before .before .before .before .before .kept-runs .ensures)) _ (c .before .before .before .before .before .before .before .before .before .before .join-runs .result) (rw n at (c .before .before .before .before .before .before .before .before .before .before .join-runs .ensures)) (a .op) (b .pre .3))) (begins-fits (c .before .before .before .before .before .before .before .before .before .before .join-runs .ensures))) (c .before .before .before .before .intern .ensures)
 
 pub op-term-spec : {M : Type 1} → statement M
 op-term-spec =

@@ -1,49 +1,39 @@
+use mathlib.Core.Path.{refl}
+use native.Mathlib.Omega.{arith}
+use borrow.Author.Needs.{needs}
 use Rattle.spec.specs.Bytes.{refused}
 use Rattle.exact_fixed.specs.AnswerLaws.{answer-refused}
-use mathlib.Core.Path.{refl}
-use borrow.Author.Needs.{needs}
 use Rattle.exact_fixed.proofs.list_ran.Statement.{statement}
 use Rattle.exact_fixed.proofs.list_ran.Tie as tie
-use Rattle.exact_fixed.proofs.list_ran.Reads as reads
-use Rattle.exact_fixed.proofs.list_ran.Lts as lts
-use Rattle.exact_fixed.proofs.list_outcome.Reads as list-outcome-reads
 
--- src/lib.rt:588:22
 enum-known-x : tie.Need-enum-known-x
 enum-known-x c = search needs
 
--- src/lib.rt:589:13
 returns : tie.Need-returns
-returns c =
-    let at-start = c .before .before .before .before .before .before .before in
-    let a = at-start .args in
-    rw (c .before .x .given .1) (answer-refused (refused _) _ (a .out .now) refl)
+returns c = rw (c .before .x .given .1) (answer-refused (refused _) _ (c .before .before .before .before .before .before .before .args .out .now) refl)
 
--- src/lib.rt:591:19
+enum-told : tie.Need-enum-told
+enum-told c = search needs
+
+returns-2 : tie.Need-returns-2
+returns-2 c = rw (c .enum-told .given .1) (refl, refl)
+
 enum-known-x-2 : tie.Need-enum-known-x-2
 enum-known-x-2 c = search needs
 
--- src/lib.rt:592:13
 list-outcome-requires : tie.Need-list-outcome-requires
 list-outcome-requires c κs =
-    let b = c .before .before .before .before .before .before .before .before .before in
-    let z = rw (c .before .before .before .x2 .given .1) at (b .pre .0) in
-    (z .0, z .1, b .pre .1)
+    let z = rw (c .before .before .before .x2 .given .1) at (c .before .before .before .before .before .before .before .before .before .pre) in
+    (z .0, z .1)
 
--- src/lib.rt:592:13
 same-length : tie.Need-same-length
-same-length c = search needs
+same-length c = omega (arith, c .before .before .before .before .list-outcome .kept)
 
--- src/lib.rt:592:13
 same-length-2 : tie.Need-same-length-2
-same-length-2 c = search needs
+same-length-2 c = omega (arith, c .before .before .before .before .list-outcome .kept)
 
--- src/lib.rt:592:13
-returns-2 : tie.Need-returns-2
-returns-2 c =
-    let at-x2 = c .before .before .before .before .before .before .before .before .x2 in
-    let at-list-outcome = c .before .before .before .before .list-outcome in
-    rw (at-x2 .given .1) (at-list-outcome .ensures)
+returns-3 : tie.Need-returns-3
+returns-3 c = rw (c .before .before .before .before .before .before .before .before .x2 .given .1) (c .before .before .before .before .list-outcome .ensures)
 
 pub list-ran-spec : {M : Type 1} → statement M
 list-ran-spec =
@@ -51,8 +41,10 @@ list-ran-spec =
     (tie.spec
     enum-known-x
     returns
+    enum-told
+    returns-2
     enum-known-x-2
     list-outcome-requires
     same-length
     same-length-2
-    returns-2)
+    returns-3)

@@ -1,101 +1,90 @@
-use Rattle.spec.specs.Image.{tablesOf}
-use Rattle.image.specs.Loaded.{classes-many}
-use Rattle.exact_fixed.specs.Starting.{one-refused, one-small, one-has}
 use native.Mathlib.Omega.{arith}
 use borrow.Author.Needs.{needs}
+use Rattle.spec.specs.Image.{tablesOf}
+use Rattle.image.specs.Loaded.{classes-many}
+use Rattle.terms.specs.ShortLaws.{as-short}
+use Rattle.exact_fixed.specs.Starting.{one-refused, one-small, one-has}
 use Rattle.exact_fixed.proofs.start_one.Statement.{statement}
 use Rattle.exact_fixed.proofs.start_one.Tie as tie
-use Rattle.exact_fixed.proofs.start_one.Reads as reads
-use Rattle.exact_fixed.proofs.start_one.Lts as lts
-use Rattle.best_terms.proofs.evaluate_generalize_action.Reads as evaluate-generalize-action-reads
-use Rattle.rounds.proofs.give.Reads as give-reads
-use Rattle.rounds.proofs.short.Reads as short-reads
-use Rattle.exact_fixed.proofs.start_mass.Reads as start-mass-reads
-use Rattle.exact_fixed.proofs.start_size.Reads as start-size-reads
 
--- src/lib.rt:190:9
 evaluate-generalize-action-requires : tie.Need-evaluate-generalize-action-requires
-evaluate-generalize-action-requires c κs = search needs
+evaluate-generalize-action-requires c κs = let b = c .before .before .before .before .before .before .before .before in (b .pre .6, b .pre .0, b .pre .1, b .pre .2, b .pre .3, b .pre .7, b .pre .8)
 
--- src/lib.rt:193:13
 enum-told : tie.Need-enum-told
 enum-told c = search needs
 
--- src/lib.rt:193:13
 same-length : tie.Need-same-length
-same-length c = search needs
+same-length c = omega (arith, c .before .before .before .before .before .before .before .before .evaluate-generalize-action .kept)
 
--- src/lib.rt:193:13
 same-length-2 : tie.Need-same-length-2
-same-length-2 c = search needs
+same-length-2 c = omega (arith, c .before .before .before .before .before .before .before .before .evaluate-generalize-action .kept)
 
--- src/lib.rt:193:13
 same-length-3 : tie.Need-same-length-3
-same-length-3 c = search needs
+same-length-3 c = omega (arith, c .before .before .before .before .before .before .before .before .evaluate-generalize-action .kept)
 
--- src/lib.rt:193:13
 returns : tie.Need-returns
 returns c =
-    let at-start = c .before .before .before .before .before .before .before .before .before .before .before .before .before .before .before .before .before in
-    let at-evaluate-generalize-action = c .before .before .before .before .before .before .before .before .evaluate-generalize-action in
-    let a = at-start .args in
-    one-refused (tablesOf (a .s .now)) (a .l, a .r) (a .terms .now) (a .runs .now) (a .best .now) _ _ _ (rw (c .enum-told .given .1) at (at-evaluate-generalize-action .ensures))
+    let a = c .before .before .before .before .before .before .before .before .before .before .before .before .before .before .before .before .before .args in
+    one-refused (tablesOf (a .s .now)) (a .l, a .r) (a .terms .now) (a .runs .now) (a .best .now) _ _ _ (rw (c .enum-told .given .1) at (c .before .before .before .before .before .before .before .before .evaluate-generalize-action .ensures))
 
--- src/lib.rt:195:23
+enum-told-2 : tie.Need-enum-told-2
+enum-told-2 c = search needs
+
+same-length-4 : tie.Need-same-length-4
+same-length-4 c = omega (arith, c .before .before .before .before .before .before .before .before .evaluate-generalize-action .kept)
+
+same-length-5 : tie.Need-same-length-5
+same-length-5 c = omega (arith, c .before .before .before .before .before .before .before .before .evaluate-generalize-action .kept)
+
+same-length-6 : tie.Need-same-length-6
+same-length-6 c = omega (arith, c .before .before .before .before .before .before .before .before .evaluate-generalize-action .kept)
+
+returns-2 : tie.Need-returns-2
+returns-2 c =
+    let a = c .before .before .before .before .before .before .before .before .before .before .before .before .before .before .before .before .before .args in
+    let x = c .before .before .before .before .before .before .before .before .evaluate-generalize-action in
+    let u = rw (c .enum-told2 .given .1) at (x .ensures) in
+    as-short (x .last .1 .1 .0) (x .last .1 .1 .1 .0) (a .terms .now) (a .runs .now) (omega (arith, x .kept)) (omega (arith, x .kept)) (u .0)
+
 enum-known-e : tie.Need-enum-known-e
 enum-known-e c = search needs
 
--- src/lib.rt:196:17
 start-size-requires : tie.Need-start-size-requires
 start-size-requires c κs = search needs
 
--- src/lib.rt:197:17
 start-mass-requires : tie.Need-start-mass-requires
 start-mass-requires c κs = search needs
 
--- src/lib.rt:198:40
 short-requires : tie.Need-short-requires
 short-requires c κs =
-    let at-e = c .before .before .before .before .e in
-    let at-evaluate-generalize-action = c .before .before .before .before .before .before .before .before .before .before .before .before .evaluate-generalize-action in
     let b = c .before .before .before .before .before .before .before .before .before .before .before .before .before .before .before .before .before .before .before .before .before in
     let a = b .args in
     let n = classes-many (a .s .now) (a .im) (b .pre .0) in
-    one-small (tablesOf (a .s .now)) (b .pre .1) (a .l, a .r) (omega (arith, n, b .pre .2), omega (arith, n, b .pre .3)) (a .terms .now) (a .runs .now) (a .best .now) _ _ _ (b .pre .6) _ (rw (at-e .given .1) at (at-evaluate-generalize-action .ensures))
+    let u = rw (c .before .before .before .before .e .given .1) at (c .before .before .before .before .before .before .before .before .before .before .before .before .evaluate-generalize-action .ensures) in
+    one-small (tablesOf (a .s .now)) (b .pre .1) (a .l, a .r) (omega (arith, n, b .pre .2), omega (arith, n, b .pre .3)) (a .terms .now) (a .runs .now) (a .best .now) _ _ _ (b .pre .6) _ u
 
--- src/lib.rt:198:13
 give-requires : tie.Need-give-requires
 give-requires c κs = search needs
 
--- src/lib.rt:199:13
-same-length-4 : tie.Need-same-length-4
-same-length-4 c = search needs
-
--- src/lib.rt:199:13
-same-length-5 : tie.Need-same-length-5
-same-length-5 c = search needs
-
--- src/lib.rt:199:13
-same-length-6 : tie.Need-same-length-6
-same-length-6 c = search needs
-
--- src/lib.rt:199:13
 same-length-7 : tie.Need-same-length-7
-same-length-7 c = search needs
+same-length-7 c = omega (arith, c .before .before .before .before .before .before .before .before .before .before .before .before .before .before .before .before .evaluate-generalize-action .kept, c .before .before .give .kept)
 
--- src/lib.rt:199:13
-returns-2 : tie.Need-returns-2
-returns-2 c =
-    let at-e = c .before .before .before .before .before .before .before .before .e in
-    let at-evaluate-generalize-action = c .before .before .before .before .before .before .before .before .before .before .before .before .before .before .before .before .evaluate-generalize-action in
-    let at-start-size = c .before .before .before .before .before .before .start-size in
-    let at-start-mass = c .before .before .before .before .before .start-mass in
-    let at-short = c .before .before .before .short in
+same-length-8 : tie.Need-same-length-8
+same-length-8 c = omega (arith, c .before .before .before .before .before .before .before .before .before .before .before .before .before .before .before .before .evaluate-generalize-action .kept, c .before .before .give .kept)
+
+same-length-9 : tie.Need-same-length-9
+same-length-9 c = omega (arith, c .before .before .before .before .before .before .before .before .before .before .before .before .before .before .before .before .evaluate-generalize-action .kept, c .before .before .give .kept)
+
+same-length-10 : tie.Need-same-length-10
+same-length-10 c = omega (arith, c .before .before .before .before .before .before .before .before .before .before .before .before .before .before .before .before .evaluate-generalize-action .kept, c .before .before .give .kept)
+
+returns-3 : tie.Need-returns-3
+returns-3 c =
     let b = c .before .before .before .before .before .before .before .before .before .before .before .before .before .before .before .before .before .before .before .before .before .before .before .before .before in
     let a = b .args in
     let n = classes-many (a .s .now) (a .im) (b .pre .0) in
-    one-has (tablesOf (a .s .now)) (b .pre .1) (a .l, a .r) (omega (arith, n, b .pre .2), omega (arith, n, b .pre .3)) (a .terms .now) (a .runs .now) (a .best .now) _ _ _ (b .pre .6) _ (rw (at-e .given .1) at (at-evaluate-generalize-action .ensures))
-    (a .k) (at-start-size .result) (at-start-mass .result) (at-short .result) (a .pairs .now) _ (at-start-size .ensures) (at-start-mass .ensures) (at-short .ensures) (c .before .before .give .ensures)
+    let u = rw (c .before .before .before .before .before .before .before .before .e .given .1) at (c .before .before .before .before .before .before .before .before .before .before .before .before .before .before .before .before .evaluate-generalize-action .ensures) in
+    one-has (tablesOf (a .s .now)) (b .pre .1) (a .l, a .r) (omega (arith, n, b .pre .2), omega (arith, n, b .pre .3)) (a .terms .now) (a .runs .now) (a .best .now) _ _ _ (b .pre .6) _ u (a .k) (c .before .before .before .before .before .before .start-size .result) (c .before .before .before .before .before .start-mass .result) (c .before .before .before .short .result) (a .pairs .now) _ (c .before .before .before .before .before .before .start-size .ensures) (c .before .before .before .before .before .start-mass .ensures) (c .before .before .before .short .ensures) (c .before .before .give .ensures)
 
 pub start-one-spec : {M : Type 1} → statement M
 start-one-spec =
@@ -107,13 +96,18 @@ start-one-spec =
     same-length-2
     same-length-3
     returns
+    enum-told-2
+    same-length-4
+    same-length-5
+    same-length-6
+    returns-2
     enum-known-e
     start-size-requires
     start-mass-requires
     short-requires
     give-requires
-    same-length-4
-    same-length-5
-    same-length-6
     same-length-7
-    returns-2)
+    same-length-8
+    same-length-9
+    same-length-10
+    returns-3)

@@ -24,8 +24,8 @@ append-requires c κs =
     let r = b .args .r in
     let hl : l < length (t .classes) = omega (arith, b .pre .2, classes-many (b .args .s .now) (b .args .im) (b .pre .0)) in
     let hr : r < length (t .classes) = omega (arith, b .pre .3, classes-many (b .args .s .now) (b .args .im) (b .pre .0)) in
-    let p = small-pair t (b .pre .1) l r hl hr (l, r) (hl, hr) in
-    (omega arith, b .pre .4, b .pre .5, omega (arith, b .pre .6, c .before .before .before .before .before .clear2 .kept), p .0, p .1)
+    let p = small-pair t (b .pre .1) l r hl hr (length (b .args .index .now)) (omega (arith, b .pre .6, classes-many (b .args .s .now) (b .args .im) (b .pre .0))) (l, r) (hl, hr) in
+    (omega arith, b .pre .4, b .pre .5, (omega (arith, p .0, c .before .before .before .before .before .clear2 .kept), p .1, p .2))
 
 -- src/lib.rt:409:11
 build-from-requires : tie.Need-build-from-requires
@@ -36,7 +36,7 @@ build-from-requires c κs =
     let r = b .args .r in
     let hl : l < length (t .classes) = omega (arith, b .pre .2, classes-many (b .args .s .now) (b .args .im) (b .pre .0)) in
     let hr : r < length (t .classes) = omega (arith, b .pre .3, classes-many (b .args .s .now) (b .args .im) (b .pre .0)) in
-    (b .pre .0, b .pre .1, begin-graph t l r (b .args .budget .left) (b .args .lefts .now) (b .args .rights .now) (b .args .index .now) (small-pair t (b .pre .1) l r hl hr (l, r) (hl, hr)) (b .pre .4) (b .pre .5) (b .pre .6) (c .before .before .before .before .before .before .before .before .before .before .before .before .before .before .before .clear2 .ensures) (c .before .before .before .before .before .before .before .before .before .append .ensures .0) (c .before .before .before .before .before .before .before .before .before .append .ensures .1) (c .before .before .before .before .before .before .before .before .before .append .ensures .2), begin-pairs t l r (b .args .budget .left) (b .args .lefts .now) (b .args .rights .now) (b .args .index .now) (small-pair t (b .pre .1) l r hl hr (l, r) (hl, hr)) (b .pre .4) (b .pre .5) (b .pre .6) (c .before .before .before .before .before .before .before .before .before .before .before .before .before .before .before .clear2 .ensures) (c .before .before .before .before .before .before .before .before .before .append .ensures .0) (c .before .before .before .before .before .before .before .before .before .append .ensures .1) (c .before .before .before .before .before .before .before .before .before .append .ensures .2) (hl, hr))
+    (b .pre .0, b .pre .1, begin-graph t l r (b .args .budget .left) (b .args .lefts .now) (b .args .rights .now) (b .args .index .now) (small-pair t (b .pre .1) l r hl hr (length (b .args .index .now)) (omega (arith, b .pre .6, classes-many (b .args .s .now) (b .args .im) (b .pre .0))) (l, r) (hl, hr)) (b .pre .4) (b .pre .5) (c .before .before .before .before .before .before .before .before .before .before .before .before .before .before .before .clear2 .ensures) (c .before .before .before .before .before .before .before .before .before .append .ensures .0) (c .before .before .before .before .before .before .before .before .before .append .ensures .1) (c .before .before .before .before .before .before .before .before .before .append .ensures .2), begin-pairs t l r (b .args .budget .left) (b .args .lefts .now) (b .args .rights .now) (b .args .index .now) (small-pair t (b .pre .1) l r hl hr (length (b .args .index .now)) (omega (arith, b .pre .6, classes-many (b .args .s .now) (b .args .im) (b .pre .0))) (l, r) (hl, hr)) (b .pre .4) (b .pre .5) (c .before .before .before .before .before .before .before .before .before .before .before .before .before .before .before .clear2 .ensures) (c .before .before .before .before .before .before .before .before .before .append .ensures .0) (c .before .before .before .before .before .before .before .before .before .append .ensures .1) (c .before .before .before .before .before .before .before .before .before .append .ensures .2) (hl, hr), omega (arith, b .pre .6, c .before .before .before .before .before .before .before .before .before .append .kept, c .before .before .before .before .before .before .before .before .before .before .before .before .before .before .before .clear2 .kept))
 
 -- src/lib.rt:410:20
 enum-known-n : tie.Need-enum-known-n
@@ -79,7 +79,7 @@ returns c =
     let r = b .args .r in
     let hl : l < length (t .classes) = omega (arith, b .pre .2, classes-many (b .args .s .now) (b .args .im) (b .pre .0)) in
     let hr : r < length (t .classes) = omega (arith, b .pre .3, classes-many (b .args .s .now) (b .args .im) (b .pre .0)) in
-    finish-all t l r (b .args .budget .left) (b .args .lefts .now) (b .args .rights .now) (b .args .index .now) (small-pair t (b .pre .1) l r hl hr (l, r) (hl, hr)) (b .pre .4) (b .pre .5) (b .pre .6) (c .before .before .before .before .before .before .before .before .before .before .before .before .before .before .before .before .before .before .before .before .before .before .before .before .before .clear2 .ensures) (c .before .before .before .before .before .before .before .before .before .before .before .before .before .before .before .before .before .before .before .append .ensures .0) (c .before .before .before .before .before .before .before .before .before .before .before .before .before .before .before .before .before .before .before .append .ensures .1) (c .before .before .before .before .before .before .before .before .before .before .before .before .before .before .before .before .before .before .before .append .ensures .2) (c .before .before .before .before .before .before .before .before .before .build-from .result) (c .before .before .before .before .before .before .before .before .before .build-from .ensures) (c .before .n .given .0 .0) (c .before .n .given .0 .1 .0) (c .before .n .given .1) (c .before .before .before .before .before .before .before .before .before .build-from .kept .1 .1 .1 .1 .1 .0 ∙ c .before .before .before .before .before .before .before .before .before .before .before .before .before .before .before .before .before .before .before .append .kept .1 .1 .0 ∙ c .before .before .before .before .before .before .before .before .before .before .before .before .before .before .before .before .before .before .before .before .before .before .before .before .before .clear2 .kept .0)
+    finish-all t l r (b .args .budget .left) (b .args .lefts .now) (b .args .rights .now) (b .args .index .now) (small-pair t (b .pre .1) l r hl hr (length (b .args .index .now)) (omega (arith, b .pre .6, classes-many (b .args .s .now) (b .args .im) (b .pre .0))) (l, r) (hl, hr)) (b .pre .4) (b .pre .5) (c .before .before .before .before .before .before .before .before .before .before .before .before .before .before .before .before .before .before .before .before .before .before .before .before .before .clear2 .ensures) (c .before .before .before .before .before .before .before .before .before .before .before .before .before .before .before .before .before .before .before .append .ensures .0) (c .before .before .before .before .before .before .before .before .before .before .before .before .before .before .before .before .before .before .before .append .ensures .1) (c .before .before .before .before .before .before .before .before .before .before .before .before .before .before .before .before .before .before .before .append .ensures .2) (c .before .before .before .before .before .before .before .before .before .build-from .result) (c .before .before .before .before .before .before .before .before .before .build-from .ensures) (c .before .n .given .0 .0) (c .before .n .given .0 .1 .0) (c .before .n .given .1) (c .before .before .before .before .before .before .before .before .before .build-from .kept .1 .1 .1 .1 .1 .0 ∙ c .before .before .before .before .before .before .before .before .before .before .before .before .before .before .before .before .before .before .before .append .kept .1 .1 .0 ∙ c .before .before .before .before .before .before .before .before .before .before .before .before .before .before .before .before .before .before .before .before .before .before .before .before .before .clear2 .kept .0)
 
 -- src/lib.rt:394:1
 same-length-4 : tie.Need-same-length-4
@@ -102,7 +102,7 @@ returns-2 c =
     let r = b .args .r in
     let hl : l < length (t .classes) = omega (arith, b .pre .2, classes-many (b .args .s .now) (b .args .im) (b .pre .0)) in
     let hr : r < length (t .classes) = omega (arith, b .pre .3, classes-many (b .args .s .now) (b .args .im) (b .pre .0)) in
-    finish-cut t l r (b .args .budget .left) (b .args .lefts .now) (b .args .rights .now) (b .args .index .now) (small-pair t (b .pre .1) l r hl hr (l, r) (hl, hr)) (b .pre .4) (b .pre .5) (b .pre .6) (c .before .before .before .before .before .before .before .before .before .before .before .before .before .before .before .before .before .before .before .before .before .before .before .before .before .before .before .before .before .before .before .before .before .before .clear2 .ensures) (c .before .before .before .before .before .before .before .before .before .before .before .before .before .before .before .before .before .before .before .before .before .before .before .before .before .before .before .before .append .ensures .0) (c .before .before .before .before .before .before .before .before .before .before .before .before .before .before .before .before .before .before .before .before .before .before .before .before .before .before .before .before .append .ensures .1) (c .before .before .before .before .before .before .before .before .before .before .before .before .before .before .before .before .before .before .before .before .before .before .before .before .before .before .before .before .append .ensures .2) (c .before .before .before .before .before .before .before .before .before .before .before .before .before .before .before .before .before .before .build-from .result) (c .before .before .before .before .before .before .before .before .before .before .before .before .before .before .before .before .before .before .build-from .ensures) (c .before .before .before .before .before .before .clear-all .ensures .0 ∙ ap (λ (k : ℕ). replicate k 0) (c .before .before .before .before .before .before .before .before .before .before .before .before .before .before .before .before .before .before .build-from .kept .1 .1 .1 .0 ∙ c .before .before .before .before .before .before .before .before .before .before .before .before .before .before .before .before .before .before .before .before .before .before .before .before .before .before .before .before .append .kept .0)) (c .before .before .before .before .before .before .clear-all .ensures .1 ∙ ap (λ (k : ℕ). replicate k 0) (c .before .before .before .before .before .before .before .before .before .before .before .before .before .before .before .before .before .before .build-from .kept .1 .1 .1 .1 .0 ∙ c .before .before .before .before .before .before .before .before .before .before .before .before .before .before .before .before .before .before .before .before .before .before .before .before .before .before .before .before .append .kept .1 .0)) (c .before .before .before .before .before .before .clear-all .ensures .2 ∙ ap (λ (k : ℕ). replicate k 0) (c .before .before .before .before .before .before .before .before .before .before .before .before .before .before .before .before .before .before .build-from .kept .1 .1 .1 .1 .1 .0 ∙ c .before .before .before .before .before .before .before .before .before .before .before .before .before .before .before .before .before .before .before .before .before .before .before .before .before .before .before .before .append .kept .1 .1 .0 ∙ c .before .before .before .before .before .before .before .before .before .before .before .before .before .before .before .before .before .before .before .before .before .before .before .before .before .before .before .before .before .before .before .before .before .before .clear2 .kept .0)) (c .before .before .before .before .before .before .before .before .before .before .enum-told .given .1)
+    finish-cut t l r (b .args .budget .left) (b .args .lefts .now) (b .args .rights .now) (b .args .index .now) (small-pair t (b .pre .1) l r hl hr (length (b .args .index .now)) (omega (arith, b .pre .6, classes-many (b .args .s .now) (b .args .im) (b .pre .0))) (l, r) (hl, hr)) (b .pre .4) (b .pre .5) (c .before .before .before .before .before .before .before .before .before .before .before .before .before .before .before .before .before .before .before .before .before .before .before .before .before .before .before .before .before .before .before .before .before .before .clear2 .ensures) (c .before .before .before .before .before .before .before .before .before .before .before .before .before .before .before .before .before .before .before .before .before .before .before .before .before .before .before .before .append .ensures .0) (c .before .before .before .before .before .before .before .before .before .before .before .before .before .before .before .before .before .before .before .before .before .before .before .before .before .before .before .before .append .ensures .1) (c .before .before .before .before .before .before .before .before .before .before .before .before .before .before .before .before .before .before .before .before .before .before .before .before .before .before .before .before .append .ensures .2) (c .before .before .before .before .before .before .before .before .before .before .before .before .before .before .before .before .before .before .build-from .result) (c .before .before .before .before .before .before .before .before .before .before .before .before .before .before .before .before .before .before .build-from .ensures) (c .before .before .before .before .before .before .clear-all .ensures .0 ∙ ap (λ (k : ℕ). replicate k 0) (c .before .before .before .before .before .before .before .before .before .before .before .before .before .before .before .before .before .before .build-from .kept .1 .1 .1 .0 ∙ c .before .before .before .before .before .before .before .before .before .before .before .before .before .before .before .before .before .before .before .before .before .before .before .before .before .before .before .before .append .kept .0)) (c .before .before .before .before .before .before .clear-all .ensures .1 ∙ ap (λ (k : ℕ). replicate k 0) (c .before .before .before .before .before .before .before .before .before .before .before .before .before .before .before .before .before .before .build-from .kept .1 .1 .1 .1 .0 ∙ c .before .before .before .before .before .before .before .before .before .before .before .before .before .before .before .before .before .before .before .before .before .before .before .before .before .before .before .before .append .kept .1 .0)) (c .before .before .before .before .before .before .clear-all .ensures .2 ∙ ap (λ (k : ℕ). replicate k 0) (c .before .before .before .before .before .before .before .before .before .before .before .before .before .before .before .before .before .before .build-from .kept .1 .1 .1 .1 .1 .0 ∙ c .before .before .before .before .before .before .before .before .before .before .before .before .before .before .before .before .before .before .before .before .before .before .before .before .before .before .before .before .append .kept .1 .1 .0 ∙ c .before .before .before .before .before .before .before .before .before .before .before .before .before .before .before .before .before .before .before .before .before .before .before .before .before .before .before .before .before .before .before .before .before .before .clear2 .kept .0)) (c .before .before .before .before .before .before .before .before .before .before .enum-told .given .1)
 
 -- src/lib.rt:394:1
 same-length-7 : tie.Need-same-length-7
@@ -125,7 +125,7 @@ returns-3 c =
     let r = b .args .r in
     let hl : l < length (t .classes) = omega (arith, b .pre .2, classes-many (b .args .s .now) (b .args .im) (b .pre .0)) in
     let hr : r < length (t .classes) = omega (arith, b .pre .3, classes-many (b .args .s .now) (b .args .im) (b .pre .0)) in
-    finish-full t l r (b .args .budget .left) (b .args .lefts .now) (b .args .rights .now) (b .args .index .now) (small-pair t (b .pre .1) l r hl hr (l, r) (hl, hr)) (b .pre .4) (b .pre .5) (b .pre .6) (c .before .before .before .before .before .before .before .before .before .before .before .before .before .before .before .before .before .before .before .before .before .before .before .before .before .before .before .before .before .before .before .before .before .before .clear2 .ensures) (c .before .before .before .before .before .before .before .before .before .before .before .before .before .before .before .before .before .before .before .before .before .before .before .before .before .before .before .before .append .ensures .0) (c .before .before .before .before .before .before .before .before .before .before .before .before .before .before .before .before .before .before .before .before .before .before .before .before .before .before .before .before .append .ensures .1) (c .before .before .before .before .before .before .before .before .before .before .before .before .before .before .before .before .before .before .before .before .before .before .before .before .before .before .before .before .append .ensures .2) (c .before .before .before .before .before .before .before .before .before .before .before .before .before .before .before .before .before .before .build-from .result) (c .before .before .before .before .before .before .before .before .before .before .before .before .before .before .before .before .before .before .build-from .ensures) (c .before .before .before .before .before .before .clear-all2 .ensures .0 ∙ ap (λ (k : ℕ). replicate k 0) (c .before .before .before .before .before .before .before .before .before .before .before .before .before .before .before .before .before .before .build-from .kept .1 .1 .1 .0 ∙ c .before .before .before .before .before .before .before .before .before .before .before .before .before .before .before .before .before .before .before .before .before .before .before .before .before .before .before .before .append .kept .0)) (c .before .before .before .before .before .before .clear-all2 .ensures .1 ∙ ap (λ (k : ℕ). replicate k 0) (c .before .before .before .before .before .before .before .before .before .before .before .before .before .before .before .before .before .before .build-from .kept .1 .1 .1 .1 .0 ∙ c .before .before .before .before .before .before .before .before .before .before .before .before .before .before .before .before .before .before .before .before .before .before .before .before .before .before .before .before .append .kept .1 .0)) (c .before .before .before .before .before .before .clear-all2 .ensures .2 ∙ ap (λ (k : ℕ). replicate k 0) (c .before .before .before .before .before .before .before .before .before .before .before .before .before .before .before .before .before .before .build-from .kept .1 .1 .1 .1 .1 .0 ∙ c .before .before .before .before .before .before .before .before .before .before .before .before .before .before .before .before .before .before .before .before .before .before .before .before .before .before .before .before .append .kept .1 .1 .0 ∙ c .before .before .before .before .before .before .before .before .before .before .before .before .before .before .before .before .before .before .before .before .before .before .before .before .before .before .before .before .before .before .before .before .before .before .clear2 .kept .0)) (c .before .before .before .before .before .before .before .before .before .before .enum-told2 .given .1)
+    finish-full t l r (b .args .budget .left) (b .args .lefts .now) (b .args .rights .now) (b .args .index .now) (small-pair t (b .pre .1) l r hl hr (length (b .args .index .now)) (omega (arith, b .pre .6, classes-many (b .args .s .now) (b .args .im) (b .pre .0))) (l, r) (hl, hr)) (b .pre .4) (b .pre .5) (c .before .before .before .before .before .before .before .before .before .before .before .before .before .before .before .before .before .before .before .before .before .before .before .before .before .before .before .before .before .before .before .before .before .before .clear2 .ensures) (c .before .before .before .before .before .before .before .before .before .before .before .before .before .before .before .before .before .before .before .before .before .before .before .before .before .before .before .before .append .ensures .0) (c .before .before .before .before .before .before .before .before .before .before .before .before .before .before .before .before .before .before .before .before .before .before .before .before .before .before .before .before .append .ensures .1) (c .before .before .before .before .before .before .before .before .before .before .before .before .before .before .before .before .before .before .before .before .before .before .before .before .before .before .before .before .append .ensures .2) (c .before .before .before .before .before .before .before .before .before .before .before .before .before .before .before .before .before .before .build-from .result) (c .before .before .before .before .before .before .before .before .before .before .before .before .before .before .before .before .before .before .build-from .ensures) (c .before .before .before .before .before .before .clear-all2 .ensures .0 ∙ ap (λ (k : ℕ). replicate k 0) (c .before .before .before .before .before .before .before .before .before .before .before .before .before .before .before .before .before .before .build-from .kept .1 .1 .1 .0 ∙ c .before .before .before .before .before .before .before .before .before .before .before .before .before .before .before .before .before .before .before .before .before .before .before .before .before .before .before .before .append .kept .0)) (c .before .before .before .before .before .before .clear-all2 .ensures .1 ∙ ap (λ (k : ℕ). replicate k 0) (c .before .before .before .before .before .before .before .before .before .before .before .before .before .before .before .before .before .before .build-from .kept .1 .1 .1 .1 .0 ∙ c .before .before .before .before .before .before .before .before .before .before .before .before .before .before .before .before .before .before .before .before .before .before .before .before .before .before .before .before .append .kept .1 .0)) (c .before .before .before .before .before .before .clear-all2 .ensures .2 ∙ ap (λ (k : ℕ). replicate k 0) (c .before .before .before .before .before .before .before .before .before .before .before .before .before .before .before .before .before .before .build-from .kept .1 .1 .1 .1 .1 .0 ∙ c .before .before .before .before .before .before .before .before .before .before .before .before .before .before .before .before .before .before .before .before .before .before .before .before .before .before .before .before .append .kept .1 .1 .0 ∙ c .before .before .before .before .before .before .before .before .before .before .before .before .before .before .before .before .before .before .before .before .before .before .before .before .before .before .before .before .before .before .before .before .before .before .clear2 .kept .0)) (c .before .before .before .before .before .before .before .before .before .before .enum-told2 .given .1)
 
 pub build-spec : {M : Type 1} → statement M
 build-spec =

@@ -71,7 +71,7 @@ enter-joins-requires c κs =
     let t = tablesOf (b .args .s .now) in
     let d = c .before .before .before .before .before .before .before .before .before .before .before .before .loop .inv .0 in
     let p = turning-pair t d (c .before .before .before .before .before .before .before .before .before .before .before .loop-test .taken) (c .before .before .before .before .before .number .result) (c .before .before .before .number2 .result) (c .before .before .before .before .before .number .ensures .0) (c .before .before .before .number2 .ensures .0) in
-    (b .pre .0, b .pre .1, omega (arith, p .0, classes-many (b .args .s .now) (b .args .im) (b .pre .0)), omega (arith, p .1, classes-many (b .args .s .now) (b .args .im) (b .pre .0)), d .graph)
+    (b .pre .0, b .pre .1, omega (arith, p .0, classes-many (b .args .s .now) (b .args .im) (b .pre .0)), omega (arith, p .1, classes-many (b .args .s .now) (b .args .im) (b .pre .0)), d .graph, omega (arith, b .pre .4, c .before .before .before .before .before .before .before .before .before .before .before .before .loop .inv .3))
 
 -- src/lib.rt:381:17
 enum-told : tie.Need-enum-told Inv-loop μ-loop

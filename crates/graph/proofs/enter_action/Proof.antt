@@ -51,7 +51,7 @@ enter-pair-requires c κs =
     let ps = actionAt (tablesOf (b .args .s .now)) (b .args .v) .pairs in
     let h : c .before .before .before .before .before .before .loop .k < length ps = omega (arith, c .before .before .before .before .before .before .before .count .ensures .0, c .before .before .before .before .before .loop-test .taken) in
     let p = going-small (c .before .before .before .before .before .before .loop .inv .1) ((c .before .before .before .before .left-class .result, c .before .before .before .right-class .result) ∷ []) (drop (c .before .before .before .before .before .before .loop .k + 1) ps) (pair-next ps (c .before .before .before .before .before .before .loop .k) (c .before .before .before .before .left-class .result) (c .before .before .before .right-class .result) h (c .before .before .before .before .left-class .ensures .0) (c .before .before .before .right-class .ensures .0)) (c .before .before .before .before .left-class .result, c .before .before .before .right-class .result) here in
-    (c .before .before .before .before .before .before .loop .inv .1 .graph, p .0, p .1)
+    (c .before .before .before .before .before .before .loop .inv .1 .graph, p)
 
 -- src/lib.rt:167:17
 enum-told : tie.Need-enum-told Inv-loop μ-loop
@@ -95,7 +95,7 @@ loop-again c =
     let b = c .before .before .before .before .before .before .before .before .before .before .before .before .before .before .before .before .before .before .before .before .before .before in
     let ps = actionAt (tablesOf (b .args .s .now)) (b .args .v) .pairs in
     let h : c .before .before .before .before .before .before .before .before .before .before .before .before .before .before .before .before .loop .k < length ps = omega (arith, c .before .before .before .before .before .before .before .before .before .before .before .before .before .before .before .before .before .count .ensures .0, c .before .before .before .before .before .before .before .before .before .before .before .before .before .before .before .loop-test .taken) in
-    (omega (arith, c .before .before .before .before .before .before .before .before .before .before .before .before .before .before .before .loop-test .taken), going-on (c .before .before .before .before .before .before .before .before .before .before .before .before .before .before .before .before .loop .inv .1) ((c .before .before .before .before .before .before .before .before .before .before .before .before .before .before .left-class .result, c .before .before .before .before .before .before .before .before .before .before .before .before .before .right-class .result) ∷ []) (drop (c .before .before .before .before .before .before .before .before .before .before .before .before .before .before .before .before .loop .k + 1) ps) (pair-next ps (c .before .before .before .before .before .before .before .before .before .before .before .before .before .before .before .before .loop .k) (c .before .before .before .before .before .before .before .before .before .before .before .before .before .before .left-class .result) (c .before .before .before .before .before .before .before .before .before .before .before .before .before .right-class .result) h (c .before .before .before .before .before .before .before .before .before .before .before .before .before .before .left-class .ensures .0) (c .before .before .before .before .before .before .before .before .before .before .before .before .before .right-class .ensures .0)) (c .before .before .before .before .before .before .before .before .before .enter-pair .result) (c .before .before .before .before .before .before .before .before .before .enter-pair .ensures) (c .before .m .given .1), omega (arith, c .before .before .before .before .before .before .before .before .before .before .before .before .before .before .before .before .loop .inv .2, c .before .before .before .before .before .before .before .before .before .enter-pair .kept), omega (arith, c .before .before .before .before .before .before .before .before .before .before .before .before .before .before .before .before .loop .inv .3, c .before .before .before .before .before .before .before .before .before .enter-pair .kept), omega (arith, c .before .before .before .before .before .before .before .before .before .before .before .before .before .before .before .before .loop .inv .4, c .before .before .before .before .before .before .before .before .before .enter-pair .kept))
+    (omega (arith, c .before .before .before .before .before .before .before .before .before .before .before .before .before .before .before .loop-test .taken), going-on (c .before .before .before .before .before .before .before .before .before .before .before .before .before .before .before .before .loop .inv .1) ((c .before .before .before .before .before .before .before .before .before .before .before .before .before .before .left-class .result, c .before .before .before .before .before .before .before .before .before .before .before .before .before .right-class .result) ∷ []) (drop (c .before .before .before .before .before .before .before .before .before .before .before .before .before .before .before .before .loop .k + 1) ps) (pair-next ps (c .before .before .before .before .before .before .before .before .before .before .before .before .before .before .before .before .loop .k) (c .before .before .before .before .before .before .before .before .before .before .before .before .before .before .left-class .result) (c .before .before .before .before .before .before .before .before .before .before .before .before .before .right-class .result) h (c .before .before .before .before .before .before .before .before .before .before .before .before .before .before .left-class .ensures .0) (c .before .before .before .before .before .before .before .before .before .before .before .before .before .right-class .ensures .0)) (c .before .before .before .before .before .before .before .before .before .enter-pair .result) (c .before .before .before .before .before .before .before .before .before .enter-pair .ensures) (c .before .m .given .1) (omega (arith, c .before .before .before .before .before .before .before .before .before .enter-pair .kept)), omega (arith, c .before .before .before .before .before .before .before .before .before .before .before .before .before .before .before .before .loop .inv .2, c .before .before .before .before .before .before .before .before .before .enter-pair .kept), omega (arith, c .before .before .before .before .before .before .before .before .before .before .before .before .before .before .before .before .loop .inv .3, c .before .before .before .before .before .before .before .before .before .enter-pair .kept), omega (arith, c .before .before .before .before .before .before .before .before .before .before .before .before .before .before .before .before .loop .inv .4, c .before .before .before .before .before .before .before .before .before .enter-pair .kept))
 
 -- src/lib.rt:147:1
 same-length-4 : tie.Need-same-length-4 Inv-loop μ-loop

@@ -30,7 +30,7 @@ loop-holds : tie.Need-loop-holds Inv-loop μ-loop
 loop-holds c =
     let b = c .before .before .before .before .before in
     let t = tablesOf (b .args .s .now) in
-    (going-same (going-start (pairsOf (structural t (b .args .l) (b .args .r))) (b .pre .4) (structural-small t (b .pre .1) (b .args .l) (b .args .r) (omega (arith, b .pre .2, classes-many (b .args .s .now) (b .args .im) (b .pre .0))) (omega (arith, b .pre .3, classes-many (b .args .s .now) (b .args .im) (b .pre .0))))) (pairsOf (listFrom t (b .args .l) (b .args .r) (c .start .result))) (ap pairsOf (sym (c .start .ensures))), refl, refl, refl)
+    (going-same (going-start (pairsOf (structural t (b .args .l) (b .args .r))) (b .pre .4) (structural-small t (b .pre .1) (b .args .l) (b .args .r) (omega (arith, b .pre .2, classes-many (b .args .s .now) (b .args .im) (b .pre .0))) (omega (arith, b .pre .3, classes-many (b .args .s .now) (b .args .im) (b .pre .0))) (length (b .args .index .now)) (omega (arith, b .pre .5, classes-many (b .args .s .now) (b .args .im) (b .pre .0))))) (pairsOf (listFrom t (b .args .l) (b .args .r) (c .start .result))) (ap pairsOf (sym (c .start .ensures))), refl, refl, refl)
 
 -- src/lib.rt:195:15
 seek-requires : tie.Need-seek-requires Inv-loop μ-loop
@@ -116,7 +116,7 @@ loop-again : tie.Need-loop-again Inv-loop μ-loop
 loop-again c =
     let b = c .before .before .before .before .before .before .before .before .before .before .before .before .before .before .before .before .before .before .before .before .before .before .before .before in
     let t = tablesOf (b .args .s .now) in
-    (going-same (going-on (c .before .before .before .before .before .before .before .before .before .before .before .before .before .before .before .before .before .before .loop .inv .0) (actionAt t (c .before .before .before .before .before .before .before .before .before .before .before .before .before .before .before .w .given .0 .0) .pairs) (pairsOf (listFrom t (b .args .l) (b .args .r) (afterOf (c .before .before .before .before .before .before .before .before .before .before .before .before .before .before .before .w .given .0 .0)))) (actions-next t (b .args .l) (b .args .r) (c .before .before .before .before .before .before .before .before .before .before .before .before .before .before .before .before .before .before .loop .v) (c .before .before .before .before .before .before .before .before .before .before .before .before .before .before .before .before .before .seek .result) (c .before .before .before .before .before .before .before .before .before .before .before .before .before .before .before .before .before .seek .ensures .0) (c .before .before .before .before .before .before .before .before .before .before .before .before .before .before .before .w .given .0 .0) (c .before .before .before .before .before .before .before .before .before .before .before .before .before .before .before .w .given .1)) (c .before .before .before .before .before .before .before .before .before .before .enter-action .result) (c .before .before .before .before .before .before .before .before .before .before .enter-action .ensures) (c .before .before .m .given .1)) (pairsOf (listFrom t (b .args .l) (b .args .r) (c .after .result))) (ap (λ (x : State). pairsOf (listFrom t (b .args .l) (b .args .r) x)) (sym (c .after .ensures))), omega (arith, c .before .before .before .before .before .before .before .before .before .before .before .before .before .before .before .before .before .before .loop .inv .1, c .before .before .before .before .before .before .before .before .before .before .enter-action .kept), omega (arith, c .before .before .before .before .before .before .before .before .before .before .before .before .before .before .before .before .before .before .loop .inv .2, c .before .before .before .before .before .before .before .before .before .before .enter-action .kept), omega (arith, c .before .before .before .before .before .before .before .before .before .before .before .before .before .before .before .before .before .before .loop .inv .3, c .before .before .before .before .before .before .before .before .before .before .enter-action .kept))
+    (going-same (going-on (c .before .before .before .before .before .before .before .before .before .before .before .before .before .before .before .before .before .before .loop .inv .0) (actionAt t (c .before .before .before .before .before .before .before .before .before .before .before .before .before .before .before .w .given .0 .0) .pairs) (pairsOf (listFrom t (b .args .l) (b .args .r) (afterOf (c .before .before .before .before .before .before .before .before .before .before .before .before .before .before .before .w .given .0 .0)))) (actions-next t (b .args .l) (b .args .r) (c .before .before .before .before .before .before .before .before .before .before .before .before .before .before .before .before .before .before .loop .v) (c .before .before .before .before .before .before .before .before .before .before .before .before .before .before .before .before .before .seek .result) (c .before .before .before .before .before .before .before .before .before .before .before .before .before .before .before .before .before .seek .ensures .0) (c .before .before .before .before .before .before .before .before .before .before .before .before .before .before .before .w .given .0 .0) (c .before .before .before .before .before .before .before .before .before .before .before .before .before .before .before .w .given .1)) (c .before .before .before .before .before .before .before .before .before .before .enter-action .result) (c .before .before .before .before .before .before .before .before .before .before .enter-action .ensures) (c .before .before .m .given .1) (omega (arith, c .before .before .before .before .before .before .before .before .before .before .enter-action .kept))) (pairsOf (listFrom t (b .args .l) (b .args .r) (c .after .result))) (ap (λ (x : State). pairsOf (listFrom t (b .args .l) (b .args .r) x)) (sym (c .after .ensures))), omega (arith, c .before .before .before .before .before .before .before .before .before .before .before .before .before .before .before .before .before .before .loop .inv .1, c .before .before .before .before .before .before .before .before .before .before .enter-action .kept), omega (arith, c .before .before .before .before .before .before .before .before .before .before .before .before .before .before .before .before .before .before .loop .inv .2, c .before .before .before .before .before .before .before .before .before .before .enter-action .kept), omega (arith, c .before .before .before .before .before .before .before .before .before .before .before .before .before .before .before .before .before .before .loop .inv .3, c .before .before .before .before .before .before .before .before .before .before .enter-action .kept))
 
 pub enter-actions-spec : {M : Type 1} → statement M
 enter-actions-spec =

@@ -89,7 +89,7 @@ loop-again c =
     let b = c .before .before .before .before .before .before .before .before .before .before .before .before .before .before .before .before .before .before .before .before .before .before in
     let ls = b .args .left .now in
     let rs = b .args .right .now in
-    (omega (arith, c .before .before .before .before .before .before .before .before .before .before .before .before .before .before .before .loop-test .taken), going-on (c .before .before .before .before .before .before .before .before .before .before .before .before .before .before .before .before .loop .inv .1) (rowFrom (c .before .before .before .before .before .before .before .before .before .before .before .before .before .short .result) (b .args .cols) rs 0) (cellsFrom (b .args .rows) ls (b .args .cols) rs (c .before .before .before .before .before .before .before .before .before .before .before .before .before .before .before .before .loop .i + 1)) (cells-next (b .args .rows) ls (b .args .cols) rs (b .pre .0) (b .pre .1) (c .before .before .before .before .before .before .before .before .before .before .before .before .before .before .before .before .loop .i) (c .before .before .before .before .before .before .before .before .before .before .before .before .before .short .result) (c .before .before .before .before .before .before .before .before .before .before .before .before .before .before .class-at .result) (c .before .before .before .before .before .before .before .before .before .before .before .before .before .before .before .loop-test .taken) (c .before .before .before .before .before .before .before .before .before .before .before .before .before .short .ensures) (c .before .before .before .before .before .before .before .before .before .before .before .before .before .before .class-at .ensures)) (c .before .before .before .before .before .before .before .before .before .enter-row .result) (c .before .before .before .before .before .before .before .before .before .enter-row .ensures) (c .before .m .given .1), omega (arith, c .before .before .before .before .before .before .before .before .before .before .before .before .before .before .before .before .loop .inv .2, c .before .before .before .before .before .before .before .before .before .enter-row .kept), omega (arith, c .before .before .before .before .before .before .before .before .before .before .before .before .before .before .before .before .loop .inv .3, c .before .before .before .before .before .before .before .before .before .enter-row .kept), omega (arith, c .before .before .before .before .before .before .before .before .before .before .before .before .before .before .before .before .loop .inv .4, c .before .before .before .before .before .before .before .before .before .enter-row .kept))
+    (omega (arith, c .before .before .before .before .before .before .before .before .before .before .before .before .before .before .before .loop-test .taken), going-on (c .before .before .before .before .before .before .before .before .before .before .before .before .before .before .before .before .loop .inv .1) (rowFrom (c .before .before .before .before .before .before .before .before .before .before .before .before .before .short .result) (b .args .cols) rs 0) (cellsFrom (b .args .rows) ls (b .args .cols) rs (c .before .before .before .before .before .before .before .before .before .before .before .before .before .before .before .before .loop .i + 1)) (cells-next (b .args .rows) ls (b .args .cols) rs (b .pre .0) (b .pre .1) (c .before .before .before .before .before .before .before .before .before .before .before .before .before .before .before .before .loop .i) (c .before .before .before .before .before .before .before .before .before .before .before .before .before .short .result) (c .before .before .before .before .before .before .before .before .before .before .before .before .before .before .class-at .result) (c .before .before .before .before .before .before .before .before .before .before .before .before .before .before .before .loop-test .taken) (c .before .before .before .before .before .before .before .before .before .before .before .before .before .short .ensures) (c .before .before .before .before .before .before .before .before .before .before .before .before .before .before .class-at .ensures)) (c .before .before .before .before .before .before .before .before .before .enter-row .result) (c .before .before .before .before .before .before .before .before .before .enter-row .ensures) (c .before .m .given .1) (omega (arith, c .before .before .before .before .before .before .before .before .before .enter-row .kept)), omega (arith, c .before .before .before .before .before .before .before .before .before .before .before .before .before .before .before .before .loop .inv .2, c .before .before .before .before .before .before .before .before .before .enter-row .kept), omega (arith, c .before .before .before .before .before .before .before .before .before .before .before .before .before .before .before .before .loop .inv .3, c .before .before .before .before .before .before .before .before .before .enter-row .kept), omega (arith, c .before .before .before .before .before .before .before .before .before .before .before .before .before .before .before .before .loop .inv .4, c .before .before .before .before .before .before .before .before .before .enter-row .kept))
 
 -- src/lib.rt:246:1
 same-length-4 : tie.Need-same-length-4 Inv-loop μ-loop

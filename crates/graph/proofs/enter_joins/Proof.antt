@@ -3,8 +3,8 @@ use Rattle.graph.specs.JoinLaws.{pairsOf, cellsOf, joins-small, joins-ar
 use Rattle.image.specs.Loaded.{classes-many}
 use Rattle.spec.specs.Image.{tablesOf}
 use Rattle.graph.specs.GrowLaws.{going-start, going-on, going-full, going-last}
-use Prim.Native.Nat.{_-_}
 use native.Mathlib.Omega.{arith}
+use lib.ListN.{length}
 use borrow.Author.Needs.{needs}
 use Rattle.graph.proofs.enter_joins.Statement.{statement}
 use Rattle.graph.proofs.enter_joins.Tie as tie
@@ -28,8 +28,8 @@ enter-transports-requires c κs =
     let t = tablesOf (b .args .s .now) in
     let l = b .args .l in
     let r = b .args .r in
-    let d = going-start (joins t (l, r)) (b .pre .4) (joins-small t (b .pre .1) l r (omega (arith, b .pre .2, classes-many (b .args .s .now) (b .args .im) (b .pre .0))) (omega (arith, b .pre .3, classes-many (b .args .s .now) (b .args .im) (b .pre .0)))) in
-    (b .pre .0, b .pre .1, b .pre .2, b .pre .3, going-on d (pairsOf (structural t l r)) (cellsOf (transports t l r)) (joins-are t l r) (c .before .before .before .before .before .before .before .before .before .before .before .before .enter-actions .result) (c .before .before .before .before .before .before .before .before .before .before .before .before .enter-actions .ensures) (c .before .before .before .before .m .given .1) .graph)
+    let d = going-start (joins t (l, r)) (b .pre .4) (joins-small t (b .pre .1) l r (omega (arith, b .pre .2, classes-many (b .args .s .now) (b .args .im) (b .pre .0))) (omega (arith, b .pre .3, classes-many (b .args .s .now) (b .args .im) (b .pre .0))) (length (b .args .index .now)) (omega (arith, b .pre .5, classes-many (b .args .s .now) (b .args .im) (b .pre .0)))) in
+    (b .pre .0, b .pre .1, b .pre .2, b .pre .3, going-on d (pairsOf (structural t l r)) (cellsOf (transports t l r)) (joins-are t l r) (c .before .before .before .before .before .before .before .before .before .before .before .before .enter-actions .result) (c .before .before .before .before .before .before .before .before .before .before .before .before .enter-actions .ensures) (c .before .before .before .before .m .given .1) (omega (arith, c .before .before .before .before .before .before .before .before .before .before .before .before .enter-actions .kept)) .graph, omega (arith, b .pre .5, c .before .before .before .before .before .before .before .before .before .before .before .before .enter-actions .kept))
 
 -- src/lib.rt:337:1
 same-length : tie.Need-same-length
@@ -50,7 +50,7 @@ returns c =
     let t = tablesOf (b .args .s .now) in
     let l = b .args .l in
     let r = b .args .r in
-    let d = going-start (joins t (l, r)) (b .pre .4) (joins-small t (b .pre .1) l r (omega (arith, b .pre .2, classes-many (b .args .s .now) (b .args .im) (b .pre .0))) (omega (arith, b .pre .3, classes-many (b .args .s .now) (b .args .im) (b .pre .0)))) in
+    let d = going-start (joins t (l, r)) (b .pre .4) (joins-small t (b .pre .1) l r (omega (arith, b .pre .2, classes-many (b .args .s .now) (b .args .im) (b .pre .0))) (omega (arith, b .pre .3, classes-many (b .args .s .now) (b .args .im) (b .pre .0))) (length (b .args .index .now)) (omega (arith, b .pre .5, classes-many (b .args .s .now) (b .args .im) (b .pre .0)))) in
     going-full d (pairsOf (structural t l r)) (cellsOf (transports t l r)) (joins-are t l r) (c .before .before .before .before .before .before .before .before .enter-actions .result) (c .before .before .before .before .before .before .before .before .enter-actions .ensures) (c .enum-told .given .1)
 
 -- src/lib.rt:337:1
@@ -72,8 +72,8 @@ returns-2 c =
     let t = tablesOf (b .args .s .now) in
     let l = b .args .l in
     let r = b .args .r in
-    let d = going-start (joins t (l, r)) (b .pre .4) (joins-small t (b .pre .1) l r (omega (arith, b .pre .2, classes-many (b .args .s .now) (b .args .im) (b .pre .0))) (omega (arith, b .pre .3, classes-many (b .args .s .now) (b .args .im) (b .pre .0)))) in
-    going-last (going-on d (pairsOf (structural t l r)) (cellsOf (transports t l r)) (joins-are t l r) (c .before .before .before .before .before .before .before .before .before .before .before .before .before .before .before .before .before .before .before .enter-actions .result) (c .before .before .before .before .before .before .before .before .before .before .before .before .before .before .before .before .before .before .before .enter-actions .ensures) (c .before .before .before .before .before .before .before .before .before .before .before .m .given .1)) (c .before .before .before .before .before .before .enter-transports .result) (c .before .before .before .before .before .before .enter-transports .ensures)
+    let d = going-start (joins t (l, r)) (b .pre .4) (joins-small t (b .pre .1) l r (omega (arith, b .pre .2, classes-many (b .args .s .now) (b .args .im) (b .pre .0))) (omega (arith, b .pre .3, classes-many (b .args .s .now) (b .args .im) (b .pre .0))) (length (b .args .index .now)) (omega (arith, b .pre .5, classes-many (b .args .s .now) (b .args .im) (b .pre .0)))) in
+    going-last (going-on d (pairsOf (structural t l r)) (cellsOf (transports t l r)) (joins-are t l r) (c .before .before .before .before .before .before .before .before .before .before .before .before .before .before .before .before .before .before .before .enter-actions .result) (c .before .before .before .before .before .before .before .before .before .before .before .before .before .before .before .before .before .before .before .enter-actions .ensures) (c .before .before .before .before .before .before .before .before .before .before .before .m .given .1) (omega (arith, c .before .before .before .before .before .before .before .before .before .before .before .before .before .before .before .before .before .before .before .enter-actions .kept))) (c .before .before .before .before .before .before .enter-transports .result) (c .before .before .before .before .before .before .enter-transports .ensures) (omega (arith, c .before .before .before .before .before .before .enter-transports .kept))
 
 pub enter-joins-spec : {M : Type 1} → statement M
 enter-joins-spec =

@@ -43,7 +43,7 @@ returns-2 c = let b = c .before .before .before .before .before .before .before 
 
 -- src/lib.rt:141:5
 append-requires : tie.Need-append-requires
-append-requires c κs = let b = c .before .before .before .before .before .before .before .before .before .before .before .before in (c .before .before .before .if2 .left, b .pre .0 .roomLeft, b .pre .0 .roomRight, b .pre .0 .roomIndex, b .pre .1, b .pre .2)
+append-requires c κs = let b = c .before .before .before .before .before .before .before .before .before .before .before .before in (c .before .before .before .if2 .left, b .pre .0 .roomLeft, b .pre .0 .roomRight, b .pre .1)
 
 -- src/lib.rt:142:15
 add-t22 : tie.Need-add-t22
@@ -63,7 +63,7 @@ same-length-9 c = search needs
 
 -- src/lib.rt:124:1
 returns-3 : tie.Need-returns-3
-returns-3 c = let b = c .before .before .before .before .before .before .before .before .before .before .before .before .before .before .before .before .before .before .before in appends (b .pre .0) (b .args .l) (b .args .r) (b .pre .1) (b .pre .2) (c .before .before .before .before .before .before .before .before .before .before .if2 .left) (sym (c .before .before .before .before .before .before .before .before .before .before .before .if1 .left) ∙ c .before .before .before .before .before .before .before .before .before .before .before .before .known .ensures) (c .before .before .before .before .before .before .append .ensures .0) (c .before .before .before .before .before .before .append .ensures .1) (c .before .before .before .before .before .before .append .ensures .2)
+returns-3 c = let b = c .before .before .before .before .before .before .before .before .before .before .before .before .before .before .before .before .before .before .before in appends (b .pre .0) (b .args .l) (b .args .r) (b .pre .1) (c .before .before .before .before .before .before .before .before .before .before .if2 .left) (sym (c .before .before .before .before .before .before .before .before .before .before .before .if1 .left) ∙ c .before .before .before .before .before .before .before .before .before .before .before .before .known .ensures) (c .before .before .before .before .before .before .append .ensures .0) (c .before .before .before .before .before .before .append .ensures .1) (c .before .before .before .before .before .before .append .ensures .2)
 
 pub enter-pair-spec : {M : Type 1} → statement M
 enter-pair-spec =

@@ -39,7 +39,7 @@ enter-pair-requires c κs =
     let b = c .before .before .before .before .before .before .before .before .before .before .before in
     let ls = b .args .right .now in
     let p = going-small (c .before .before .before .before .before .before .loop .inv .1) ((b .args .l, c .before .before .before .short .result) ∷ []) (rowFrom (b .args .l) (b .args .cols) ls (c .before .before .before .before .before .before .loop .j + 1)) (row-next (b .args .l) (b .args .cols) ls (b .pre .0) (b .pre .1) (c .before .before .before .before .before .before .loop .j) (c .before .before .before .short .result) (c .before .before .before .before .class-at .result) (c .before .before .before .before .before .loop-test .taken) (c .before .before .before .short .ensures) (c .before .before .before .before .class-at .ensures)) (b .args .l, c .before .before .before .short .result) here in
-    (c .before .before .before .before .before .before .loop .inv .1 .graph, p .0, p .1)
+    (c .before .before .before .before .before .before .loop .inv .1 .graph, p)
 
 -- src/lib.rt:234:17
 enum-told : tie.Need-enum-told Inv-loop μ-loop
@@ -81,7 +81,7 @@ loop-again : tie.Need-loop-again Inv-loop μ-loop
 loop-again c =
     let b = c .before .before .before .before .before .before .before .before .before .before .before .before .before .before .before .before .before .before .before .before .before in
     let ls = b .args .right .now in
-    (omega (arith, c .before .before .before .before .before .before .before .before .before .before .before .before .before .before .before .loop-test .taken), going-on (c .before .before .before .before .before .before .before .before .before .before .before .before .before .before .before .before .loop .inv .1) ((b .args .l, c .before .before .before .before .before .before .before .before .before .before .before .before .before .short .result) ∷ []) (rowFrom (b .args .l) (b .args .cols) ls (c .before .before .before .before .before .before .before .before .before .before .before .before .before .before .before .before .loop .j + 1)) (row-next (b .args .l) (b .args .cols) ls (b .pre .0) (b .pre .1) (c .before .before .before .before .before .before .before .before .before .before .before .before .before .before .before .before .loop .j) (c .before .before .before .before .before .before .before .before .before .before .before .before .before .short .result) (c .before .before .before .before .before .before .before .before .before .before .before .before .before .before .class-at .result) (c .before .before .before .before .before .before .before .before .before .before .before .before .before .before .before .loop-test .taken) (c .before .before .before .before .before .before .before .before .before .before .before .before .before .short .ensures) (c .before .before .before .before .before .before .before .before .before .before .before .before .before .before .class-at .ensures)) (c .before .before .before .before .before .before .before .before .before .enter-pair .result) (c .before .before .before .before .before .before .before .before .before .enter-pair .ensures) (c .before .m .given .1), omega (arith, c .before .before .before .before .before .before .before .before .before .before .before .before .before .before .before .before .loop .inv .2, c .before .before .before .before .before .before .before .before .before .enter-pair .kept), omega (arith, c .before .before .before .before .before .before .before .before .before .before .before .before .before .before .before .before .loop .inv .3, c .before .before .before .before .before .before .before .before .before .enter-pair .kept), omega (arith, c .before .before .before .before .before .before .before .before .before .before .before .before .before .before .before .before .loop .inv .4, c .before .before .before .before .before .before .before .before .before .enter-pair .kept))
+    (omega (arith, c .before .before .before .before .before .before .before .before .before .before .before .before .before .before .before .loop-test .taken), going-on (c .before .before .before .before .before .before .before .before .before .before .before .before .before .before .before .before .loop .inv .1) ((b .args .l, c .before .before .before .before .before .before .before .before .before .before .before .before .before .short .result) ∷ []) (rowFrom (b .args .l) (b .args .cols) ls (c .before .before .before .before .before .before .before .before .before .before .before .before .before .before .before .before .loop .j + 1)) (row-next (b .args .l) (b .args .cols) ls (b .pre .0) (b .pre .1) (c .before .before .before .before .before .before .before .before .before .before .before .before .before .before .before .before .loop .j) (c .before .before .before .before .before .before .before .before .before .before .before .before .before .short .result) (c .before .before .before .before .before .before .before .before .before .before .before .before .before .before .class-at .result) (c .before .before .before .before .before .before .before .before .before .before .before .before .before .before .before .loop-test .taken) (c .before .before .before .before .before .before .before .before .before .before .before .before .before .short .ensures) (c .before .before .before .before .before .before .before .before .before .before .before .before .before .before .class-at .ensures)) (c .before .before .before .before .before .before .before .before .before .enter-pair .result) (c .before .before .before .before .before .before .before .before .before .enter-pair .ensures) (c .before .m .given .1) (omega (arith, c .before .before .before .before .before .before .before .before .before .enter-pair .kept)), omega (arith, c .before .before .before .before .before .before .before .before .before .before .before .before .before .before .before .before .loop .inv .2, c .before .before .before .before .before .before .before .before .before .enter-pair .kept), omega (arith, c .before .before .before .before .before .before .before .before .before .before .before .before .before .before .before .before .loop .inv .3, c .before .before .before .before .before .before .before .before .before .enter-pair .kept), omega (arith, c .before .before .before .before .before .before .before .before .before .before .before .before .before .before .before .before .loop .inv .4, c .before .before .before .before .before .before .before .before .before .enter-pair .kept))
 
 -- src/lib.rt:216:1
 same-length-4 : tie.Need-same-length-4 Inv-loop μ-loop

@@ -5,6 +5,7 @@ use Rattle.graph.specs.GrowLaws.{going-start, going-same, going-small, g
 use Prim.Native.Nat.{_-_}
 use mathlib.Core.Path.{_∙_}
 use mathlib.Core.List.{[], append-nil}
+use native.Mathlib.Omega.{arith}
 use borrow.Author.Needs.{needs}
 use Rattle.graph.proofs.enter_transport.Statement.{statement}
 use Rattle.graph.proofs.enter_transport.Tie as tie
@@ -81,7 +82,7 @@ returns-2 c =
     let r = b .args .r in
     let w = b .args .w in
     let d = going-start (cellsOf (actionsAt t l r w)) (b .pre .5) (b .pre .6) in
-    going-last (going-same d _ ((transport-one t l r w (c .before .before .before .before .before .before .before .before .before .before .before .before .before .before .before .before .before .monomials .result) (c .before .before .before .before .before .before .before .before .before .before .before .before .before .before .before .before .before .monomials .ensures) (c .before .before .before .before .before .before .before .before .before .before .before .before .before .rows .given .0 .0) (c .before .before .before .before .before .before .before .before .before .before .before .before .before .rows .given .0 .1 .0) (c .before .before .before .before .before .before .before .before .before .before .before .before .before .rows .given .1)) ∙ append-nil _)) (c .before .before .before .before .before .before .enter-cells .result) (c .before .before .before .before .before .before .enter-cells .ensures)
+    going-last (going-same d _ ((transport-one t l r w (c .before .before .before .before .before .before .before .before .before .before .before .before .before .before .before .before .before .monomials .result) (c .before .before .before .before .before .before .before .before .before .before .before .before .before .before .before .before .before .monomials .ensures) (c .before .before .before .before .before .before .before .before .before .before .before .before .before .rows .given .0 .0) (c .before .before .before .before .before .before .before .before .before .before .before .before .before .rows .given .0 .1 .0) (c .before .before .before .before .before .before .before .before .before .before .before .before .before .rows .given .1)) ∙ append-nil _)) (c .before .before .before .before .before .before .enter-cells .result) (c .before .before .before .before .before .before .enter-cells .ensures) (omega (arith, c .before .before .before .before .before .before .enter-cells .kept))
 
 pub enter-transport-spec : {M : Type 1} → statement M
 enter-transport-spec =

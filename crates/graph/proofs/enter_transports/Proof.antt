@@ -35,7 +35,7 @@ loop-holds c =
     let r = b .args .r in
     let hl : l < length (t .classes) = omega (arith, b .pre .2, classes-many (b .args .s .now) (b .args .im) (b .pre .0)) in
     let hr : r < length (t .classes) = omega (arith, b .pre .3, classes-many (b .args .s .now) (b .args .im) (b .pre .0)) in
-    (going-same (going-start (cellsOf (transports t l r)) (b .pre .4) (transports-small t (b .pre .1) l r hl hr)) (cellsOf (actionsLeft t l r (c .first .result))) (transports-start t l r (c .first .result) (b .pre .1) hl hr (c .first .ensures)), c .first .ensures .within, refl, refl, refl)
+    (going-same (going-start (cellsOf (transports t l r)) (b .pre .4) (transports-small t (b .pre .1) l r hl hr (length (b .args .index .now)) (omega (arith, b .pre .5, classes-many (b .args .s .now) (b .args .im) (b .pre .0))))) (cellsOf (actionsLeft t l r (c .first .result))) (transports-start t l r (c .first .result) (b .pre .1) hl hr (c .first .ensures)), c .first .ensures .within, refl, refl, refl)
 
 -- src/lib.rt:318:17
 enum-told : tie.Need-enum-told Inv-loop μ-loop
@@ -134,7 +134,7 @@ loop-again c =
     let l = b .args .l in
     let r = b .args .r in
     let w = c .before .before .before .before .before .before .before .before .before .before .before .before .before .before .before .x .given .0 .0 in
-    (going-same (going-on (c .before .before .before .before .before .before .before .before .before .before .before .before .before .before .before .before .before .loop .inv .0) (cellsOf (actionsAt t l r w)) (cellsOf (each (actionsAt t l r) (walks t l r (afterOf w)))) (transports-first t l r (c .before .before .before .before .before .before .before .before .before .before .before .before .before .before .before .before .before .loop .x) w (c .before .before .before .before .before .before .before .before .before .before .before .before .before .before .before .x .given .1)) (c .before .before .before .before .before .before .before .before .before .before .enter-transport .result) (c .before .before .before .before .before .before .before .before .before .before .enter-transport .ensures) (c .before .before .m .given .1)) (cellsOf (actionsLeft t l r (c .next .result))) (transports-later t l r w (c .next .result) (c .next .ensures)), c .next .ensures .within, omega (arith, c .before .before .before .before .before .before .before .before .before .before .before .before .before .before .before .before .before .loop .inv .2, c .before .before .before .before .before .before .before .before .before .before .enter-transport .kept), omega (arith, c .before .before .before .before .before .before .before .before .before .before .before .before .before .before .before .before .before .loop .inv .3, c .before .before .before .before .before .before .before .before .before .before .enter-transport .kept), omega (arith, c .before .before .before .before .before .before .before .before .before .before .before .before .before .before .before .before .before .loop .inv .4, c .before .before .before .before .before .before .before .before .before .before .enter-transport .kept))
+    (going-same (going-on (c .before .before .before .before .before .before .before .before .before .before .before .before .before .before .before .before .before .loop .inv .0) (cellsOf (actionsAt t l r w)) (cellsOf (each (actionsAt t l r) (walks t l r (afterOf w)))) (transports-first t l r (c .before .before .before .before .before .before .before .before .before .before .before .before .before .before .before .before .before .loop .x) w (c .before .before .before .before .before .before .before .before .before .before .before .before .before .before .before .x .given .1)) (c .before .before .before .before .before .before .before .before .before .before .enter-transport .result) (c .before .before .before .before .before .before .before .before .before .before .enter-transport .ensures) (c .before .before .m .given .1) (omega (arith, c .before .before .before .before .before .before .before .before .before .before .enter-transport .kept))) (cellsOf (actionsLeft t l r (c .next .result))) (transports-later t l r w (c .next .result) (c .next .ensures)), c .next .ensures .within, omega (arith, c .before .before .before .before .before .before .before .before .before .before .before .before .before .before .before .before .before .loop .inv .2, c .before .before .before .before .before .before .before .before .before .before .enter-transport .kept), omega (arith, c .before .before .before .before .before .before .before .before .before .before .before .before .before .before .before .before .before .loop .inv .3, c .before .before .before .before .before .before .before .before .before .before .enter-transport .kept), omega (arith, c .before .before .before .before .before .before .before .before .before .before .before .before .before .before .before .before .before .loop .inv .4, c .before .before .before .before .before .before .before .before .before .before .enter-transport .kept))
 
 pub enter-transports-spec : {M : Type 1} → statement M
 enter-transports-spec =

@@ -42,6 +42,19 @@ number-mul-if1 : (t : ℕ) → number-lts.Need-mul-if1 (
 number-mul-if1 t c = search needs
 
 -- src/lib.rt:60:8
+number-mul-if1-2 : (t : ℕ) → number-lts.Need-mul-if1-2 (
+  first-reads.Asked,
+  first-reads.Learnt,
+  child-reads.Asked,
+  child-reads.Learnt,
+  number-below t,
+  number.Post,
+  settle-reads.Asked,
+  settle-reads.Learnt,
+) (number-at t) number.Post number-Inv-loop number-μ-loop
+number-mul-if1-2 t c = search needs
+
+-- src/lib.rt:60:8
 number-slice-read-if1 : (t : ℕ) → number-lts.Need-slice-read-if1 (
   first-reads.Asked,
   first-reads.Learnt,
@@ -243,7 +256,9 @@ number-settle-requires t c κs =
     let l = c .before .before in
     let s = c .before .before .before .before .before .before .before .before .before .before in
     let a = s .args in
-    (omega (arith, l .loop .inv .walk .numbered .room), visit-room (a .terms .now) (a .runs .now) (a .marks .now) (a .n0) (a .t) (l .before .before .first .result) (s .pre .1 .0) (s .pre .1 .1) (l .loop .marks) (l .loop .i) (l .loop .n) (l .loop .inv) (omega arith) (omega arith) (s .pre .1 .2), omega (arith, s .pre .1 .0 .few, s .pre .1 .1))
+    let b = visit-room (a .terms .now) (a .runs .now) (a .marks .now) (a .n0) (a .t) (l .before .before .first .result) (s .pre .1 .0) (s .pre .1 .1) (l .loop .marks) (l .loop .i) (l .loop .n) (l .loop .inv) (omega arith) (omega arith) (s .pre .1 .2) in
+    let r = l .loop .inv .walk .numbered .room in
+    (omega (arith, b, r), omega (arith, s .pre .1 .1, r), omega (arith, b, s .pre .1 .0 .few), omega (arith, s .pre .1 .0 .few, s .pre .1 .1))
 
 -- src/lib.rt:71:5
 number-add-result : (t : ℕ) → number-lts.Need-add-result (
@@ -260,7 +275,7 @@ number-add-result t c =
     let l = c .before .before .before .before .before in
     let s = c .before .before .before .before .before .before .before .before .before .before .before .before .before in
     let a = s .args in
-    omega (arith, visit-room (a .terms .now) (a .runs .now) (a .marks .now) (a .n0) (a .t) (l .before .before .first .result) (s .pre .1 .0) (s .pre .1 .1) (l .loop .marks) (l .loop .i) (l .loop .n) (l .loop .inv) (omega arith) (omega arith) (s .pre .1 .2))
+    omega (arith, visit-room (a .terms .now) (a .runs .now) (a .marks .now) (a .n0) (a .t) (l .before .before .first .result) (s .pre .1 .0) (s .pre .1 .1) (l .loop .marks) (l .loop .i) (l .loop .n) (l .loop .inv) (omega arith) (omega arith) (s .pre .1 .2), s .pre .1 .0 .few)
 
 -- src/lib.rt:56:1
 number-same-length : (t : ℕ) → number-lts.Need-same-length (
@@ -308,6 +323,7 @@ pub +number-spec : {M : Type 1} → statement M
     number-Inv-loop
     number-μ-loop
     (number-mul-if1 t)
+    (number-mul-if1-2 t)
     (number-slice-read-if1 t)
     (number-returns t)
     (number-add-first t)

@@ -1,4 +1,4 @@
-use Rattle.listing.specs.LineWriting.{line-few, line-rises, line-ends, line-within, line-named, line-length}
+use Rattle.listing.specs.LineWriting.{line-few, line-term, line-rises, line-ends, line-within, line-named, line-length}
 use native.Mathlib.Omega.{arith}
 use borrow.Author.Needs.{needs}
 use Rattle.listing.proofs.line_width.Statement.{statement}
@@ -21,7 +21,7 @@ term-at-requires c κs = search needs
 first-requires : tie.Need-first-requires
 first-requires c κs =
     let s = c .before .before .before .before in
-    (s .pre .0 .long, omega (arith, line-few (s .args .terms .now) (s .args .runs .now) (s .args .marks .now) (s .args .n) (s .args .k) (s .pre .0) (s .pre .1) (s .pre .2) (c .term-at .ensures)))
+    omega (arith, s .pre .0 .long, line-term (s .args .terms .now) (s .args .runs .now) (s .args .marks .now) (s .args .n) (s .args .k) (s .pre .0) (s .pre .1) (s .pre .2) (c .term-at .ensures))
 
 -- src/lib.rt:166:34
 add-first : tie.Need-add-first
@@ -33,7 +33,7 @@ add-first c =
 first-requires-2 : tie.Need-first-requires-2
 first-requires-2 c κs =
     let s = c .before .before .before .before .before in
-    (s .pre .0 .long, omega (arith, line-few (s .args .terms .now) (s .args .runs .now) (s .args .marks .now) (s .args .n) (s .args .k) (s .pre .0) (s .pre .1) (s .pre .2) (c .before .term-at .ensures)))
+    omega (arith, s .pre .0 .long, line-term (s .args .terms .now) (s .args .runs .now) (s .args .marks .now) (s .args .n) (s .args .k) (s .pre .0) (s .pre .1) (s .pre .2) (c .before .term-at .ensures))
 
 -- src/lib.rt:167:9
 digits-requires : tie.Need-digits-requires
@@ -43,13 +43,13 @@ digits-requires c κs = search needs
 head-requires : tie.Need-head-requires
 head-requires c κs =
     let s = c .before .before .before .before .before .before .before in
-    (s .pre .0 .long, line-few (s .args .terms .now) (s .args .runs .now) (s .args .marks .now) (s .args .n) (s .args .k) (s .pre .0) (s .pre .1) (s .pre .2) (c .before .before .before .term-at .ensures))
+    omega (arith, s .pre .0 .long, line-term (s .args .terms .now) (s .args .runs .now) (s .args .marks .now) (s .args .n) (s .args .k) (s .pre .0) (s .pre .1) (s .pre .2) (c .before .before .before .term-at .ensures))
 
 -- src/lib.rt:168:47
 value-requires : tie.Need-value-requires
 value-requires c κs =
     let s = c .before .before .before .before .before .before .before .before in
-    (s .pre .0 .long, line-few (s .args .terms .now) (s .args .runs .now) (s .args .marks .now) (s .args .n) (s .args .k) (s .pre .0) (s .pre .1) (s .pre .2) (c .before .before .before .before .term-at .ensures))
+    omega (arith, s .pre .0 .long, line-term (s .args .terms .now) (s .args .runs .now) (s .args .marks .now) (s .args .n) (s .args .k) (s .pre .0) (s .pre .1) (s .pre .2) (c .before .before .before .before .term-at .ensures))
 
 -- src/lib.rt:168:9
 head-width-requires : tie.Need-head-width-requires
@@ -63,7 +63,7 @@ add-result c = search needs
 runs-width-requires : tie.Need-runs-width-requires
 runs-width-requires c κs =
     let s = c .before .before .before .before .before .before .before .before .before .before in
-    (s .pre .1 .room, line-rises (s .args .terms .now) (s .args .runs .now) (s .args .marks .now) (s .args .n) (s .args .k) (s .pre .0) (s .pre .1) (s .pre .2) (c .before .before .before .before .before .before .term-at .ensures) (c .before .before .before .before .before .first .ensures .0) (c .before .before .before .before .first2 .ensures .0), line-ends (s .args .terms .now) (s .args .runs .now) (s .args .marks .now) (s .args .n) (s .args .k) (s .pre .0) (s .pre .1) (s .pre .2) (c .before .before .before .before .before .before .term-at .ensures) (c .before .before .before .before .before .first .ensures .0) (c .before .before .before .before .first2 .ensures .0), line-within (s .args .terms .now) (s .args .runs .now) (s .args .marks .now) (s .args .n) (s .args .k) (s .pre .0) (s .pre .1) (s .pre .2) (c .before .before .before .before .before .before .term-at .ensures) (c .before .before .before .before .before .first .ensures .0) (c .before .before .before .before .first2 .ensures .0), line-named (s .args .terms .now) (s .args .runs .now) (s .args .marks .now) (s .args .n) (s .args .k) (s .pre .0) (s .pre .1) (s .pre .2) (c .before .before .before .before .before .before .term-at .ensures) (c .before .before .before .before .before .first .ensures .0) (c .before .before .before .before .first2 .ensures .0))
+    (line-rises (s .args .terms .now) (s .args .runs .now) (s .args .marks .now) (s .args .n) (s .args .k) (s .pre .0) (s .pre .1) (s .pre .2) (c .before .before .before .before .before .before .term-at .ensures) (c .before .before .before .before .before .first .ensures .0) (c .before .before .before .before .first2 .ensures .0), line-ends (s .args .terms .now) (s .args .runs .now) (s .args .marks .now) (s .args .n) (s .args .k) (s .pre .0) (s .pre .1) (s .pre .2) (c .before .before .before .before .before .before .term-at .ensures) (c .before .before .before .before .before .first .ensures .0) (c .before .before .before .before .first2 .ensures .0), line-within (s .args .terms .now) (s .args .runs .now) (s .args .marks .now) (s .args .n) (s .args .k) (s .pre .0) (s .pre .1) (s .pre .2) (c .before .before .before .before .before .before .term-at .ensures) (c .before .before .before .before .before .first .ensures .0) (c .before .before .before .before .first2 .ensures .0), line-named (s .args .terms .now) (s .args .runs .now) (s .args .marks .now) (s .args .n) (s .args .k) (s .pre .0) (s .pre .1) (s .pre .2) (c .before .before .before .before .before .before .term-at .ensures) (c .before .before .before .before .before .first .ensures .0) (c .before .before .before .before .first2 .ensures .0))
 
 -- src/lib.rt:169:5
 add-result-2 : tie.Need-add-result-2

@@ -13,6 +13,10 @@ count-requires : tie.Need-count-requires
 count-requires c κs = search needs
 
 -- src/lib.rt:80:5
+mul-clear-marks : tie.Need-mul-clear-marks
+mul-clear-marks c = search needs
+
+-- src/lib.rt:80:5
 clear-marks-requires : tie.Need-clear-marks-requires
 clear-marks-requires c κs = search needs
 
@@ -39,4 +43,4 @@ returns c =
 
 pub number-all-spec : {M : Type 1} → statement M
 number-all-spec =
-    tie.close (tie.spec count-requires clear-marks-requires number-requires same-length returns)
+    tie.close (tie.spec count-requires mul-clear-marks clear-marks-requires number-requires same-length returns)

@@ -17,7 +17,7 @@ child-requires c κs = search needs
 number-of-requires : tie.Need-number-of-requires
 number-of-requires c κs =
     let s = c .before .before in
-    (omega (arith, s .pre .0, c .child .ensures .1), rw (c .child .ensures .0) (s .pre .1))
+    rw (c .child .ensures .0) (s .pre)
 
 -- src/lib.rt:123:9
 digits-requires : tie.Need-digits-requires

@@ -20,7 +20,7 @@ abbrev μ-loop : tie.MeasureT-loop
 -- src/lib.rt:133:5
 loop-holds : tie.Need-loop-holds Inv-loop μ-loop
 loop-holds c =
-    (omega arith, omega (arith, c .before .before .pre .1), omega arith, omega arith)
+    (omega arith, omega (arith, c .before .before .pre .0), omega arith, omega arith)
 
 -- src/lib.rt:134:31
 mul-run-width : tie.Need-mul-run-width Inv-loop μ-loop
@@ -37,7 +37,7 @@ run-width-requires : tie.Need-run-width-requires Inv-loop μ-loop
 run-width-requires c κs =
     let l = c .before .before in
     let s = c .before .before .before .before .before in
-    (s .pre .0, s .pre .4 (l .loop .i) (l .loop .inv .0) (omega arith))
+    s .pre .3 (l .loop .i) (l .loop .inv .0) (omega arith)
 
 -- src/lib.rt:134:9
 add-n : tie.Need-add-n Inv-loop μ-loop
@@ -67,7 +67,7 @@ returns c =
     let l = c .before in
     let s = l .before .before .before in
     let a = s .args in
-    omega (arith, s .pre .1, s .pre .2, ap length (runs-nil (a .runs .now) (a .marks .now) (l .loop .i) (a .to) (omega arith)))
+    omega (arith, s .pre .0, s .pre .1, ap length (runs-nil (a .runs .now) (a .marks .now) (l .loop .i) (a .to) (omega arith)))
 
 pub runs-width-spec : {M : Type 1} → statement M
 runs-width-spec =

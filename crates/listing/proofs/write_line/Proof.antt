@@ -1,5 +1,5 @@
 use Rattle.spec.specs.Bytes.{text, decimal}
-use Rattle.listing.specs.LineWriting.{line-few, line-rises, line-within, line-named, number-room, head-room, runs-room, feed-room, line-wrote}
+use Rattle.listing.specs.LineWriting.{line-few, line-term, line-rises, line-within, line-named, number-room, head-room, runs-room, feed-room, line-wrote}
 use native.Mathlib.Omega.{arith}
 use borrow.Author.Needs.{needs}
 use Rattle.listing.proofs.write_line.Statement.{statement}
@@ -23,7 +23,7 @@ term-at-requires c κs = search needs
 first-requires : tie.Need-first-requires
 first-requires c κs =
     let s = c .before .before .before .before .before in
-    (s .pre .0 .long, omega (arith, line-few (s .args .terms .now) (s .args .runs .now) (s .args .marks .now) (s .args .n) (s .args .k) (s .pre .0) (s .pre .1) (s .pre .2) (c .term-at .ensures)))
+    omega (arith, s .pre .0 .long, line-term (s .args .terms .now) (s .args .runs .now) (s .args .marks .now) (s .args .n) (s .args .k) (s .pre .0) (s .pre .1) (s .pre .2) (c .term-at .ensures))
 
 -- src/lib.rt:319:34
 add-first : tie.Need-add-first
@@ -35,7 +35,7 @@ add-first c =
 first-requires-2 : tie.Need-first-requires-2
 first-requires-2 c κs =
     let s = c .before .before .before .before .before .before in
-    (s .pre .0 .long, omega (arith, line-few (s .args .terms .now) (s .args .runs .now) (s .args .marks .now) (s .args .n) (s .args .k) (s .pre .0) (s .pre .1) (s .pre .2) (c .before .term-at .ensures)))
+    omega (arith, s .pre .0 .long, line-term (s .args .terms .now) (s .args .runs .now) (s .args .marks .now) (s .args .n) (s .args .k) (s .pre .0) (s .pre .1) (s .pre .2) (c .before .term-at .ensures))
 
 -- src/lib.rt:320:9
 decimal-requires : tie.Need-decimal-requires
@@ -47,13 +47,13 @@ decimal-requires c κs =
 head-requires : tie.Need-head-requires
 head-requires c κs =
     let s = c .before .before .before .before .before .before .before .before .before .before .before .before in
-    (s .pre .0 .long, line-few (s .args .terms .now) (s .args .runs .now) (s .args .marks .now) (s .args .n) (s .args .k) (s .pre .0) (s .pre .1) (s .pre .2) (c .before .before .before .before .before .before .before .term-at .ensures))
+    omega (arith, s .pre .0 .long, line-term (s .args .terms .now) (s .args .runs .now) (s .args .marks .now) (s .args .n) (s .args .k) (s .pre .0) (s .pre .1) (s .pre .2) (c .before .before .before .before .before .before .before .term-at .ensures))
 
 -- src/lib.rt:321:55
 value-requires : tie.Need-value-requires
 value-requires c κs =
     let s = c .before .before .before .before .before .before .before .before .before .before .before .before .before in
-    (s .pre .0 .long, line-few (s .args .terms .now) (s .args .runs .now) (s .args .marks .now) (s .args .n) (s .args .k) (s .pre .0) (s .pre .1) (s .pre .2) (c .before .before .before .before .before .before .before .before .term-at .ensures))
+    omega (arith, s .pre .0 .long, line-term (s .args .terms .now) (s .args .runs .now) (s .args .marks .now) (s .args .n) (s .args .k) (s .pre .0) (s .pre .1) (s .pre .2) (c .before .before .before .before .before .before .before .before .term-at .ensures))
 
 -- src/lib.rt:321:9
 write-head-requires : tie.Need-write-head-requires
@@ -65,7 +65,7 @@ write-head-requires c κs =
 write-runs-requires : tie.Need-write-runs-requires
 write-runs-requires c κs =
     let s = c .before .before .before .before .before .before .before .before .before .before .before .before .before .before .before .before .before .before in
-    (s .pre .1 .room, line-rises (s .args .terms .now) (s .args .runs .now) (s .args .marks .now) (s .args .n) (s .args .k) (s .pre .0) (s .pre .1) (s .pre .2) (c .before .before .before .before .before .before .before .before .before .before .before .before .before .term-at .ensures) (c .before .before .before .before .before .before .before .before .before .before .before .before .first .ensures .0) (c .before .before .before .before .before .before .before .before .before .before .before .first2 .ensures .0), line-within (s .args .terms .now) (s .args .runs .now) (s .args .marks .now) (s .args .n) (s .args .k) (s .pre .0) (s .pre .1) (s .pre .2) (c .before .before .before .before .before .before .before .before .before .before .before .before .before .term-at .ensures) (c .before .before .before .before .before .before .before .before .before .before .before .before .first .ensures .0) (c .before .before .before .before .before .before .before .before .before .before .before .first2 .ensures .0), line-named (s .args .terms .now) (s .args .runs .now) (s .args .marks .now) (s .args .n) (s .args .k) (s .pre .0) (s .pre .1) (s .pre .2) (c .before .before .before .before .before .before .before .before .before .before .before .before .before .term-at .ensures) (c .before .before .before .before .before .before .before .before .before .before .before .before .first .ensures .0) (c .before .before .before .before .before .before .before .before .before .before .before .first2 .ensures .0), runs-room (s .args .terms .now) (s .args .runs .now) (s .args .marks .now) (s .args .n) (s .args .k) (s .pre .0) (s .pre .1) (s .pre .2) (c .before .before .before .before .before .before .before .before .before .before .before .before .before .term-at .ensures) (c .before .before .before .before .before .before .before .before .before .before .before .before .first .ensures .0) (c .before .before .before .before .before .before .before .before .before .before .before .first2 .ensures .0) (c .before .before .before .before .before .head .ensures) (c .before .before .before .before .value .ensures) (s .args .out .now) (s .args .at) (s .pre .3) (c .before .before .before .before .before .before .before .before .before .decimal .ensures) (c .before .before .before .write-head .ensures))
+    (line-rises (s .args .terms .now) (s .args .runs .now) (s .args .marks .now) (s .args .n) (s .args .k) (s .pre .0) (s .pre .1) (s .pre .2) (c .before .before .before .before .before .before .before .before .before .before .before .before .before .term-at .ensures) (c .before .before .before .before .before .before .before .before .before .before .before .before .first .ensures .0) (c .before .before .before .before .before .before .before .before .before .before .before .first2 .ensures .0), line-within (s .args .terms .now) (s .args .runs .now) (s .args .marks .now) (s .args .n) (s .args .k) (s .pre .0) (s .pre .1) (s .pre .2) (c .before .before .before .before .before .before .before .before .before .before .before .before .before .term-at .ensures) (c .before .before .before .before .before .before .before .before .before .before .before .before .first .ensures .0) (c .before .before .before .before .before .before .before .before .before .before .before .first2 .ensures .0), line-named (s .args .terms .now) (s .args .runs .now) (s .args .marks .now) (s .args .n) (s .args .k) (s .pre .0) (s .pre .1) (s .pre .2) (c .before .before .before .before .before .before .before .before .before .before .before .before .before .term-at .ensures) (c .before .before .before .before .before .before .before .before .before .before .before .before .first .ensures .0) (c .before .before .before .before .before .before .before .before .before .before .before .first2 .ensures .0), runs-room (s .args .terms .now) (s .args .runs .now) (s .args .marks .now) (s .args .n) (s .args .k) (s .pre .0) (s .pre .1) (s .pre .2) (c .before .before .before .before .before .before .before .before .before .before .before .before .before .term-at .ensures) (c .before .before .before .before .before .before .before .before .before .before .before .before .first .ensures .0) (c .before .before .before .before .before .before .before .before .before .before .before .first2 .ensures .0) (c .before .before .before .before .before .head .ensures) (c .before .before .before .before .value .ensures) (s .args .out .now) (s .args .at) (s .pre .3) (c .before .before .before .before .before .before .before .before .before .decimal .ensures) (c .before .before .before .write-head .ensures))
 
 -- src/lib.rt:323:18
 slice-aggregate-text : tie.Need-slice-aggregate-text

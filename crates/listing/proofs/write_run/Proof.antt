@@ -1,6 +1,5 @@
 use Rattle.spec.specs.Bytes.{text}
 use Rattle.listing.specs.PieceLaws.{run-first, run-second, run-wrote}
-use native.Mathlib.Omega.{arith}
 use borrow.Author.Needs.{needs}
 use Rattle.listing.proofs.write_run.Statement.{statement}
 use Rattle.listing.proofs.write_run.Tie as tie
@@ -22,14 +21,14 @@ child-requires c κs = search needs
 number-of-requires : tie.Need-number-of-requires
 number-of-requires c κs =
     let s = c .before .before .before .before .before in
-    (omega (arith, s .pre .0, c .child .ensures .1), rw (c .child .ensures .0) (s .pre .1))
+    rw (c .child .ensures .0) (s .pre .0)
 
 -- src/lib.rt:260:9
 labelled-requires : tie.Need-labelled-requires
 unfolding text
 labelled-requires c κs =
     let s = c .before .before .before .before .before .before in
-    run-first (s .args .marks .now) (s .args .r) (c .before .child .ensures .0) (c .number-of .ensures) (s .args .out .now) (s .args .at) (s .pre .2)
+    run-first (s .args .marks .now) (s .args .r) (c .before .child .ensures .0) (c .number-of .ensures) (s .args .out .now) (s .args .at) (s .pre .1)
 
 -- src/lib.rt:261:22
 slice-aggregate-labelled-2 : tie.Need-slice-aggregate-labelled-2
@@ -40,7 +39,7 @@ labelled-requires-2 : tie.Need-labelled-requires-2
 unfolding text
 labelled-requires-2 c κs =
     let s = c .before .before .before .before .before .before .before .before .before .before .before in
-    run-second (s .args .marks .now) (s .args .r) (c .before .before .before .before .before .before .child .ensures .0) (c .before .before .before .before .before .number-of .ensures) (s .args .out .now) (s .args .at) (s .pre .2) (c .before .before .before .before .labelled .ensures)
+    run-second (s .args .marks .now) (s .args .r) (c .before .before .before .before .before .before .child .ensures .0) (c .before .before .before .before .before .number-of .ensures) (s .args .out .now) (s .args .at) (s .pre .1) (c .before .before .before .before .labelled .ensures)
 
 -- src/lib.rt:256:1
 same-length : tie.Need-same-length
@@ -51,7 +50,7 @@ returns : tie.Need-returns
 unfolding text
 returns c =
     let s = c .before .before .before .before .before .before .before .before .before .before .before .before .before .before in
-    run-wrote (s .args .marks .now) (s .args .r) (c .before .before .before .before .before .before .before .before .before .child .ensures .0) (c .before .before .before .before .before .before .before .before .number-of .ensures) (s .args .out .now) (s .args .at) (s .pre .2) (c .before .before .before .before .before .before .before .labelled .ensures) (c .before .before .labelled2 .ensures)
+    run-wrote (s .args .marks .now) (s .args .r) (c .before .before .before .before .before .before .before .before .before .child .ensures .0) (c .before .before .before .before .before .before .before .before .number-of .ensures) (s .args .out .now) (s .args .at) (s .pre .1) (c .before .before .before .before .before .before .before .labelled .ensures) (c .before .before .labelled2 .ensures)
 
 pub write-run-spec : {M : Type 1} → statement M
 write-run-spec =

@@ -22,7 +22,7 @@ loop-holds : tie.Need-loop-holds Inv-loop μ-loop
 loop-holds c =
     let s = c .before .before .before in
     let a = s .args in
-    (omega arith, omega (arith, s .pre .1), left-start (runsIn (a .runs .now) (a .marks .now) (a .from) (a .to - a .from)) (a .out .now) (a .at0) (s .pre .4))
+    (omega arith, omega (arith, s .pre .0), left-start (runsIn (a .runs .now) (a .marks .now) (a .from) (a .to - a .from)) (a .out .now) (a .at0) (s .pre .3))
 
 -- src/lib.rt:278:40
 mul-write-run : tie.Need-mul-write-run Inv-loop μ-loop
@@ -40,7 +40,7 @@ write-run-requires c κs =
     let l = c .before .before .before in
     let s = c .before .before .before .before .before .before .before in
     let a = s .args in
-    (s .pre .0, s .pre .3 (l .loop .i) (l .loop .inv .0) (omega arith), left-room (runIn (a .marks .now) (getD (a .runs .now) (l .loop .i) 0)) (runsIn (a .runs .now) (a .marks .now) (l .loop .i + 1) (a .to - (l .loop .i + 1))) (runs-cons (a .runs .now) (a .marks .now) (l .loop .i) (a .to) (omega arith)) (l .loop .inv .2))
+    (s .pre .2 (l .loop .i) (l .loop .inv .0) (omega arith), left-room (runIn (a .marks .now) (getD (a .runs .now) (l .loop .i) 0)) (runsIn (a .runs .now) (a .marks .now) (l .loop .i + 1) (a .to - (l .loop .i + 1))) (runs-cons (a .runs .now) (a .marks .now) (l .loop .i) (a .to) (omega arith)) (l .loop .inv .2))
 
 -- src/lib.rt:279:9
 add-i : tie.Need-add-i Inv-loop μ-loop

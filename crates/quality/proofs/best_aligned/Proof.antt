@@ -1,6 +1,6 @@
 use Rattle.quality.specs.Known.{qualityIn}
 use Rattle.quality.specs.Offers.{Going, going-first, going-on, going-last, fewer}
-use Rattle.quality.specs.Within.{class-few}
+use Rattle.quality.specs.Within.{place-fits}
 use Rattle.actions.specs.Remaining.{listFrom}
 use Rattle.spec.specs.Image.{tablesOf}
 use mathlib.Core.Path.{_∙_}
@@ -18,7 +18,7 @@ abbrev μ-loop : tie.MeasureT-loop
 -- src/lib.rt:178:20
 size-of-requires : tie.Need-size-of-requires Inv-loop μ-loop
 size-of-requires c κs =
-    let a = c .before .before .before in (a .pre .4, class-few (a .args .s .now) (a .args .im) (a .pre .0) (a .pre .1) (a .args .l) (a .pre .2), class-few (a .args .s .now) (a .args .im) (a .pre .0) (a .pre .1) (a .args .r) (a .pre .3))
+    let a = c .before .before .before in (a .pre .4, place-fits (a .args .s .now) (a .args .im) (a .pre .0) (a .pre .1) (length (a .args .index .now)) (a .pre .5) (a .args .l) (a .args .r) (a .pre .2) (a .pre .3))
 
 -- src/lib.rt:178:15
 num8-requires : tie.Need-num8-requires Inv-loop μ-loop
@@ -27,7 +27,7 @@ num8-requires c κs = search needs
 -- src/lib.rt:179:20
 mass-of-requires : tie.Need-mass-of-requires Inv-loop μ-loop
 mass-of-requires c κs =
-    let a = c .before .before .before .before .before in (a .pre .4, class-few (a .args .s .now) (a .args .im) (a .pre .0) (a .pre .1) (a .args .l) (a .pre .2), class-few (a .args .s .now) (a .args .im) (a .pre .0) (a .pre .1) (a .args .r) (a .pre .3))
+    let a = c .before .before .before .before .before in (a .pre .4, place-fits (a .args .s .now) (a .args .im) (a .pre .0) (a .pre .1) (length (a .args .index .now)) (a .pre .5) (a .args .l) (a .args .r) (a .pre .2) (a .pre .3))
 
 -- src/lib.rt:179:15
 num8-requires-2 : tie.Need-num8-requires-2 Inv-loop μ-loop
@@ -67,7 +67,7 @@ enum-known-v c = search needs
 offer-requires : tie.Need-offer-requires Inv-loop μ-loop
 offer-requires c κs =
     let a = c .before .before .before .before .before .before .before .before .before .before .before .before .before in
-    let k = rw (c .before .v .given .1) at (c .before .before .before .seek .ensures) in (a .pre .0, a .pre .1, k .1, a .pre .4)
+    let k = rw (c .before .v .given .1) at (c .before .before .before .seek .ensures) in (a .pre .0, a .pre .1, k .1, a .pre .4, a .pre .5)
 
 -- src/lib.rt:190:17
 after-requires : tie.Need-after-requires Inv-loop μ-loop

@@ -14,17 +14,17 @@ number-of-requires c κs = search needs
 -- src/lib.rt:81:11
 add-result : tie.Need-add-result
 add-result c =
-    let a = c .before .before .before in record { fits = omega (arith, a .pre .3, a .pre .0 .long, number-few (a .pre .0) (a .args .l, a .args .r) (c .number-of .ensures)) }
+    let a = c .before .before .before in record { fits = omega (arith, a .pre .2, a .pre .0 .long, number-few (a .pre .0) (a .args .l, a .args .r) (c .number-of .ensures)) }
 
 -- src/lib.rt:81:5
 mul-result : tie.Need-mul-result
 mul-result c =
-    let a = c .before .before .before in record { fits = omega (arith, a .pre .3, a .pre .0 .long, number-few (a .pre .0) (a .args .l, a .args .r) (c .number-of .ensures)) }
+    let a = c .before .before .before in record { fits = omega (arith, a .pre .2, a .pre .0 .long, number-few (a .pre .0) (a .args .l, a .args .r) (c .number-of .ensures)) }
 
 -- src/lib.rt:81:5
 shared-slice-read-result : tie.Need-shared-slice-read-result
 shared-slice-read-result c =
-    let a = c .before .before .before .before in omega (arith, a .pre .3, a .pre .0 .long, number-few (a .pre .0) (a .args .l, a .args .r) (c .before .number-of .ensures))
+    let a = c .before .before .before .before in omega (arith, a .pre .2, a .pre .0 .long, number-few (a .pre .0) (a .args .l, a .args .r) (c .before .number-of .ensures))
 
 -- src/lib.rt:76:1
 returns : tie.Need-returns

@@ -1,11 +1,12 @@
 use Rattle.quality.specs.Known.{termIn}
 use Rattle.quality.specs.Sums.{Listed, listed-none, listed-more, listed-all, many-runs}
-use Rattle.quality.specs.Within.{class-few}
+use Rattle.quality.specs.Within.{place-fits}
 use Rattle.actions.specs.Remaining.{actionAt}
 use Rattle.spec.specs.Image.{tablesOf}
 use Prim.Native.Nat.{_-_}
 use native.Mathlib.Omega.{arith}
 use mathlib.Core.Path.{sym, _∙_}
+use lib.ListN.{length}
 use borrow.Author.Needs.{needs}
 use Rattle.quality.proofs.list_action.Statement.{statement}
 use Rattle.quality.proofs.list_action.Tie as tie
@@ -38,7 +39,7 @@ right-class-requires c κs =
 -- src/lib.rt:214:36
 term-of-requires : tie.Need-term-of-requires Inv-loop μ-loop
 term-of-requires c κs =
-    let a = c .before .before .before .before .before .before .before .before .before .before in (a .pre .3, class-few (a .args .s .now) (a .args .im) (a .pre .0) (a .pre .1) _ (c .before .before .left-class .ensures .1), class-few (a .args .s .now) (a .args .im) (a .pre .0) (a .pre .1) _ (c .before .right-class .ensures .1))
+    let a = c .before .before .before .before .before .before .before .before .before .before in (a .pre .3, place-fits (a .args .s .now) (a .args .im) (a .pre .0) (a .pre .1) (length (a .args .index .now)) (a .pre .5) _ _ (c .before .before .left-class .ensures .1) (c .before .right-class .ensures .1))
 
 -- src/lib.rt:214:31
 num8-requires : tie.Need-num8-requires Inv-loop μ-loop

@@ -1,11 +1,12 @@
 use Rattle.quality.specs.Known.{qualityIn}
 use Rattle.quality.specs.Sums.{Summed, summed-none, summed-more, summed-all}
-use Rattle.quality.specs.Within.{class-few}
+use Rattle.quality.specs.Within.{place-fits}
 use Rattle.actions.specs.Remaining.{actionAt}
 use Rattle.spec.specs.Image.{tablesOf}
 use Prim.Native.Nat.{_-_}
 use native.Mathlib.Omega.{arith}
 use mathlib.Core.Path.{_∙_}
+use lib.ListN.{length}
 use borrow.Author.Needs.{needs}
 use Rattle.quality.proofs.structural_quality.Statement.{statement}
 use Rattle.quality.proofs.structural_quality.Tie as tie
@@ -38,7 +39,7 @@ right-class-requires c κs =
 -- src/lib.rt:138:22
 size-of-requires : tie.Need-size-of-requires Inv-loop μ-loop
 size-of-requires c κs =
-    let a = c .before .before .before .before .before .before .before .before in (a .pre .3, class-few (a .args .s .now) (a .args .im) (a .pre .0) (a .pre .1) _ (c .before .left-class .ensures .1), class-few (a .args .s .now) (a .args .im) (a .pre .0) (a .pre .1) _ (c .right-class .ensures .1))
+    let a = c .before .before .before .before .before .before .before .before in (a .pre .3, place-fits (a .args .s .now) (a .args .im) (a .pre .0) (a .pre .1) (length (a .args .index .now)) (a .pre .4) _ _ (c .before .left-class .ensures .1) (c .right-class .ensures .1))
 
 -- src/lib.rt:138:17
 num8-requires : tie.Need-num8-requires Inv-loop μ-loop
@@ -51,7 +52,7 @@ add-size c = search needs
 -- src/lib.rt:139:22
 mass-of-requires : tie.Need-mass-of-requires Inv-loop μ-loop
 mass-of-requires c κs =
-    let a = c .before .before .before .before .before .before .before .before .before .before in (a .pre .3, class-few (a .args .s .now) (a .args .im) (a .pre .0) (a .pre .1) _ (c .before .before .before .left-class .ensures .1), class-few (a .args .s .now) (a .args .im) (a .pre .0) (a .pre .1) _ (c .before .before .right-class .ensures .1))
+    let a = c .before .before .before .before .before .before .before .before .before .before in (a .pre .3, place-fits (a .args .s .now) (a .args .im) (a .pre .0) (a .pre .1) (length (a .args .index .now)) (a .pre .4) _ _ (c .before .before .before .left-class .ensures .1) (c .before .before .right-class .ensures .1))
 
 -- src/lib.rt:139:17
 num8-requires-2 : tie.Need-num8-requires-2 Inv-loop μ-loop

@@ -35,11 +35,11 @@ add-against-cell c = search needs
 
 -- src/lib.rt:162:9
 against-cell-requires : tie.Need-against-cell-requires Inv-loop μ-loop
-against-cell-requires c κs = (omega arith, column-cell (c .before .before .loop .at) (c .before .before .before .before .before .before .before .args .c) (c .before .before .loop .i) (c .before .before .before .before .before .before .before .args .k) (c .before .before .before .before .before .before .before .args .n) (c .before .before .loop .inv .1) (omega arith) (omega arith) (omega arith), omega arith, omega arith)
+against-cell-requires c κs = let h = column-cell (c .before .before .loop .at) (c .before .before .before .before .before .before .before .args .c) (c .before .before .loop .i) (c .before .before .before .before .before .before .before .args .k) (c .before .before .before .before .before .before .before .args .n) (c .before .before .loop .inv .1) (omega arith) (omega arith) in (omega arith, omega arith, omega arith)
 
 -- src/lib.rt:163:9
 add-at : tie.Need-add-at Inv-loop μ-loop
-add-at c = let h = column-cell (c .before .before .before .loop .at) (c .before .before .before .before .before .before .before .before .args .c) (c .before .before .before .loop .i) (c .before .before .before .before .before .before .before .before .args .k) (c .before .before .before .before .before .before .before .before .args .n) (c .before .before .before .loop .inv .1) (omega arith) (omega arith) (omega arith) in search needs
+add-at c = let h = column-cell (c .before .before .before .loop .at) (c .before .before .before .before .before .before .before .before .args .c) (c .before .before .before .loop .i) (c .before .before .before .before .before .before .before .before .args .k) (c .before .before .before .before .before .before .before .before .args .n) (c .before .before .before .loop .inv .1) (omega arith) (omega arith) in search needs
 
 -- src/lib.rt:164:9
 add-i : tie.Need-add-i Inv-loop μ-loop

@@ -22,12 +22,16 @@ shared-slice-read-if1 : tie.Need-shared-slice-read-if1
 shared-slice-read-if1 c = search needs
 
 -- src/lib.rt:109:24
+mul-if1-2 : tie.Need-mul-if1-2
+mul-if1-2 c = search needs
+
+-- src/lib.rt:109:24
 add-if1 : tie.Need-add-if1
 add-if1 c = search needs
 
 -- src/lib.rt:109:18
-mul-if1-2 : tie.Need-mul-if1-2
-mul-if1-2 c = search needs
+mul-if1-3 : tie.Need-mul-if1-3
+mul-if1-3 c = search needs
 
 -- src/lib.rt:109:18
 shared-slice-read-if1-2 : tie.Need-shared-slice-read-if1-2
@@ -61,8 +65,9 @@ along-cell-spec =
     (tie.spec
     mul-if1
     shared-slice-read-if1
-    add-if1
     mul-if1-2
+    add-if1
+    mul-if1-3
     shared-slice-read-if1-2
     cost-requires
     wrapping-add-requires

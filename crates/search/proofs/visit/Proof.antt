@@ -1,4 +1,4 @@
-use Rattle.search.specs.Fits.{cells-fit, row-fits}
+use Rattle.search.specs.Fits.{row-fits}
 use Rattle.search.proofs.Laws.{visited-source, visited-row, visited-column, visited-sink}
 use Rattle.wide.specs.declared.Wide.{Wide}
 use Rattle.search.specs.Net.{labelOf, alongMargin, againstColumn, left}
@@ -32,7 +32,7 @@ sub-along-row c = search needs
 
 -- src/lib.rt:210:40
 mul-along-row : tie.Need-mul-along-row
-mul-along-row c = let a = c .before .before .before .before .before .args in let h = row-fits (a .u - 1) (a .r) (a .c) (omega arith) (omega arith) (omega arith) in search needs
+mul-along-row c = let a = c .before .before .before .before .before .args in let h = row-fits (a .u - 1) (a .r) (a .c) (omega arith) in search needs
 
 -- src/lib.rt:210:56
 add-along-row : tie.Need-add-along-row
@@ -40,7 +40,7 @@ add-along-row c = search needs
 
 -- src/lib.rt:210:9
 along-row-requires : tie.Need-along-row-requires
-along-row-requires c κs = let a = c .before .before .before .before .before .args in let h = row-fits (a .u - 1) (a .r) (a .c) (omega arith) (omega arith) (omega arith) in (omega arith, omega arith, h, omega arith, omega arith)
+along-row-requires c κs = let a = c .before .before .before .before .before .args in let h = row-fits (a .u - 1) (a .r) (a .c) (omega arith) in (omega arith, omega arith, omega arith, omega arith)
 
 -- src/lib.rt:211:9
 returns-2 : tie.Need-returns-2
@@ -96,7 +96,7 @@ sub-against-column-2 c = search needs
 
 -- src/lib.rt:216:9
 against-column-requires : tie.Need-against-column-requires
-against-column-requires c κs = let a = c .before .before .before .before .before .before .before .before .before .before .before .args in (omega arith, omega arith, omega arith, cells-fit (a .r) (a .c) (omega arith) (omega arith), omega arith, omega arith, omega arith)
+against-column-requires c κs = search needs
 
 -- src/lib.rt:217:9
 returns-3 : tie.Need-returns-3

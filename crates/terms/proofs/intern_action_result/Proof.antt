@@ -1,13 +1,6 @@
 use Rattle.terms.specs.Buffers.{poolOf, countIn}
-use Rattle.terms.specs.ResultLaws.{begins-fits, action-join, action-light, action-valid, action-result}
-use borrow.Author.Tests.{lt-ltb, le-ltb, le-leb, lt-leb, eq-eqb, ne-eqb}
-use Prim.Native.Nat.{ℕ, zero, suc, _≤_, _<_, _-_, _+_, _*_, _^_}
+use Rattle.terms.specs.ResultLaws.{begins-fits, action-join, action-light, action-valid, action-answer}
 use native.Mathlib.Omega.{arith}
-use native.Mathlib.Numerals.{add-one}
-use mathlib.Core.Path.{_≡_, refl, ap, sym, _∙_}
-use mathlib.Core.Logic.{⊎-elim}
-use mathlib.Core.List.{List, [], _∷_, _++_, append-nil}
-use lib.ListN.{length, take, drop, getD, set, length-set, length-take, length-drop, length-append, drop-of-length-le}
 use borrow.Author.Needs.{needs}
 use Rattle.terms.proofs.intern_action_result.Statement.{statement}
 use Rattle.terms.proofs.intern_action_result.Tie as tie
@@ -17,42 +10,42 @@ use Rattle.terms.proofs.intern.Reads as intern-reads
 use Rattle.terms.proofs.join_runs.Reads as join-runs-reads
 use Rattle.terms.proofs.order_children.Reads as order-children-reads
 
--- src/lib.rt:556:5
+-- src/lib.rt:575:5
 order-children-requires : tie.Need-order-children-requires
 order-children-requires c κs = search needs
 
--- src/lib.rt:557:9
+-- src/lib.rt:576:9
 join-runs-requires : tie.Need-join-runs-requires
 join-runs-requires c κs =
     let b = c .before .before .before .before .before .before .before .before .before .before in
     let a = b .args in
     (omega (arith, b .pre .1), action-join (poolOf (a .terms .now) (a .runs .now)) (a .list .now) (a .n) (a .commutative) _ (c .before .before .before .order-children .ensures) (b .pre .3))
 
--- src/lib.rt:558:5
+-- src/lib.rt:577:5
 intern-requires : tie.Need-intern-requires
 intern-requires c κs =
     let b = c .before .before .before .before .before .before .before .before .before .before .before .before .before .before .before .before in
     let a = b .args in
     (b .pre .0, action-valid (poolOf (a .terms .now) (a .runs .now)) (a .list .now) (a .n) (a .commutative) _ (c .before .before .before .before .before .before .before .before .before .order-children .ensures) _ (c .before .before .before .before .before .join-runs .result) (c .before .before .before .before .before .join-runs .ensures) (countIn (a .terms .now)) (a .op) (b .pre .4) (b .pre .2), begins-fits (c .before .before .before .before .before .join-runs .ensures), action-light (poolOf (a .terms .now) (a .runs .now)) (a .list .now) (a .n) (a .commutative) _ (c .before .before .before .before .before .before .before .before .before .order-children .ensures) _ (c .before .before .before .before .before .join-runs .result) (c .before .before .before .before .before .join-runs .ensures) (b .pre .3))
 
--- src/lib.rt:545:1
+-- src/lib.rt:564:1
 same-length : tie.Need-same-length
 same-length c = search needs
 
--- src/lib.rt:545:1
+-- src/lib.rt:564:1
 same-length-2 : tie.Need-same-length-2
 same-length-2 c = search needs
 
--- src/lib.rt:545:1
+-- src/lib.rt:564:1
 same-length-3 : tie.Need-same-length-3
 same-length-3 c = search needs
 
--- src/lib.rt:545:1
+-- src/lib.rt:564:1
 returns : tie.Need-returns
 returns c =
     let b = c .before .before .before .before .before .before .before .before .before .before .before .before .before .before .before .before .before .before .before .before .before in
     let a = b .args in
-    action-result (a .terms .now) (a .runs .now) (a .list .now) (a .n) (a .op) (a .commutative) _ (c .before .before .before .before .before .before .before .before .before .before .before .before .before .before .order-children .ensures) _ (c .before .before .before .before .before .before .before .before .before .before .join-runs .result) (c .before .before .before .before .before .before .before .before .before .before .join-runs .ensures) (b .pre .4) _ _ _ (c .before .before .before .before .intern .ensures)
+    action-answer (a .terms .now) (a .runs .now) (a .list .now) (a .n) (a .op) (a .commutative) _ (c .before .before .before .before .before .before .before .before .before .before .before .before .before .before .order-children .ensures) _ (c .before .before .before .before .before .before .before .before .before .before .join-runs .result) (c .before .before .before .before .before .before .before .before .before .before .join-runs .ensures) (b .pre .4) _ _ (c .before .before .before .before .intern .result) (c .before .before .before .before .intern .ensures)
 
 pub intern-action-result-spec : {M : Type 1} → statement M
 intern-action-result-spec =

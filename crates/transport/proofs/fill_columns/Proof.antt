@@ -26,7 +26,7 @@ loop-holds c = (omega arith, record { size = c .before .before .pre .3; demands 
 
 -- src/lib.rt:489:13
 sum-every-requires : tie.Need-sum-every-requires Inv-loop μ-loop
-sum-every-requires c κs = (c .before .before .before .before .pre .0, c .before .before .before .before .pre .1, c .before .before .before .before .pre .4 .room, (λ i hi. column-reads (c .before .before .before .before .args .r) (c .before .before .before .before .args .c) (c .before .before .before .before .args .flow .now) (c .before .before .before .before .pre .4) (c .before .before .before .before .pre .0) (c .before .before .before .before .pre .1) (c .before .loop .j) (omega arith) i hi), omega arith)
+sum-every-requires c κs = (c .before .before .before .before .pre .0, c .before .before .before .before .pre .1, λ i hi. column-reads (c .before .before .before .before .args .r) (c .before .before .before .before .args .c) (c .before .before .before .before .args .flow .now) (c .before .before .before .before .pre .4) (c .before .loop .j) (omega arith) i hi)
 
 -- src/lib.rt:490:24
 add-put-left : tie.Need-add-put-left Inv-loop μ-loop

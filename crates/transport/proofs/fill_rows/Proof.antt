@@ -27,11 +27,11 @@ loop-holds c = (omega arith, record { size = c .before .before .pre .3; supplies
 
 -- src/lib.rt:476:33
 mul-sum-every : tie.Need-mul-sum-every Inv-loop μ-loop
-mul-sum-every c = let a = c .before .before .before .before .args in let h = row-fits (c .before .loop .i) (a .r) (a .c) (omega arith) (omega arith) (omega arith) in search needs
+mul-sum-every c = let a = c .before .before .before .before .args in let h = row-fits (c .before .loop .i) (a .r) (a .c) (omega arith) in let q = c .before .before .before .before .pre .4 .room in search needs
 
 -- src/lib.rt:476:13
 sum-every-requires : tie.Need-sum-every-requires Inv-loop μ-loop
-sum-every-requires c κs = let h = row-fits (c .before .loop .i) (c .before .before .before .before .args .r) (c .before .before .before .before .args .c) (omega arith) (omega arith) (omega arith) in (c .before .before .before .before .pre .1, omega arith, c .before .before .before .before .pre .4 .room, (λ j hj. row-reads (c .before .before .before .before .args .r) (c .before .before .before .before .args .c) (c .before .before .before .before .args .flow .now) (c .before .before .before .before .pre .4) (c .before .before .before .before .pre .0) (c .before .before .before .before .pre .1) (c .before .loop .i) (omega arith) j hj), omega arith)
+sum-every-requires c κs = (c .before .before .before .before .pre .1, omega arith, λ j hj. row-reads (c .before .before .before .before .args .r) (c .before .before .before .before .args .c) (c .before .before .before .before .args .flow .now) (c .before .before .before .before .pre .4) (c .before .loop .i) (omega arith) j hj)
 
 -- src/lib.rt:477:36
 mul-num : tie.Need-mul-num Inv-loop μ-loop

@@ -1,4 +1,3 @@
-use Rattle.search.specs.Fits.{cells-fit}
 use Rattle.transport.proofs.CellLaws.{laid-turn, laid-first, laid-go, laid-stop, min-allowed, div-in}
 use Rattle.transport.specs.Cells.{ifAllowed, LaidTo, laidFrom}
 use Rattle.wide.specs.Value.{unsigned}
@@ -26,7 +25,7 @@ abbrev μ-loop : tie.MeasureT-loop
 
 -- src/lib.rt:644:5
 loop-holds : tie.Need-loop-holds Inv-loop μ-loop
-loop-holds c = let a = c .before .before .before .before .before .before .args in (omega arith, record { size = c .before .before .before .before .before .before .pre .5; costs = λ k h. absurd (omega arith); caps = λ k h. absurd (omega arith) }, refl, laid-first (a .supply .now) (a .demand .now) (a .sizes .now) (a .masses .now) (a .allowed .now) (length (a .demand .now)) (unsigned (a .w)) (length (a .sizes .now)) (a .costs .now))
+loop-holds c = let a = c .before .before .before .before .before .before .args in (omega arith, record { size = omega arith; costs = λ k h. absurd (omega arith); caps = λ k h. absurd (omega arith) }, refl, laid-first (a .supply .now) (a .demand .now) (a .sizes .now) (a .masses .now) (a .allowed .now) (length (a .demand .now)) (unsigned (a .w)) (length (a .sizes .now)) (a .costs .now))
 
 -- src/lib.rt:645:27
 shared-slice-read-cell-cost : tie.Need-shared-slice-read-cell-cost Inv-loop μ-loop
@@ -98,7 +97,7 @@ least-requires c κs = search needs
 
 -- src/lib.rt:647:9
 put-cell-requires : tie.Need-put-cell-requires Inv-loop μ-loop
-put-cell-requires c κs = let l = c .before .before .before .before .before .before .before .before .before .before .before .before .before .loop in let q = cells-fit (length (c .before .before .before .before .before .before .before .before .before .before .before .before .before .before .before .before .before .before .before .before .args .supply .now)) (length (c .before .before .before .before .before .before .before .before .before .before .before .before .before .before .before .before .before .before .before .before .args .demand .now)) (c .before .before .before .before .before .before .before .before .before .before .before .before .before .before .before .before .before .before .before .before .pre .0) (c .before .before .before .before .before .before .before .before .before .before .before .before .before .before .before .before .before .before .before .before .pre .1) in (omega arith, l .inv .1 .size)
+put-cell-requires c κs = let l = c .before .before .before .before .before .before .before .before .before .before .before .before .before .loop in omega (arith, l .inv .1 .size)
 
 -- src/lib.rt:648:9
 add-k : tie.Need-add-k Inv-loop μ-loop
@@ -110,7 +109,7 @@ loop-less c = search needs
 
 -- src/lib.rt:644:5
 loop-again : tie.Need-loop-again Inv-loop μ-loop
-loop-again c = let a = c .before .before .before .before .before .before .before .before .before .before .before .before .before .before .before .before .before .before .before .before .before .before .before .args in let l = c .before .before .before .before .before .before .before .before .before .before .before .before .before .before .before .before .loop in let q = cells-fit (length (a .supply .now)) (length (a .demand .now)) (c .before .before .before .before .before .before .before .before .before .before .before .before .before .before .before .before .before .before .before .before .before .before .before .pre .0) (c .before .before .before .before .before .before .before .before .before .before .before .before .before .before .before .before .before .before .before .before .before .before .before .pre .1) in
+loop-again c = let a = c .before .before .before .before .before .before .before .before .before .before .before .before .before .before .before .before .before .before .before .before .before .before .before .args in let l = c .before .before .before .before .before .before .before .before .before .before .before .before .before .before .before .before .loop in
     let e : c .before .before .before .before .least .result ≡ ifAllowed (a .allowed .now) (l .k) (min (getD (a .supply .now) (l .k / length (a .demand .now)) 0) (getD (a .demand .now) (l .k % length (a .demand .now)) 0))
     = c .before .before .before .before .least .ensures ∙ (λ i. min (c .before .before .before .before .before .before .before .before .if-allowed .ensures .0 i) (c .before .before .before .before .before .if-allowed2 .ensures .0 i)) ∙ min-allowed (eqb (getD (a .allowed .now) (l .k) 0) 0) (getD (a .supply .now) (l .k / length (a .demand .now)) 0) (getD (a .demand .now) (l .k % length (a .demand .now)) 0) in
     (omega arith, rw (c .before .before .put-cell .ensures, e) (laid-turn (a .supply .now) (a .demand .now) (a .sizes .now) (a .masses .now) (a .allowed .now) (length (a .demand .now)) (unsigned (a .w)) (l .costs) (l .k) (c .before .before .before .before .before .before .before .before .before .before .before .cell-cost .result) (omega arith) (l .inv .1) (c .before .before .before .before .before .before .before .before .before .before .before .cell-cost .ensures)), omega arith, rw (c .before .before .put-cell .ensures) (sym (laid-go (a .supply .now) (a .demand .now) (a .sizes .now) (a .masses .now) (a .allowed .now) (length (a .demand .now)) (unsigned (a .w)) (length (a .sizes .now)) (l .k) (l .costs) (omega arith) (c .before .before .before .before .before .before .before .before .before .before .before .cell-cost .result) (c .before .before .before .before .least .result) (c .before .before .before .before .before .before .before .before .before .before .before .cell-cost .ensures) e) ∙ l .inv .3))

@@ -1,8 +1,9 @@
 use Rattle.transport.proofs.PathLaws.{left-source, left-row, left-sink, left-back}
 use Rattle.search.specs.Net.{capOf}
-use Prim.Native.Nat.{ℕ, _-_}
+use Prim.Native.Nat.{ℕ, _-_, _*_, _<_}
 use native.Mathlib.Omega.{arith}
 use mathlib.Core.Path.{ap, _∙_}
+use lib.Arith.{digits-lt}
 use lib.ListN.{getD}
 use borrow.Author.Needs.{needs}
 use Rattle.transport.proofs.left_on.Statement.{statement}
@@ -11,6 +12,13 @@ use Rattle.transport.proofs.left_on.Reads as reads
 use Rattle.transport.proofs.left_on.Lts as lts
 use Rattle.transport.proofs.less.Reads as less-reads
 use Rattle.transport.proofs.place.Reads as place-reads
+
+-- the cell of a step is one of the problem's
+forward-cell : (d : tie.After-place) → d .place .result < d .before .before .before .before .before .args .r * d .before .before .before .before .before .args .c
+forward-cell d = let h = d .before .before .before .before .before .pre .4 .fromRow (omega arith) (d .before .if2 .taken) in rw (d .place .ensures) (digits-lt (omega arith) (omega arith))
+
+back-cell : (d : tie.After-place2) → d .place2 .result < d .before .before .before .before .before .before .args .r * d .before .before .before .before .before .before .args .c
+back-cell d = let h = d .before .before .before .before .before .before .pre .4 .fromColumn (omega arith) in let q = d .before .before .before .before .before .before .pre .4 .toRow (omega arith) (d .before .if3 .left) in rw (d .place2 .ensures) (digits-lt (omega arith) (omega arith))
 
 -- src/lib.rt:347:21
 sub-result : tie.Need-sub-result
@@ -45,24 +53,28 @@ place-requires : tie.Need-place-requires
 place-requires c κs = let h = c .before .before .before .before .pre .4 .fromRow (omega arith) (c .if2 .taken) in (omega arith, omega arith, omega arith)
 
 -- src/lib.rt:351:27
+mul-less : tie.Need-mul-less
+mul-less c = let h = forward-cell c in search needs
+
+-- src/lib.rt:351:27
 add-less : tie.Need-add-less
-add-less c = search needs
+add-less c = let h = forward-cell c in search needs
 
 -- src/lib.rt:351:21
-mul-less : tie.Need-mul-less
-mul-less c = search needs
+mul-less-2 : tie.Need-mul-less-2
+mul-less-2 c = let h = forward-cell c in search needs
 
 -- src/lib.rt:351:21
 shared-slice-read-less : tie.Need-shared-slice-read-less
-shared-slice-read-less c = search needs
+shared-slice-read-less c = let h = forward-cell (c .before) in search needs
 
 -- src/lib.rt:351:38
-mul-less-2 : tie.Need-mul-less-2
-mul-less-2 c = search needs
+mul-less-3 : tie.Need-mul-less-3
+mul-less-3 c = let h = forward-cell (c .before) in search needs
 
 -- src/lib.rt:351:38
 shared-slice-read-less-2 : tie.Need-shared-slice-read-less-2
-shared-slice-read-less-2 c = search needs
+shared-slice-read-less-2 c = let h = forward-cell (c .before .before) in search needs
 
 -- src/lib.rt:351:9
 less-requires : tie.Need-less-requires
@@ -71,7 +83,7 @@ less-requires c κs = search needs
 -- src/lib.rt:351:9
 returns-2 : tie.Need-returns-2
 returns-2 c = let a = c .before .before .before .before .before .before .before .before .args in
-    c .less .ensures ∙ ap (λ (k : ℕ). capOf (a .costs .now) k - getD (a .flow .now) k 0) (c .before .before .before .place .ensures .0) ∙ left-row (a .costs .now) (a .flow .now) (a .left .now) (a .r) (a .c) (a .u) (a .v) (c .before .before .before .before .before .if1 .left) (c .before .before .before .before .if2 .taken)
+    c .less .ensures ∙ ap (λ (k : ℕ). capOf (a .costs .now) k - getD (a .flow .now) k 0) (c .before .before .before .place .ensures) ∙ left-row (a .costs .now) (a .flow .now) (a .left .now) (a .r) (a .c) (a .u) (a .v) (c .before .before .before .before .before .if1 .left) (c .before .before .before .before .if2 .taken)
 
 -- src/lib.rt:353:13
 add-if3 : tie.Need-add-if3
@@ -123,16 +135,16 @@ place-requires-2 c κs = let h = c .before .before .before .before .before .pre 
 
 -- src/lib.rt:357:5
 mul-result-3 : tie.Need-mul-result-3
-mul-result-3 c = search needs
+mul-result-3 c = let h = back-cell c in search needs
 
 -- src/lib.rt:357:5
 shared-slice-read-result : tie.Need-shared-slice-read-result
-shared-slice-read-result c = search needs
+shared-slice-read-result c = let h = back-cell (c .before) in search needs
 
 -- src/lib.rt:342:1
 returns-4 : tie.Need-returns-4
 returns-4 c = let a = c .before .before .before .before .before .before .before .args in
-    ap (λ (k : ℕ). getD (a .flow .now) k 0) (c .before .place2 .ensures .0) ∙ left-back (a .costs .now) (a .flow .now) (a .left .now) (a .r) (a .c) (a .u) (a .v) (c .before .before .before .before .if1 .left) (omega arith) (c .before .before .if3 .left)
+    ap (λ (k : ℕ). getD (a .flow .now) k 0) (c .before .place2 .ensures) ∙ left-back (a .costs .now) (a .flow .now) (a .left .now) (a .r) (a .c) (a .u) (a .v) (c .before .before .before .before .if1 .left) (omega arith) (c .before .before .if3 .left)
 
 pub left-on-spec : {M : Type 1} → statement M
 left-on-spec =
@@ -146,10 +158,11 @@ left-on-spec =
     sub-place-2
     sub-place-3
     place-requires
-    add-less
     mul-less
-    shared-slice-read-less
+    add-less
     mul-less-2
+    shared-slice-read-less
+    mul-less-3
     shared-slice-read-less-2
     less-requires
     returns-2

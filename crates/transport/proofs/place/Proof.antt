@@ -18,7 +18,7 @@ add-result c = let a = c .args in let h = place-fits (a .i) (a .j) (a .c) (omega
 
 -- src/lib.rt:334:1
 returns : tie.Need-returns
-returns c = let a = c .args in let h = place-fits (a .i) (a .j) (a .c) (omega arith) (omega arith) (omega arith) in (refl, h)
+returns c = refl
 
 pub place-spec : {M : Type 1} → statement M
 place-spec = tie.close (tie.spec mul-result add-result returns)

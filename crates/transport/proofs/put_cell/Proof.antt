@@ -1,4 +1,4 @@
-use Prim.Native.Nat.{ℕ, _-_, _+_}
+use Prim.Native.Nat.{ℕ, _-_, _+_, _*_}
 use mathlib.Core.Path.{ap, _∙_}
 use mathlib.Core.List.{List}
 use lib.ListN.{set}
@@ -8,6 +8,9 @@ use Rattle.transport.proofs.put_cell.Tie as tie
 use Rattle.transport.proofs.put_cell.Reads as reads
 use Rattle.transport.proofs.put_cell.Lts as lts
 use Rattle.transport.proofs.put_cost.Reads as put-cost-reads
+
+mul-at : tie.Need-mul-at
+mul-at c = search needs
 
 -- src/lib.rt:620:5
 put-cost-requires : tie.Need-put-cost-requires
@@ -35,12 +38,13 @@ same-length c = search needs
 
 -- src/lib.rt:616:1
 returns : tie.Need-returns
-returns c = c .before .before .put-cost3 .ensures ∙ ap (λ (g : List ℕ). set g (8450 + c .before .before .before .before .before .before .before .before .before .before .before .before .before .args .k) (c .before .before .before .before .before .before .before .before .before .before .before .before .before .args .cap)) (c .before .before .before .before .before .before .put-cost2 .ensures ∙ ap (λ (g : List ℕ). set g (4225 + c .before .before .before .before .before .before .before .before .before .before .before .before .before .args .k) (c .before .before .before .before .before .before .before .before .before .before .before .before .before .args .d .hi)) (c .before .before .before .before .before .before .before .before .before .before .put-cost .ensures))
+returns c = c .before .before .put-cost3 .ensures ∙ ap (λ (g : List ℕ). set g (3 * c .before .before .before .before .before .before .before .before .before .before .before .before .before .args .k + 2) (c .before .before .before .before .before .before .before .before .before .before .before .before .before .args .cap)) (c .before .before .before .before .before .before .put-cost2 .ensures ∙ ap (λ (g : List ℕ). set g (3 * c .before .before .before .before .before .before .before .before .before .before .before .before .before .args .k + 1) (c .before .before .before .before .before .before .before .before .before .before .before .before .before .args .d .hi)) (c .before .before .before .before .before .before .before .before .before .before .put-cost .ensures))
 
 pub put-cell-spec : {M : Type 1} → statement M
 put-cell-spec =
     tie.close
     (tie.spec
+    mul-at
     put-cost-requires
     add-put-cost
     put-cost-requires-2

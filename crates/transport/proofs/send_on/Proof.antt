@@ -1,6 +1,6 @@
 use lib.Arith.{digits-lt}
 use Rattle.transport.proofs.PathLaws.{sent-source, sent-row, sent-sink, sent-back}
-use Prim.Native.Nat.{ℕ, _-_, _+_}
+use Prim.Native.Nat.{ℕ, _-_, _+_, _*_, _<_}
 use native.Mathlib.Omega.{arith}
 use mathlib.Core.Path.{ap, _∙_}
 use lib.ListN.{getD, set}
@@ -12,6 +12,13 @@ use Rattle.transport.proofs.send_on.Lts as lts
 use Rattle.transport.proofs.less.Reads as less-reads
 use Rattle.transport.proofs.place.Reads as place-reads
 use Rattle.transport.proofs.put_flow.Reads as put-flow-reads
+
+-- the cell of a step is one of the problem's
+forward-cell : (d : tie.After-place) → d .place .result < d .before .before .before .before .args .r * d .before .before .before .before .args .c
+forward-cell d = let h = d .before .before .before .before .pre .3 .fromRow (omega arith) (d .before .if2 .taken) in rw (d .place .ensures) (digits-lt (omega arith) (omega arith))
+
+back-cell : (d : tie.After-place2) → d .place2 .result < d .before .before .before .before .before .args .r * d .before .before .before .before .before .args .c
+back-cell d = let h = d .before .before .before .before .before .pre .3 .fromColumn (omega arith) in let q = d .before .before .before .before .before .pre .3 .toRow (omega arith) (d .before .if3 .left) in rw (d .place2 .ensures) (digits-lt (omega arith) (omega arith))
 
 -- src/lib.rt:388:9
 returns : tie.Need-returns
@@ -35,19 +42,19 @@ place-requires c κs = let h = c .before .before .before .pre .3 .fromRow (omega
 
 -- src/lib.rt:392:17
 mul-x : tie.Need-mul-x
-mul-x c = search needs
+mul-x c = let h = forward-cell c in search needs
 
 -- src/lib.rt:392:17
 slice-read-x : tie.Need-slice-read-x
-slice-read-x c = search needs
+slice-read-x c = let h = forward-cell (c .before) in search needs
 
 -- src/lib.rt:392:17
 add-x : tie.Need-add-x
-add-x c = let h = c .before .before .before .before .before .pre .3 .fromRow (omega arith) (c .before .before .if2 .taken) in record { fits = c .before .before .before .before .before .pre .4 (c .before .place .result) (rw (c .before .place .ensures .0) (digits-lt (omega arith) (omega arith))) }
+add-x c = record { fits = c .before .before .before .before .before .pre .4 (c .before .place .result) (forward-cell (c .before)) }
 
 -- src/lib.rt:393:9
 put-flow-requires : tie.Need-put-flow-requires
-put-flow-requires c κs = search needs
+put-flow-requires c κs = let h = forward-cell (c .before .before) in search needs
 
 -- src/lib.rt:394:9
 same-length : tie.Need-same-length
@@ -56,7 +63,7 @@ same-length c = search needs
 -- src/lib.rt:394:9
 returns-2 : tie.Need-returns-2
 returns-2 c = let a = c .before .before .before .before .before .before .before .before .before .args in
-    c .before .before .put-flow .ensures ∙ ap (λ (k : ℕ). set (a .flow .now) k (getD (a .flow .now) k 0 + a .n)) (c .before .before .before .before .before .place .ensures .0) ∙ sent-row (a .r) (a .c) (a .n) (a .u) (a .v) (a .flow .now) (c .before .before .before .before .before .before .before .if1 .left) (c .before .before .before .before .before .before .if2 .taken)
+    c .before .before .put-flow .ensures ∙ ap (λ (k : ℕ). set (a .flow .now) k (getD (a .flow .now) k 0 + a .n)) (c .before .before .before .before .before .place .ensures) ∙ sent-row (a .r) (a .c) (a .n) (a .u) (a .v) (a .flow .now) (c .before .before .before .before .before .before .before .if1 .left) (c .before .before .before .before .before .before .if2 .taken)
 
 -- src/lib.rt:396:13
 add-if3 : tie.Need-add-if3
@@ -88,11 +95,11 @@ place-requires-2 c κs = let h = c .before .before .before .before .pre .3 .from
 
 -- src/lib.rt:400:18
 mul-less : tie.Need-mul-less
-mul-less c = search needs
+mul-less c = let h = back-cell c in search needs
 
 -- src/lib.rt:400:18
 slice-read-less : tie.Need-slice-read-less
-slice-read-less c = search needs
+slice-read-less c = let h = back-cell (c .before) in search needs
 
 -- src/lib.rt:400:9
 less-requires : tie.Need-less-requires
@@ -100,7 +107,7 @@ less-requires c κs = search needs
 
 -- src/lib.rt:401:5
 put-flow-requires-2 : tie.Need-put-flow-requires-2
-put-flow-requires-2 c κs = search needs
+put-flow-requires-2 c κs = let h = back-cell (c .before .before .before) in search needs
 
 -- src/lib.rt:383:1
 same-length-2 : tie.Need-same-length-2
@@ -109,7 +116,7 @@ same-length-2 c = search needs
 -- src/lib.rt:383:1
 returns-4 : tie.Need-returns-4
 returns-4 c = let a = c .before .before .before .before .before .before .before .before .before .before .before .args in
-    c .before .before .put-flow2 .ensures ∙ ap (λ (x : ℕ). set (a .flow .now) (c .before .before .before .before .before .before .place2 .result) x) (c .before .before .before .before .less .ensures) ∙ ap (λ (k : ℕ). set (a .flow .now) k (getD (a .flow .now) k 0 - a .n)) (c .before .before .before .before .before .before .place2 .ensures .0) ∙ sent-back (a .r) (a .c) (a .n) (a .u) (a .v) (a .flow .now) (c .before .before .before .before .before .before .before .before .before .if1 .left) (omega arith) (c .before .before .before .before .before .before .before .if3 .left)
+    c .before .before .put-flow2 .ensures ∙ ap (λ (x : ℕ). set (a .flow .now) (c .before .before .before .before .before .before .place2 .result) x) (c .before .before .before .before .less .ensures) ∙ ap (λ (k : ℕ). set (a .flow .now) k (getD (a .flow .now) k 0 - a .n)) (c .before .before .before .before .before .before .place2 .ensures) ∙ sent-back (a .r) (a .c) (a .n) (a .u) (a .v) (a .flow .now) (c .before .before .before .before .before .before .before .before .before .if1 .left) (omega arith) (c .before .before .before .before .before .before .before .if3 .left)
 
 pub send-on-spec : {M : Type 1} → statement M
 send-on-spec =

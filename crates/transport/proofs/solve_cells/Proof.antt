@@ -1,9 +1,7 @@
 use Rattle.transport.proofs.Solves.{none-row, none-column, none-uneven}
-use Rattle.search.specs.Fits.{cells-fit}
 use Prim.Native.Nat.{_-_}
 use native.Mathlib.Omega.{arith}
 use mathlib.Core.Path.{sym, _∙_}
-use lib.ListN.{length}
 use borrow.Author.Needs.{needs}
 use Rattle.transport.proofs.solve_cells.Statement.{statement}
 use Rattle.transport.proofs.solve_cells.Tie as tie
@@ -53,9 +51,7 @@ returns-3 c =
 -- src/lib.rt:759:5
 empty-plan-requires : tie.Need-empty-plan-requires
 empty-plan-requires c κs =
-    let a = c .before .before .before .before .before .before .before .before .before .before .before .before .before .args in
     let Z = c .before .before .before .before .before .before .before .before .before .before .before .before .before .pre in
-    let q = cells-fit (length (a .supply .now)) (length (a .demand .now)) (Z .rows) (Z .columns) in
     omega (arith, Z .sizesLong, Z .flowLong)
 
 -- src/lib.rt:736:1

@@ -1,5 +1,4 @@
 use Rattle.transport.proofs.Solves.{small, start-of, start-problem, plan-in, weight-same, solved-plan, solved-none, over-emptied, over-rest}
-use Rattle.search.specs.Fits.{cells-fit}
 use Rattle.transport.specs.Cells.{problemOf}
 use Rattle.transport.specs.Sending.{Start}
 use Rattle.wide.specs.Value.{unsigned}
@@ -47,16 +46,14 @@ lay-requires c κs = search needs
 -- src/lib.rt:727:5
 empty-plan-requires : tie.Need-empty-plan-requires
 empty-plan-requires c κs =
-    let a = c .before .before .before .before .before .before .before .before .before .before .before .before .before .before .args in
     let Z = c .before .before .before .before .before .before .before .before .before .before .before .before .before .before .pre .0 in
-    let q = cells-fit (length (a .supply .now)) (length (a .demand .now)) (Z .rows) (Z .columns) in
     omega (arith, Z .sizesLong, Z .flowLong)
 
 -- src/lib.rt:728:8
 send-all-requires : tie.Need-send-all-requires
 send-all-requires c κs =
     let Z = c .before .before .before .before .before .before .before .before .before .before .before .before .before .before .before .before .before .before .before .pre .0 in
-    (Z .rows, Z .columns, c .before .before .before .before .before .before .before .before .lay .ensures .0 .size, omega (arith, Z .flowLong), c .before .before .before .before .before .before .before .before .before .before .before .before .before .before .before .before .before .before .before .pre .1, begun (c .before .before .before .before) .0)
+    (Z .rows, Z .columns, omega (arith, c .before .before .before .before .before .before .before .before .lay .ensures .0 .size, Z .sizesLong), omega (arith, Z .flowLong), c .before .before .before .before .before .before .before .before .before .before .before .before .before .before .before .before .before .before .before .pre .1, begun (c .before .before .before .before) .0)
 
 -- src/lib.rt:729:9
 same-length : tie.Need-same-length
@@ -84,9 +81,7 @@ returns c =
 -- src/lib.rt:731:5
 empty-plan-requires-2 : tie.Need-empty-plan-requires-2
 empty-plan-requires-2 c κs =
-    let a = c .before .before .before .before .before .before .before .before .before .before .before .before .before .before .before .before .before .before .before .before .before .before .before .before .args in
     let Z = c .before .before .before .before .before .before .before .before .before .before .before .before .before .before .before .before .before .before .before .before .before .before .before .before .pre .0 in
-    let q = cells-fit (length (a .supply .now)) (length (a .demand .now)) (Z .rows) (Z .columns) in
     omega (arith, Z .sizesLong, Z .flowLong)
 
 -- src/lib.rt:712:1

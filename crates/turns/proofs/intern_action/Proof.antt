@@ -1,5 +1,6 @@
 use native.Mathlib.Omega.{arith}
 use borrow.Author.Needs.{needs}
+use Rattle.terms.specs.ShortLaws.{unless-map}
 use Rattle.turns.proofs.intern_action.Statement.{statement}
 use Rattle.turns.proofs.intern_action.Tie as tie
 
@@ -33,7 +34,9 @@ same-length-3 c = search needs
 
 -- src/lib.rt:542:1
 returns : tie.Need-returns
-returns c = rw (c .before .before .before .before .before .before .before .low .ensures, c .before .before .before .before .before .before .before .before .before .before .before .is-commutative .ensures, c .before .before .before .before .before .before .before .before .before .before .before .before .kind .ensures .0) at (c .before .before .before .before .before .before .intern-action-result .ensures)
+returns c =
+    let b = c .before .before .before .before .before .before .before .before .before .before .before .before .before .before .before .before .before in
+    unless-map (b .args .terms .now) (b .args .runs .now) (c .before .before .before .before .before .before .intern-action-result .result) (λ s. (s .0, s .1)) (λ A. rw (c .before .before .before .before .before .before .before .low .ensures, c .before .before .before .before .before .before .before .before .before .before .before .is-commutative .ensures, c .before .before .before .before .before .before .before .before .before .before .before .before .kind .ensures .0) at A) (c .before .before .before .before .before .before .intern-action-result .ensures)
 
 pub intern-action-spec : {M : Type 1} → statement M
 intern-action-spec =

@@ -41,22 +41,22 @@ size-of-requires : tie.Need-size-of-requires Inv-loop μ-loop
 size-of-requires c κs =
     let b = c .before .before .before .before .before .before .before .before .before .before in
     let a = b .args in
-    let j = cell-joined (pairOf (held (a .rows) (a .left .now)) (held (a .cols) (a .right .now))) (b .pre .5) (c .before .before .before .loop .k) (omega (arith, c .before .before .before .loop .inv .1, c .before .before .loop-test .taken, (cell-count (a .left .now) (a .right .now) (a .rows) (a .cols) (c .before .before .before .loop .k) (b .pre .1) (b .pre .2) (b .pre .3) (b .pre .4) (omega (arith, c .before .before .before .loop .inv .1, c .before .before .loop-test .taken))))) (c .before .cell .result .left) (c .before .cell .result .right) (c .before .cell .ensures) in (b .pre .0, j .0, j .1)
+    let j = cell-joined (pairOf (held (a .rows) (a .left .now)) (held (a .cols) (a .right .now))) (b .pre .5) (c .before .before .before .loop .k) (omega (arith, c .before .before .before .loop .inv .1, c .before .before .loop-test .taken, (cell-count (a .left .now) (a .right .now) (a .rows) (a .cols) (c .before .before .before .loop .k) (b .pre .1) (b .pre .2) (b .pre .3) (b .pre .4) (omega (arith, c .before .before .before .loop .inv .1, c .before .before .loop-test .taken))))) (c .before .cell .result .left) (c .before .cell .result .right) (c .before .cell .ensures) in (b .pre .0, j)
 
 -- src/lib.rt:108:9
 put4-requires : tie.Need-put4-requires Inv-loop μ-loop
-put4-requires c κs = let b = c .before .before .before .before .before .before .before .before .before .before .before in let a = b .args in omega (arith, c .before .before .before .before .loop .inv .2, c .before .before .before .before .loop .inv .3 .long, b .pre .6, c .before .before .before .loop-test .taken)
+put4-requires c κs = let b = c .before .before .before .before .before .before .before .before .before .before .before in let a = b .args in omega (arith, c .before .before .before .before .loop .inv .1, c .before .before .before .before .loop .inv .3 .long, b .pre .6, c .before .before .before .loop-test .taken)
 
 -- src/lib.rt:109:25
 mass-of-requires : tie.Need-mass-of-requires Inv-loop μ-loop
 mass-of-requires c κs =
     let b = c .before .before .before .before .before .before .before .before .before .before .before .before .before .before .before in
     let a = b .args in
-    let j = cell-joined (pairOf (held (a .rows) (a .left .now)) (held (a .cols) (a .right .now))) (b .pre .5) (c .before .before .before .before .before .before .before .before .loop .k) (omega (arith, c .before .before .before .before .before .before .before .before .loop .inv .1, c .before .before .before .before .before .before .before .loop-test .taken, (cell-count (a .left .now) (a .right .now) (a .rows) (a .cols) (c .before .before .before .before .before .before .before .before .loop .k) (b .pre .1) (b .pre .2) (b .pre .3) (b .pre .4) (omega (arith, c .before .before .before .before .before .before .before .before .loop .inv .1, c .before .before .before .before .before .before .before .loop-test .taken))))) (c .before .before .before .before .before .before .cell .result .left) (c .before .before .before .before .before .before .cell .result .right) (c .before .before .before .before .before .before .cell .ensures) in (b .pre .0, j .0, j .1)
+    let j = cell-joined (pairOf (held (a .rows) (a .left .now)) (held (a .cols) (a .right .now))) (b .pre .5) (c .before .before .before .before .before .before .before .before .loop .k) (omega (arith, c .before .before .before .before .before .before .before .before .loop .inv .1, c .before .before .before .before .before .before .before .loop-test .taken, (cell-count (a .left .now) (a .right .now) (a .rows) (a .cols) (c .before .before .before .before .before .before .before .before .loop .k) (b .pre .1) (b .pre .2) (b .pre .3) (b .pre .4) (omega (arith, c .before .before .before .before .before .before .before .before .loop .inv .1, c .before .before .before .before .before .before .before .loop-test .taken))))) (c .before .before .before .before .before .before .cell .result .left) (c .before .before .before .before .before .before .cell .result .right) (c .before .before .before .before .before .before .cell .ensures) in (b .pre .0, j)
 
 -- src/lib.rt:109:9
 put4-requires-2 : tie.Need-put4-requires-2 Inv-loop μ-loop
-put4-requires-2 c κs = let b = c .before .before .before .before .before .before .before .before .before .before .before .before .before .before .before .before in let a = b .args in omega (arith, c .before .before .before .before .before .before .before .before .before .loop .inv .2, c .before .before .before .before .before .before .before .before .before .loop .inv .4 .long, b .pre .7, c .before .before .before .before .before .before .before .before .loop-test .taken)
+put4-requires-2 c κs = let b = c .before .before .before .before .before .before .before .before .before .before .before .before .before .before .before .before in let a = b .args in omega (arith, c .before .before .before .before .before .before .before .before .before .loop .inv .1, c .before .before .before .before .before .before .before .before .before .loop .inv .4 .long, b .pre .7, c .before .before .before .before .before .before .before .before .loop-test .taken)
 
 -- src/lib.rt:110:9
 add-k : tie.Need-add-k Inv-loop μ-loop

@@ -44,7 +44,7 @@ list-cell-requires c κs =
     let b = c .before .before .before .before .before .before .before .before .before .before .before in
     let a = b .args in
     let m = pairOf (held (a .rows) (a .left .now)) (held (a .cols) (a .right .now)) in
-    let j = cell-joined m (b .pre .5) (c .before .before .before .before .loop .k) (omega (arith, b .pre .6, c .before .before .before .loop-test .taken, (cells-length m ∙ (λ i. held-length (a .left .now) (a .rows) (b .pre .1) (b .pre .3) i * held-length (a .right .now) (a .cols) (b .pre .2) (b .pre .4) i)))) (c .before .before .cell .result .left) (c .before .before .cell .result .right) (c .before .before .cell .ensures) in (b .pre .0, j .0, j .1, b .pre .7 (c .before .before .before .before .loop .k) (c .before .before .before .loop-test .taken), omega (arith, c .before .before .before .before .loop .inv .few, c .before .before .before .before .loop .inv .long, b .pre .8, b .pre .6, c .before .before .before .loop-test .taken, cells-fit (a .rows) (a .cols) (b .pre .3) (b .pre .4)))
+    let j = cell-joined m (b .pre .5) (c .before .before .before .before .loop .k) (omega (arith, b .pre .6, c .before .before .before .loop-test .taken, (cells-length m ∙ (λ i. held-length (a .left .now) (a .rows) (b .pre .1) (b .pre .3) i * held-length (a .right .now) (a .cols) (b .pre .2) (b .pre .4) i)))) (c .before .before .cell .result .left) (c .before .before .cell .result .right) (c .before .before .cell .ensures) in (b .pre .0, j, b .pre .7 (c .before .before .before .before .loop .k) (c .before .before .before .loop-test .taken), omega (arith, c .before .before .before .before .loop .inv .few, c .before .before .before .before .loop .inv .long, b .pre .8, b .pre .6, c .before .before .before .loop-test .taken))
 
 -- src/lib.rt:187:9
 add-k : tie.Need-add-k Inv-loop μ-loop
@@ -64,7 +64,7 @@ loop-again c =
     let a = b .args in
     let m = pairOf (held (a .rows) (a .left .now)) (held (a .cols) (a .right .now)) in
     let of = termIn (a .index .now) (a .pairs .now) in
-    rw (c .before .before .list-cell .ensures .0, c .before .before .list-cell .ensures .1) (listed-more of (cellPairs m) (a .x .now) (a .list .now) (c .before .before .before .before .before .before .before .loop .k) (c .before .before .before .before .before .before .before .loop .m) (c .before .before .before .before .before .before .before .loop .list) (c .before .before .before .before .before .before .before .loop .inv) (omega (arith, b .pre .6, (cells-length m ∙ (λ i. held-length (a .left .now) (a .rows) (b .pre .1) (b .pre .3) i * held-length (a .right .now) (a .cols) (b .pre .2) (b .pre .4) i)))) (omega (arith, b .pre .6, b .pre .8, cells-fit (a .rows) (a .cols) (b .pre .3) (b .pre .4))) (c .before .before .before .before .before .before .loop-test .taken) (getD (a .x .now) (c .before .before .before .before .before .before .before .loop .k) 0) (of (with (c .before .before .before .before .before .cell .result .left) (c .before .before .before .before .before .cell .result .right))) refl (ap of (c .before .before .before .before .before .cell .ensures)))
+    rw (c .before .before .list-cell .ensures .0, c .before .before .list-cell .ensures .1) (listed-more of (cellPairs m) (a .x .now) (a .list .now) (c .before .before .before .before .before .before .before .loop .k) (c .before .before .before .before .before .before .before .loop .m) (c .before .before .before .before .before .before .before .loop .list) (c .before .before .before .before .before .before .before .loop .inv) (omega (arith, b .pre .6, (cells-length m ∙ (λ i. held-length (a .left .now) (a .rows) (b .pre .1) (b .pre .3) i * held-length (a .right .now) (a .cols) (b .pre .2) (b .pre .4) i)))) (omega (arith, b .pre .6, b .pre .8)) (c .before .before .before .before .before .before .loop-test .taken) (getD (a .x .now) (c .before .before .before .before .before .before .before .loop .k) 0) (of (with (c .before .before .before .before .before .cell .result .left) (c .before .before .before .before .before .cell .result .right))) refl (ap of (c .before .before .before .before .before .cell .ensures)))
 
 -- src/lib.rt:166:1
 same-length : tie.Need-same-length Inv-loop μ-loop
@@ -77,7 +77,7 @@ returns c =
     let a = b .args in
     let m = pairOf (held (a .rows) (a .left .now)) (held (a .cols) (a .right .now)) in
     let of = termIn (a .index .now) (a .pairs .now) in
-    let f : length (a .x .now) ≤ length (a .list .now) = omega (arith, b .pre .6, b .pre .8, cells-fit (a .rows) (a .cols) (b .pre .3) (b .pre .4)) in
+    let f : length (a .x .now) ≤ length (a .list .now) = omega (arith, b .pre .6, b .pre .8) in
     (listed-many of (cellPairs m) (a .x .now) (a .list .now) (c .before .loop .k) (c .before .loop .m) (c .before .loop .list) (c .before .loop .inv) (omega (arith, c .loop-test .left)) f, listed-all of (cellPairs m) (a .x .now) (a .list .now) (c .before .loop .k) (c .before .loop .m) (c .before .loop .list) (c .before .loop .inv) (omega (arith, c .loop-test .left)) f)
 
 pub list-plan-spec : {M : Type 1} → statement M

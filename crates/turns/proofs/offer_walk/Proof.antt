@@ -3,6 +3,7 @@ use borrow.Author.Needs.{needs}
 use Rattle.spec.specs.Image.{tablesOf}
 use Rattle.ac_repr.specs.Walk.{actionsAt}
 use Rattle.quality.specs.Known.{qualityIn, termIn}
+use Rattle.turns.specs.Room.{enough-map}
 use Rattle.turns.specs.Offers.{workOf}
 use Rattle.turns.specs.Walking.{offers-none, offers-one, one-joined, found-none, found-few, found-one, found-left, found-right}
 use Rattle.turns.proofs.offer_walk.Statement.{statement}
@@ -42,7 +43,7 @@ offer-transport-requires c κs =
     let b = c .before .before .before .before .before .before .before .before .before .before .before .before .before .before .before .before .before .before .before .before .before .before .before .before in
     let a = b .args in
     let t = tablesOf (a .s .now) in
-    (b .pre .5, omega (arith, c .before .before .before .before .before .before .before .before .before .before .before .before .monomials .kept), omega (arith, c .before .before .before .before .before .before .before .before .before .before .before .before .monomials .kept), found-few t (a .l) (a .r) (a .w) _ _ _ _ (c .before .before .before .before .before .before .before .before .before .before .before .before .monomials .result) (c .before .before .before .before .before .before .before .before .before .before .before .before .monomials .ensures) (c .before .before .before .before .before .before .before .before .p .given .0 .0) (c .before .before .before .before .before .before .before .before .p .given .0 .1 .0) (c .before .before .before .before .before .before .before .before .p .given .1) .0, found-few t (a .l) (a .r) (a .w) _ _ _ _ (c .before .before .before .before .before .before .before .before .before .before .before .before .monomials .result) (c .before .before .before .before .before .before .before .before .before .before .before .before .monomials .ensures) (c .before .before .before .before .before .before .before .before .p .given .0 .0) (c .before .before .before .before .before .before .before .before .p .given .0 .1 .0) (c .before .before .before .before .before .before .before .before .p .given .1) .1, one-joined (actionsAt t (a .l) (a .r) (a .w)) _ (b .pre .7) (found-one t (a .l) (a .r) (a .w) _ _ _ _ (c .before .before .before .before .before .before .before .before .before .before .before .before .monomials .result) (c .before .before .before .before .before .before .before .before .before .before .before .before .monomials .ensures) (c .before .before .before .before .before .before .before .before .p .given .0 .0) (c .before .before .before .before .before .before .before .before .p .given .0 .1 .0) (c .before .before .before .before .before .before .before .before .p .given .1)), found-left t (a .l) (a .r) (a .w) _ _ _ _ (c .before .before .before .before .before .before .before .before .before .before .before .before .monomials .result) (c .before .before .before .before .before .before .before .before .before .before .before .before .monomials .ensures) (c .before .before .before .before .before .before .before .before .p .given .0 .0) (c .before .before .before .before .before .before .before .before .p .given .0 .1 .0) (c .before .before .before .before .before .before .before .before .p .given .1), found-right t (a .l) (a .r) (a .w) _ _ _ _ (c .before .before .before .before .before .before .before .before .before .before .before .before .monomials .result) (c .before .before .before .before .before .before .before .before .before .before .before .before .monomials .ensures) (c .before .before .before .before .before .before .before .before .p .given .0 .0) (c .before .before .before .before .before .before .before .before .p .given .0 .1 .0) (c .before .before .before .before .before .before .before .before .p .given .1), b .pre .6, b .pre .8, b .pre .9, b .pre .10, b .pre .11, b .pre .12)
+    (b .pre .5, omega (arith, c .before .before .before .before .before .before .before .before .before .before .before .before .monomials .kept), omega (arith, c .before .before .before .before .before .before .before .before .before .before .before .before .monomials .kept), found-few t (a .l) (a .r) (a .w) _ _ _ _ (c .before .before .before .before .before .before .before .before .before .before .before .before .monomials .result) (c .before .before .before .before .before .before .before .before .before .before .before .before .monomials .ensures) (c .before .before .before .before .before .before .before .before .p .given .0 .0) (c .before .before .before .before .before .before .before .before .p .given .0 .1 .0) (c .before .before .before .before .before .before .before .before .p .given .1) .0, found-few t (a .l) (a .r) (a .w) _ _ _ _ (c .before .before .before .before .before .before .before .before .before .before .before .before .monomials .result) (c .before .before .before .before .before .before .before .before .before .before .before .before .monomials .ensures) (c .before .before .before .before .before .before .before .before .p .given .0 .0) (c .before .before .before .before .before .before .before .before .p .given .0 .1 .0) (c .before .before .before .before .before .before .before .before .p .given .1) .1, one-joined (actionsAt t (a .l) (a .r) (a .w)) _ (b .pre .6) (found-one t (a .l) (a .r) (a .w) _ _ _ _ (c .before .before .before .before .before .before .before .before .before .before .before .before .monomials .result) (c .before .before .before .before .before .before .before .before .before .before .before .before .monomials .ensures) (c .before .before .before .before .before .before .before .before .p .given .0 .0) (c .before .before .before .before .before .before .before .before .p .given .0 .1 .0) (c .before .before .before .before .before .before .before .before .p .given .1)), found-left t (a .l) (a .r) (a .w) _ _ _ _ (c .before .before .before .before .before .before .before .before .before .before .before .before .monomials .result) (c .before .before .before .before .before .before .before .before .before .before .before .before .monomials .ensures) (c .before .before .before .before .before .before .before .before .p .given .0 .0) (c .before .before .before .before .before .before .before .before .p .given .0 .1 .0) (c .before .before .before .before .before .before .before .before .p .given .1), found-right t (a .l) (a .r) (a .w) _ _ _ _ (c .before .before .before .before .before .before .before .before .before .before .before .before .monomials .result) (c .before .before .before .before .before .before .before .before .before .before .before .before .monomials .ensures) (c .before .before .before .before .before .before .before .before .p .given .0 .0) (c .before .before .before .before .before .before .before .before .p .given .0 .1 .0) (c .before .before .before .before .before .before .before .before .p .given .1), b .pre .7)
 
 -- src/lib.rt:395:1
 returns : tie.Need-returns
@@ -81,7 +82,7 @@ returns-2 c =
     let the-monomials = c .before .before .before .before .before .before .before .before .before .before .before .before .before .before .before .before .before .before .before .before .before .before .before .monomials in
     let the-p = c .before .before .before .before .before .before .before .before .before .before .before .before .before .before .before .before .before .before .before .p in
     let t = tablesOf (a .s .now) in
-    offers-one (qualityIn (a .index .now) (a .pairs .now)) (termIn (a .index .now) (a .pairs .now)) (actionsAt t (a .l) (a .r) (a .w)) _ (workOf (a .sizes .now) (a .masses .now) (a .costs .now) (a .flow .now) (a .list .now) (a .best)) _ (found-one t (a .l) (a .r) (a .w) _ _ _ _ (the-monomials .result) (the-monomials .ensures) (the-p .given .0 .0) (the-p .given .0 .1 .0) (the-p .given .1)) (c .before .before .before .before .before .before .before .before .before .before .offer-transport .ensures)
+    enough-map _ (c .before .before .before .before .before .before .before .before .before .before .offer-transport .result) (λ y e. offers-one (qualityIn (a .index .now) (a .pairs .now)) (termIn (a .index .now) (a .pairs .now)) (actionsAt t (a .l) (a .r) (a .w)) _ (workOf (a .sizes .now) (a .masses .now) (a .costs .now) (a .flow .now) (a .list .now) (a .best)) _ (found-one t (a .l) (a .r) (a .w) _ _ _ _ (the-monomials .result) (the-monomials .ensures) (the-p .given .0 .0) (the-p .given .0 .1 .0) (the-p .given .1)) e) (c .before .before .before .before .before .before .before .before .before .before .offer-transport .ensures)
 
 pub offer-walk-spec : {M : Type 1} → statement M
 offer-walk-spec =

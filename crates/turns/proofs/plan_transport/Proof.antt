@@ -1,10 +1,6 @@
-use mathlib.Core.Path.{_≡_, ap, _∙_}
-use Prim.Native.Nat.{ℕ}
 use native.Mathlib.Omega.{arith}
 use borrow.Author.Needs.{needs}
-use lib.ListN.{length-replicate, length}
 use Rattle.quality.specs.Known.{qualityIn}
-use Rattle.turns.specs.Cells.{cells-fit}
 use Rattle.turns.specs.OfferLaws.{tried-is}
 use Rattle.turns.proofs.plan_transport.Statement.{statement}
 use Rattle.turns.proofs.plan_transport.Tie as tie
@@ -42,8 +38,7 @@ solve-requires : tie.Need-solve-requires
 solve-requires c κs =
     let b = c .before .before .before .before .before .before .before .before .before .before .before .before .before .before .before .before .before .before .before .before .before .before .before .before .before .before .before .before in
     let a = b .args in
-    let z : length (a .ones .now) ≡ 4225 = ap length (b .pre .8) ∙ length-replicate {A = ℕ} 4225 1 in
-    (b .pre .3, b .pre .4, omega (arith, c .before .before .before .before .before .before .before .before .before .before .before .before .before .before .before .before .before .lay-margin .kept), omega (arith, c .before .before .before .before .before .before .before .before .before .before .before .before .before .before .lay-margin2 .kept), omega (arith, z), omega (arith, c .before .before .before .before .before .before .before .before .before .before .lay-cells .kept, b .pre .9), omega (arith, c .before .before .before .before .before .before .before .before .before .before .lay-cells .kept, b .pre .10), b .pre .11, b .pre .12)
+    (b .pre .3, b .pre .4, omega (arith, c .before .before .before .before .before .before .before .before .before .before .before .before .before .before .before .before .before .lay-margin .kept), omega (arith, c .before .before .before .before .before .before .before .before .before .before .before .before .before .before .lay-margin2 .kept), b .pre .9, omega (arith, c .before .before .before .before .before .before .before .before .before .before .lay-cells .kept, b .pre .10), omega (arith, c .before .before .before .before .before .before .before .before .before .before .lay-cells .kept, b .pre .11), b .pre .12, b .pre .13)
 
 -- src/lib.rt:265:1
 same-length : tie.Need-same-length
@@ -68,7 +63,7 @@ returns c =
     let a = b .args in
     let the-lay-cells = c .before .before .before .before .before .before .before .before .before .before .before .before .before .before .before .lay-cells in
     let the-solve = c .before .before .before .before .solve in
-    tried-is (qualityIn (a .index .now) (a .pairs .now)) (a .left .now) (a .right .now) (a .rows) (a .cols) (b .pre .1) (b .pre .2) (b .pre .3) (b .pre .4) _ _ (a .sizes .now) (a .masses .now) _ _ _ _ (a .ones .now) (c .before .before .before .before .before .before .before .before .before .before .before .before .before .before .before .before .before .before .before .before .before .before .lay-margin .ensures) (c .before .before .before .before .before .before .before .before .before .before .before .before .before .before .before .before .before .before .before .lay-margin2 .ensures) (the-lay-cells .ensures .0) (the-lay-cells .ensures .1) (b .pre .8) (cells-fit (a .rows) (a .cols) (b .pre .3) (b .pre .4)) (a .costs .now) (a .flow .now) _ _ (the-solve .result) (the-solve .ensures)
+    tried-is (qualityIn (a .index .now) (a .pairs .now)) (a .left .now) (a .right .now) (a .rows) (a .cols) (b .pre .1) (b .pre .2) (b .pre .3) (b .pre .4) _ _ (a .sizes .now) (a .masses .now) _ _ _ _ (a .ones .now) (c .before .before .before .before .before .before .before .before .before .before .before .before .before .before .before .before .before .before .before .before .before .before .lay-margin .ensures) (c .before .before .before .before .before .before .before .before .before .before .before .before .before .before .before .before .before .before .before .lay-margin2 .ensures) (the-lay-cells .ensures .0) (the-lay-cells .ensures .1) (b .pre .8) (b .pre .9) (a .costs .now) (a .flow .now) _ _ (the-solve .result) (the-solve .ensures)
 
 pub plan-transport-spec : {M : Type 1} → statement M
 plan-transport-spec =

@@ -43,7 +43,7 @@ part-solve-cells-start-3 c = search needs
 
 -- src/lib.rt:221:9
 part-solve-cells-end-3 : tie.Need-part-solve-cells-end-3
-part-solve-cells-end-3 c = let b = c .before .before .before .before .before .before .before .before .before in omega (arith, cells-fit (b .args .rows) (b .args .cols) (b .pre .0) (b .pre .1), b .pre .5)
+part-solve-cells-end-3 c = let b = c .before .before .before .before .before .before .before .before .before in omega (arith, b .pre .5)
 
 -- src/lib.rt:222:9
 sub-solve-cells-4 : tie.Need-sub-solve-cells-4
@@ -55,7 +55,7 @@ part-solve-cells-start-4 c = search needs
 
 -- src/lib.rt:222:9
 part-solve-cells-end-4 : tie.Need-part-solve-cells-end-4
-part-solve-cells-end-4 c = let b = c .before .before .before .before .before .before .before .before .before .before in omega (arith, cells-fit (b .args .rows) (b .args .cols) (b .pre .0) (b .pre .1), b .pre .6)
+part-solve-cells-end-4 c = let b = c .before .before .before .before .before .before .before .before .before .before in omega (arith, b .pre .6)
 
 -- src/lib.rt:223:9
 sub-solve-cells-5 : tie.Need-sub-solve-cells-5
@@ -67,7 +67,7 @@ part-solve-cells-start-5 c = search needs
 
 -- src/lib.rt:223:9
 part-solve-cells-end-5 : tie.Need-part-solve-cells-end-5
-part-solve-cells-end-5 c = let b = c .before .before .before .before .before .before .before .before .before .before .before in omega (arith, cells-fit (b .args .rows) (b .args .cols) (b .pre .0) (b .pre .1), b .pre .4)
+part-solve-cells-end-5 c = let b = c .before .before .before .before .before .before .before .before .before .before .before in omega (arith, b .pre .4)
 
 -- src/lib.rt:218:5
 solve-cells-requires : tie.Need-solve-cells-requires

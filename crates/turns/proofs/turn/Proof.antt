@@ -3,6 +3,7 @@ use borrow.Author.Needs.{needs}
 use Rattle.spec.specs.Image.{tablesOf}
 use Rattle.quality.specs.Within.{quality-low}
 use Rattle.quality.specs.Known.{qualityIn, termIn, numberIn}
+use Rattle.turns.specs.Room.{enough-map}
 use Rattle.turns.specs.Offers.{workOf}
 use Rattle.turns.specs.Ending.{turn-done, turn-left, turn-fits}
 use Rattle.turns.proofs.turn.Statement.{statement}
@@ -10,11 +11,11 @@ use Rattle.turns.proofs.turn.Tie as tie
 
 -- src/lib.rt:522:9
 best-aligned-requires : tie.Need-best-aligned-requires
-best-aligned-requires c κs = let b = c .before .before .before .before .before .before .before .before .before in (b .pre .0, b .pre .1, b .pre .2, b .pre .3, b .pre .4)
+best-aligned-requires c κs = let b = c .before .before .before .before .before .before .before .before .before in (b .pre .0, b .pre .1, b .pre .2, b .pre .3, b .pre .4, b .pre .6)
 
 -- src/lib.rt:523:5
 offer-transports-requires : tie.Need-offer-transports-requires
-offer-transports-requires c κs = let b = c .before .before .before .before .before .before .before .before .before .before .before .before .before .before .before in (b .pre .0, b .pre .1, b .pre .2, b .pre .3, b .pre .4, b .pre .5, b .pre .6, b .pre .7, b .pre .8, b .pre .9, b .pre .10)
+offer-transports-requires c κs = let b = c .before .before .before .before .before .before .before .before .before .before .before .before .before .before .before in (b .pre .0, b .pre .1, b .pre .2, b .pre .3, b .pre .4, b .pre .5, b .pre .6)
 
 -- src/lib.rt:500:1
 same-length : tie.Need-same-length
@@ -45,8 +46,11 @@ returns c =
     let of = termIn (a .index .now) (a .pairs .now) in
     let t = tablesOf (a .s .now) in
     let f = c .before .before .before .before .before .before .before .before .before .before .before .before .before .before .before .before .before .before .before .before .before .before .before .shared-slice-known3 .given (numberIn (a .index .now) (a .l, a .r)) in
-    let z = turn-fits t q of (a .l, a .r) _ (c .before .before .before .before .before .before .before .before .before .before .offer-transports .result) (turn-done t q of (a .l, a .r) (workOf (a .sizes .now) (a .masses .now) (a .costs .now) (a .flow .now) (a .list .now) (c .before .before .before .before .before .before .before .before .before .before .before .before .before .before .before .before .best-aligned .result)) _ (c .before .before .before .before .before .before .before .before .before .before .offer-transports .ensures) (c .before .before .before .before .before .before .before .before .before .before .before .before .before .before .before .before .best-aligned .ensures)) (quality-low (b .pre .4)) (omega (arith, f .fits)) in
-    (turn-done t q of (a .l, a .r) (workOf (a .sizes .now) (a .masses .now) (a .costs .now) (a .flow .now) (a .list .now) (c .before .before .before .before .before .before .before .before .before .before .before .before .before .before .before .before .best-aligned .result)) _ (c .before .before .before .before .before .before .before .before .before .before .offer-transports .ensures) (c .before .before .before .before .before .before .before .before .before .before .before .before .before .before .before .before .best-aligned .ensures), turn-left t q of (a .l, a .r) (workOf (a .sizes .now) (a .masses .now) (a .costs .now) (a .flow .now) (a .list .now) (c .before .before .before .before .before .before .before .before .before .before .before .before .before .before .before .before .best-aligned .result)) _ (c .before .before .before .before .before .before .before .before .before .before .offer-transports .ensures) (c .before .before .before .before .before .before .before .before .before .before .before .before .before .before .before .before .best-aligned .ensures), z .0, z .1)
+    enough-map _ (c .before .before .before .before .before .before .before .before .before .before .offer-transports .result)
+    (λ y e.
+    let z = turn-fits t q of (a .l, a .r) _ y (turn-done t q of (a .l, a .r) (workOf (a .sizes .now) (a .masses .now) (a .costs .now) (a .flow .now) (a .list .now) (c .before .before .before .before .before .before .before .before .before .before .before .before .before .before .before .before .best-aligned .result)) _ e (c .before .before .before .before .before .before .before .before .before .before .before .before .before .before .before .before .best-aligned .ensures)) (quality-low (b .pre .4)) (omega (arith, f .fits)) in
+    (turn-done t q of (a .l, a .r) (workOf (a .sizes .now) (a .masses .now) (a .costs .now) (a .flow .now) (a .list .now) (c .before .before .before .before .before .before .before .before .before .before .before .before .before .before .before .before .best-aligned .result)) _ e (c .before .before .before .before .before .before .before .before .before .before .before .before .before .before .before .before .best-aligned .ensures), turn-left t q of (a .l, a .r) (workOf (a .sizes .now) (a .masses .now) (a .costs .now) (a .flow .now) (a .list .now) (c .before .before .before .before .before .before .before .before .before .before .before .before .before .before .before .before .best-aligned .result)) _ e (c .before .before .before .before .before .before .before .before .before .before .before .before .before .before .before .before .best-aligned .ensures), z .0, z .1))
+    (c .before .before .before .before .before .before .before .before .before .before .offer-transports .ensures)
 
 pub turn-spec : {M : Type 1} → statement M
 turn-spec =

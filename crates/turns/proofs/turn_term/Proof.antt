@@ -1,12 +1,14 @@
 use mathlib.Core.Path.{_∙_}
 use native.Mathlib.Omega.{arith}
+use lib.ListN.{length}
 use borrow.Author.Needs.{needs}
 use Rattle.spec.specs.Image.{tablesOf}
 use Rattle.spec.specs.Round.{turnOf, ones}
 use Rattle.lgg.specs.TurnPlaces.{turn-placed}
 use Rattle.image.specs.Loaded.{operations-many}
 use Rattle.actions.specs.Remaining.{actionAt}
-use Rattle.quality.specs.Within.{class-few}
+use Rattle.terms.specs.ShortLaws.{unless-map}
+use Rattle.quality.specs.Within.{place-fits}
 use Rattle.quality.specs.Known.{qualityIn, termIn}
 use Rattle.quality.specs.declared.How.the-variants as H
 use Rattle.turns.specs.Listing.{runsOver}
@@ -24,7 +26,7 @@ term-of-requires : tie.Need-term-of-requires
 term-of-requires c κs =
     let b = c .before .before .before .before .before .before .before .before in
     let a = b .args in
-    (b .pre .4, class-few (a .s .now) (a .im) (b .pre .0) (b .pre .1) (a .l) (b .pre .2), class-few (a .s .now) (a .im) (b .pre .0) (b .pre .1) (a .r) (b .pre .3))
+    (b .pre .4, place-fits (a .s .now) (a .im) (b .pre .0) (b .pre .1) (length (a .index .now)) (b .pre .9) (a .l) (a .r) (b .pre .2) (b .pre .3))
 
 -- src/lib.rt:579:36
 num4-requires : tie.Need-num4-requires
@@ -40,7 +42,7 @@ list-action-requires c κs =
     let b = c .before .before .before .before .before .before .before .before .before .before in
     let a = b .args in
     let t = tablesOf (a .s .now) in
-    let h : Chosen t (termIn (a .index .now) (a .pairs .now)) (a .list .now) (H.Aligned (c .before .before .how .given .0 .0)) (turnOf t (qualityIn (a .index .now) (a .pairs .now)) (a .l, a .r) .choice) = rw (c .before .before .how .given .1) at (b .pre .8) in (b .pre .0, b .pre .1, h .0, b .pre .4, omega (arith, b .pre .7))
+    let h : Chosen t (termIn (a .index .now) (a .pairs .now)) (a .list .now) (H.Aligned (c .before .before .how .given .0 .0)) (turnOf t (qualityIn (a .index .now) (a .pairs .now)) (a .l, a .r) .choice) = rw (c .before .before .how .given .1) at (b .pre .8) in (b .pre .0, b .pre .1, h .0, b .pre .4, b .pre .7, b .pre .9)
 
 -- src/lib.rt:582:34
 op-requires : tie.Need-op-requires
@@ -112,7 +114,7 @@ returns-2 c =
     let of = termIn (a .index .now) (a .pairs .now) in
     let t = tablesOf (a .s .now) in
     let h : Chosen t of (a .list .now) (H.Aligned (the-how .given .0 .0)) (turnOf t q (a .l, a .r) .choice) = rw (the-how .given .1) at (b .pre .8) in
-    ended-act t of (a .terms .now) (a .runs .now) (b .pre .5) (known-below (b .pre .4) (b .pre .6)) (of (a .l, a .r)) (turnOf t q (a .l, a .r) .choice) (a .list .now) (actionAt t (the-how .given .0 .0) .op) (actionAt t (the-how .given .0 .0) .pairs) (ones (actionAt t (the-how .given .0 .0) .pairs)) (h .1) _ (the-list-action .ensures .1) (the-list-action .result) (the-list-action .ensures .0) _ _ _ (the-intern-action .result) (rw (c .before .before .before .before .before .before .before .before .before .before .op .ensures .0) at (the-intern-action .ensures))
+    unless-map (a .terms .now) (a .runs .now) (the-intern-action .result) (λ z. z) (λ A. ended-act t of (a .terms .now) (a .runs .now) (b .pre .5) (known-below (b .pre .4) (b .pre .6)) (of (a .l, a .r)) (turnOf t q (a .l, a .r) .choice) (a .list .now) (actionAt t (the-how .given .0 .0) .op) (actionAt t (the-how .given .0 .0) .pairs) (ones (actionAt t (the-how .given .0 .0) .pairs)) (h .1) _ (the-list-action .ensures .1) (the-list-action .result) (the-list-action .ensures .0) _ _ _ (the-intern-action .result) (rw (c .before .before .before .before .before .before .before .before .before .before .op .ensures .0) at A)) (the-intern-action .ensures)
 
 -- src/lib.rt:559:1
 same-length-4 : tie.Need-same-length-4
@@ -137,7 +139,7 @@ returns-3 c =
     let of = termIn (a .index .now) (a .pairs .now) in
     let t = tablesOf (a .s .now) in
     let h : Planned of (a .list .now) (the-how2 .given .0 .0) (the-how2 .given .0 .1 .0) (turnOf t q (a .l, a .r) .choice) = rw (the-how2 .given .1) at (b .pre .8) in
-    ended-act t of (a .terms .now) (a .runs .now) (b .pre .5) (known-below (b .pre .4) (b .pre .6)) (of (a .l, a .r)) (turnOf t q (a .l, a .r) .choice) (a .list .now) (the-how2 .given .0 .0) (h .places) (h .plan) (h .is) (a .list .now) (over-front (a .list .now) (runsOver of (h .places) (h .plan)) (the-how2 .given .0 .1 .0) (h .runs) (h .many)) (the-how2 .given .0 .1 .0) (h .many) _ _ _ (the-intern-action2 .result) (the-intern-action2 .ensures)
+    unless-map (a .terms .now) (a .runs .now) (the-intern-action2 .result) (λ z. z) (λ A. ended-act t of (a .terms .now) (a .runs .now) (b .pre .5) (known-below (b .pre .4) (b .pre .6)) (of (a .l, a .r)) (turnOf t q (a .l, a .r) .choice) (a .list .now) (the-how2 .given .0 .0) (h .places) (h .plan) (h .is) (a .list .now) (over-front (a .list .now) (runsOver of (h .places) (h .plan)) (the-how2 .given .0 .1 .0) (h .runs) (h .many)) (the-how2 .given .0 .1 .0) (h .many) _ _ _ (the-intern-action2 .result) A) (the-intern-action2 .ensures)
 
 pub turn-term-spec : {M : Type 1} → statement M
 turn-term-spec =
