@@ -53,12 +53,12 @@ enough t a b c d e f q =
     let (q₁, r₁) = two (leb 4096 (length t)) _ q in
     let (q₂, r₂) = two (leb 4096 (length a)) _ r₁ in
     let (q₃, r₃) = two (leb 4096 (length b)) _ r₂ in
-    let (q₄, r₄) = two (leb 65536 (length c)) _ r₃ in
+    let (q₄, r₄) = two (leb 8192 (length c)) _ r₃ in
     let (q₅, r₅) = two (leb 24576 (length d)) _ r₄ in
-    let (q₆, q₇) = two (leb 69634 (length e)) _ r₅ in
+    let (q₆, q₇) = two (leb 8194 (length e)) _ r₅ in
     record {
       table = leb-true 4096 (length t) q₁;
-      wide = record { lefts = leb-true 4096 (length a) q₂; rights = leb-true 4096 (length b) q₃; index = leb-true 65536 (length c) q₄; terms = leb-true 69634 (length e) q₆; runs = leb-true 65536 (length f) q₇ };
+      wide = record { lefts = leb-true 4096 (length a) q₂; rights = leb-true 4096 (length b) q₃; index = leb-true 8192 (length c) q₄; terms = leb-true 8194 (length e) q₆; runs = leb-true 4096 (length f) q₇ };
       pairs = leb-true 24576 (length d) q₅;
     }
 

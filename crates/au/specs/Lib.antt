@@ -1,5 +1,6 @@
 pub mod Merges
 pub mod Prepared
+pub mod Tiers
 pub mod PreparedLaws
 pub mod TableHolds
 pub mod Assembled

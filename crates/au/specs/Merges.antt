@@ -18,7 +18,7 @@ use Rattle.au.specs.declared.Answer.the-variants.{Listing, Refused, Doub
 -- The constant lengths of the work buffers (docs/BUFFERS.md): whether none is "below its constant length".
 abbrev pub fitOf : ℕ → ℕ → ℕ → ℕ → ℕ → ℕ → ℕ → Bool
 fitOf table lefts rights index pairs terms runs =
-    both (leb 4096 table) (both (leb 4096 lefts) (both (leb 4096 rights) (both (leb 65536 index) (both (leb 24576 pairs) (both (leb 69634 terms) (leb 65536 runs))))))
+    both (leb 4096 table) (both (leb 4096 lefts) (both (leb 4096 rights) (both (leb 8192 index) (both (leb 24576 pairs) (both (leb 8194 terms) (leb 4096 runs))))))
 
 abbrev pub fits : List Pair → List ℕ → List ℕ → List ℕ → List ℕ → List ℕ → List ℕ → Bool
 fits table lefts rights index pairs terms runs = fitOf (length table) (length lefts) (length rights) (length index) (length pairs) (length terms) (length runs)

@@ -1,47 +1,61 @@
 -- What `prepare` gives and leaves.
 use mathlib.Core.Path.{_≡_}
 use mathlib.Core.Bool.{true}
-use mathlib.Core.List.{List}
-use Prim.Native.Nat.{ℕ, _≤_, _<_, min}
+use mathlib.Core.List.{List, []}
+use Prim.Native.Nat.{ℕ, _≤_, _<_}
 use lib.ListN.{length}
 use Rattle.spec.specs.Bytes.{ok, refused}
 use Rattle.spec.specs.Image.{imageOf, tablesOf}
+use Rattle.spec.specs.Graph.{build}
+use Rattle.spec.specs.Pool.{Interned, startingTerm}
 use Rattle.spec.specs.Merge.{mergeOf}
+use Rattle.terms.specs.Chains.{Whole}
+use Rattle.graph.specs.Building.{leftsAfter, rightsAfter}
 use Rattle.image.specs.Loaded.{Loaded}
 use Rattle.image.specs.declared.Image.{Image}
-use Rattle.exact_fixed.specs.Beginning.{Ready}
+use Rattle.exact_fixed.specs.Beginning.{begunOf, Ready}
 use Rattle.exact_fixed.specs.declared.Begun.{Begun}
-use Rattle.exact_fixed.specs.declared.Begun.the-variants.{Stopped, Cut, All}
+use Rattle.exact_fixed.specs.declared.Begun.the-variants.{Stopped, Cut, All, Short}
 use Rattle.exact_fixed.specs.declared.Answer as E
 use Rattle.exact_fixed.specs.declared.Answer.the-variants as E′
 use Rattle.au.specs.declared.Answer.{Answer}
 use Rattle.au.specs.declared.Answer.the-variants.{Listing, Refused}
 use Rattle.au.specs.declared.Prepared.{Prepared}
-use Rattle.au.specs.declared.Prepared.the-variants.{Stop, Go}
+use Rattle.au.specs.declared.Prepared.the-variants.{Stop, Go, Again}
 use Rattle.au.specs.Merges.{answerOf, Carries}
 
--- the plain buffers that building uses are long enough
+-- the lent buffers that building uses have their constant lengths
 pub record Wide (a b c e f : List ℕ) : Type 0 where
   pub lefts : 4096 ≤ length a
   pub rights : 4096 ≤ length b
+  pub index : 8192 ≤ length c
+  pub terms : 8194 ≤ length e
+  pub runs : 4096 ≤ length f
+
+-- buffers of full length: none is too short for any query
+pub record Full (a b c e f : List ℕ) : Type 0 where
+  pub lefts : 4096 ≤ length a
+  pub rights : 4096 ≤ length b
   pub index : 65536 ≤ length c
-  pub terms : 69634 ≤ length e
-  pub runs : 65536 ≤ length f
+  pub whole : Whole e f
 
 -- how many pairs the graph has where it is built in full
 abbrev pub pairsBegun : Begun → ℕ
 pairsBegun (Stopped k) = 0
 pairsBegun (Cut root) = 0
 pairsBegun (All root n left) = n
+pairsBegun Short = 0
 
 abbrev pub pairsOf : Prepared → ℕ
 pairsOf (Stop a) = 0
 pairsOf (Go im b) = pairsBegun b
+pairsOf (Again im b) = pairsBegun b
 
--- the engine's answer, with at most `room` bytes
-abbrev pub engineAnswer : E.Answer → ℕ → Answer
-engineAnswer (E′.Listing n) room = Listing (min n room)
-engineAnswer (E′.Refused k) room = Refused k
+-- the engine's answer; there is no refusal 0
+abbrev pub engineAnswer : E.Answer → Answer
+engineAnswer (E′.Listing n) = Listing n
+engineAnswer (E′.Refused k) = Refused k
+engineAnswer E′.Short = Refused 0
 
 -- a refusal of 2 to 11, whatever the output buffer
 pub record Stops (image : List ℕ) (left right budget : ℕ) (a : Answer) : Type 0 where
@@ -58,6 +72,17 @@ pub record Goes (image : List ℕ) (l r budget : ℕ) (im : Image) (b : Begun) (
   pub right : r < im .classes
   pub ready : Ready (tablesOf image) (l, r) budget b ls rs ix ts us
 
+-- the same in buffers of full length: what it has begun is the answer of `begin`, and the graph stands in lefts and rights
+pub record GoesAgain (image : List ℕ) (l r budget : ℕ) (im : Image) (b : Begun) (ls rs : List ℕ) : Type 0 where
+  pub read : imageOf image ≡ ok (tablesOf image)
+  pub loaded : Loaded image im
+  pub left : l < im .classes
+  pub right : r < im .classes
+  pub answer : b ≡ begunOf (startingTerm (tablesOf image) [] (l, r)) (build (tablesOf image) (l, r) budget)
+  pub lefts : (a : Interned) → startingTerm (tablesOf image) [] (l, r) ≡ ok a → ls ≡ leftsAfter (build (tablesOf image) (l, r) budget) ls
+  pub rights : (a : Interned) → startingTerm (tablesOf image) [] (l, r) ≡ ok a → rs ≡ rightsAfter (build (tablesOf image) (l, r) budget) rs
+
 abbrev pub Prepares : List ℕ → ℕ → ℕ → ℕ → Prepared → List ℕ → List ℕ → List ℕ → List ℕ → List ℕ → Type 0
 Prepares image left right budget (Stop a) ls rs ix ts us = Stops image left right budget a
 Prepares image left right budget (Go im b) ls rs ix ts us = Goes image left right budget im b ls rs ix ts us
+Prepares image left right budget (Again im b) ls rs ix ts us = GoesAgain image left right budget im b ls rs

@@ -3,13 +3,11 @@ use mathlib.Core.Path.{_≡_, refl, sym, ap, _∙_}
 use mathlib.Core.Logic.{_≢_, inl, inr}
 use mathlib.Core.Bool.{Bool, true, false}
 use mathlib.Core.List.{List, [], _++_, map}
-use Prim.Native.Nat.{ℕ, _≤_, _<_, min}
-use native.Mathlib.Nat.{min-le-right, min-eq-left, min-eq-right}
-use native.Mathlib.Decide.{decLe}
+use Prim.Native.Nat.{ℕ, _≤_, _<_}
 use native.Mathlib.Omega.{arith}
 use lib.Dec.{leb}
-use lib.ListN.{length, take, drop, replicate, length-replicate}
-use lib.Seq.{drop-at, take-all, take-length}
+use lib.ListN.{length, drop, replicate, length-replicate}
+use lib.Seq.{drop-at}
 use borrow.Author.Tests.{lt-ltb, le-ltb}
 use Rattle.spec.specs.Bytes.{Two, Res, ok, refused, Checked, passed, cutShort}
 use Rattle.spec.specs.Image.{Tables, imageOf, tablesOf}
@@ -34,7 +32,7 @@ use Rattle.exact_fixed.specs.declared.Answer.the-variants as E′
 use Rattle.au.specs.declared.Answer.{Answer}
 use Rattle.au.specs.declared.Answer.the-variants.{Listing, Refused, Doubled}
 use Rattle.au.specs.Merges.{answerOf, Carries, Merges, Cleared}
-use Rattle.au.specs.Prepared.{Stops, Goes, engineAnswer}
+use Rattle.au.specs.Prepared.{Stops, Goes, GoesAgain, engineAnswer}
 
 pub is-valid : (s : List ℕ) → imageOf s ≡ ok (tablesOf s) → Valid (tablesOf s)
 is-valid s e = A.valid s (tablesOf s) e
@@ -91,19 +89,44 @@ index-as-long (ok (passed ps c)) x y e = ap (λ (n : ℕ). numbered 0 ps (replic
 index-as-long (ok cutShort) x y e = ap (λ (n : ℕ). replicate n 0) (sym e)
 index-as-long (refused n) x y e = ap (λ (n : ℕ). replicate n 0) (sym e)
 
-pub begins-ready : (t : Tables) (p : Two) (budget : ℕ) (ls rs ix ts us ls′ rs′ ix′ ts′ us′ : List ℕ) (b : Begun) → Begins t p budget ls rs ix ts us ls′ rs′ ix′ ts′ us′ b → length ix′ ≡ length ix
-    → Ready t p budget b ls′ rs′ ix′ ts′ us′
-begins-ready t p budget ls rs ix ts us ls′ rs′ ix′ ts′ us′ b B k = record {
+rooted : (x : Res Interned) (a : Interned) (was built now′ : List ℕ) → x ≡ ok a → now′ ≡ ifRooted x built was → now′ ≡ built
+rooted x a was built now′ e q = q ∙ ap (λ (r : Res Interned). ifRooted r built was) e
+
+module _ (t : Tables) (p : Two) (budget : ℕ) (ls rs ix ts us ls′ rs′ ix′ ts′ us′ : List ℕ) (b : Begun) (B : Begins t p budget ls rs ix ts us ls′ rs′ ix′ ts′ us′ b) where
+  begins-lefts : (a : Interned) → startingTerm t [] p ≡ ok a → ls′ ≡ leftsAfter (build t p budget) ls′
+  begins-lefts a e =
+      let q : ls′ ≡ leftsAfter (build t p budget) ls = rooted (startingTerm t [] p) a ls (leftsAfter (build t p budget) ls) ls′ e (B .lefts) in
+      q ∙ lefts-again (build t p budget) ls ∙ ap (leftsAfter (build t p budget)) (sym q)
+
+  begins-rights : (a : Interned) → startingTerm t [] p ≡ ok a → rs′ ≡ rightsAfter (build t p budget) rs′
+  begins-rights a e =
+      let q : rs′ ≡ rightsAfter (build t p budget) rs = rooted (startingTerm t [] p) a rs (rightsAfter (build t p budget) rs) rs′ e (B .rights) in
+      q ∙ rights-again (build t p budget) rs ∙ ap (rightsAfter (build t p budget)) (sym q)
+
+  begins-index : length ix′ ≡ length ix → (a : Interned) → startingTerm t [] p ≡ ok a → ix′ ≡ indexAfter (build t p budget) ix′
+  begins-index k a e =
+      let q : ix′ ≡ indexAfter (build t p budget) ix = rooted (startingTerm t [] p) a ix (indexAfter (build t p budget) ix) ix′ e (B .index) in
+      q ∙ index-as-long (build t p budget) ix ix′ k
+
+  begins-ready : length ix′ ≡ length ix → Ready t p budget b ls′ rs′ ix′ ts′ us′
+  begins-ready k = record { answer = B .answer; lefts = begins-lefts; rights = begins-rights; index = begins-index k; wide = B .wide; holds = λ a e. B .grows a e .holds; pool = λ a e. B .grows a e .pool }
+
+pub begins-goes : (s : List ℕ) (l r budget : ℕ) (im : Image) (ls rs ix ts us ls′ rs′ ix′ ts′ us′ : List ℕ) (b : Begun) → imageOf s ≡ ok (tablesOf s) → Loaded s im → l < im .classes → r < im .classes
+    → Begins (tablesOf s) (l, r) budget ls rs ix ts us ls′ rs′ ix′ ts′ us′ b → length ix′ ≡ length ix → Goes s l r budget im b ls′ rs′ ix′ ts′ us′
+begins-goes s l r budget im ls rs ix ts us ls′ rs′ ix′ ts′ us′ b e L g h B k = record { read = e; loaded = L; left = g; right = h; ready = begins-ready (tablesOf s) (l, r) budget ls rs ix ts us ls′ rs′ ix′ ts′ us′ b B k }
+
+-- what it leaves in lefts and rights, whatever the other buffers
+pub begins-graph : (s : List ℕ) (l r budget : ℕ) (im : Image) (ls rs ix ts us ls′ rs′ ix′ ts′ us′ : List ℕ) (b : Begun) → imageOf s ≡ ok (tablesOf s) → Loaded s im → l < im .classes → r < im .classes
+    → Begins (tablesOf s) (l, r) budget ls rs ix ts us ls′ rs′ ix′ ts′ us′ b → GoesAgain s l r budget im b ls′ rs′
+begins-graph s l r budget im ls rs ix ts us ls′ rs′ ix′ ts′ us′ b e L g h B = record {
+  read = e;
+  loaded = L;
+  left = g;
+  right = h;
   answer = B .answer;
-  lefts = λ a e. let q : ls′ ≡ leftsAfter (build t p budget) ls = rooted a ls (leftsAfter (build t p budget) ls) ls′ e (B .lefts) in q ∙ lefts-again (build t p budget) ls ∙ ap (leftsAfter (build t p budget)) (sym q);
-  rights = λ a e. let q : rs′ ≡ rightsAfter (build t p budget) rs = rooted a rs (rightsAfter (build t p budget) rs) rs′ e (B .rights) in q ∙ rights-again (build t p budget) rs ∙ ap (rightsAfter (build t p budget)) (sym q);
-  index = λ a e. let q : ix′ ≡ indexAfter (build t p budget) ix = rooted a ix (indexAfter (build t p budget) ix) ix′ e (B .index) in q ∙ index-as-long (build t p budget) ix ix′ k;
-  holds = λ a e. B .grows a e .holds;
-  pool = λ a e. B .grows a e .pool;
+  lefts = begins-lefts (tablesOf s) (l, r) budget ls rs ix ts us ls′ rs′ ix′ ts′ us′ b B;
+  rights = begins-rights (tablesOf s) (l, r) budget ls rs ix ts us ls′ rs′ ix′ ts′ us′ b B;
 }
-  where
-    rooted : (a : Interned) (x y z : List ℕ) → startingTerm t [] p ≡ ok a → z ≡ ifRooted (startingTerm t [] p) y x → z ≡ y
-    rooted a x y z e q = q ∙ ap (λ (r : Res Interned). ifRooted r y x) e
 
 -- ---- what is answered
 pub merges-stop : (s : List ℕ) (l r b : ℕ) (out : List ℕ) (a : Answer) → Stops s l r b a → Merges s l r b true out out a
@@ -126,26 +149,21 @@ listed-not-ten t p b room k e = go (runOf t p b) refl e
         by true f y = let u : X.listedOf (ok o) room ≡ ok (listingOf o) = rw f refl in absurd (refused-ok (sym y ∙ u))
         by false f y = let u : X.listedOf (ok o) room ≡ refused 14 = rw f refl in let v : 14 ≡ k = refused-inj (sym u ∙ y) in λ w. absurd (omega arith)
 
-take-min : (n : ℕ) (l : List ℕ) → take (min n (length l)) l ≡ take n l
-take-min n l = go (decLe n (length l))
-  where
-    go : Dec (n ≤ length l) → take (min n (length l)) l ≡ take n l
-    go (yes h) = ap (λ (k : ℕ). take k l) (min-eq-left h)
-    go (no h) = let b : length l ≤ n = omega arith in ap (λ (k : ℕ). take k l) (min-eq-right b) ∙ take-length l ∙ sym (take-all n l b)
-
 pub merges-finish : (s : List ℕ) (l r b : ℕ) (im : Image) (g : Begun) (ls rs ix ps ts us out ls′ rs′ ix′ ps′ ts′ us′ out′ : List ℕ) (a : E.Answer) → Goes s l r b im g ls rs ix ts us
-    → Finishes (tablesOf s) (l, r) b ls rs ix ps ts us out ls′ rs′ ix′ ps′ ts′ us′ out′ a → Merges s l r b true out out′ (engineAnswer a (length out′))
-merges-finish s l r b im g ls rs ix ps ts us out ls′ rs′ ix′ ps′ ts′ us′ out′ a G F =
+    → Finishes (tablesOf s) (l, r) b ls rs ix ps ts us out ls′ rs′ ix′ ps′ ts′ us′ out′ a → length out′ ≡ length out → Merges s l r b true out out′ (engineAnswer a)
+merges-finish s l r b im g ls rs ix ps ts us out ls′ rs′ ix′ ps′ ts′ us′ out′ a G F k =
     let e = past-eleven s l r b im (G .loaded) (G .read) (G .left) (G .right) (length out) in
-    record { answer = same a ∙ F .answer ∙ sym e; output = F .output ∙ ap (outputAfter out) (sym e); carries = says a (F .answer) }
+    record { answer = same a ∙ F .answer ∙ sym e; output = F .output ∙ ap (outputAfter out) (sym e); carries = says a (F .answer) (F .fits) }
   where
-    same : (x : E.Answer) → answerOf out′ (engineAnswer x (length out′)) ≡ X.answerOf out′ x
-    same (E′.Listing n) = ap ok (take-min n out′)
+    same : (x : E.Answer) → answerOf out′ (engineAnswer x) ≡ X.answerOf out′ x
+    same (E′.Listing n) = refl
     same (E′.Refused k) = refl
+    same E′.Short = refl
 
-    says : (x : E.Answer) → X.answerOf out′ x ≡ X.listedOf (runOf (tablesOf s) (l, r) b) (length out) → Carries s out′ (engineAnswer x (length out′))
-    says (E′.Listing n) q = min-le-right n (length out′)
-    says (E′.Refused k) q = listed-not-ten (tablesOf s) (l, r) b (length out) k (sym q)
+    says : (x : E.Answer) → X.answerOf out′ x ≡ X.listedOf (runOf (tablesOf s) (l, r) b) (length out) → ((n : ℕ) → x ≡ E′.Listing n → n ≤ length out) → Carries s out′ (engineAnswer x)
+    says (E′.Listing n) q f = rw k (f n refl)
+    says (E′.Refused j) q f = listed-not-ten (tablesOf s) (l, r) b (length out) j (sym q)
+    says E′.Short q f = λ z. absurd (omega arith)
 
 pub cleared-finish : (t : Tables) (p : Two) (b : ℕ) (ls rs ix ps ts us out ls′ rs′ ix′ ps′ ts′ us′ out′ : List ℕ) (a : E.Answer)
     → Finishes t p b ls rs ix ps ts us out ls′ rs′ ix′ ps′ ts′ us′ out′ a → Cleared true ls ls′ rs rs′ ix ix′ ps ps′ ts ts′ us us′

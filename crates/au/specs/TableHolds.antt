@@ -18,7 +18,7 @@ use Rattle.graph.specs.Building.{leftsAfter, rightsAfter, over}
 use Rattle.graph.specs.Built.{left-at, right-at, built-apart, built-few}
 use Rattle.exact_fixed.specs.Beginning.{begunOf}
 use Rattle.exact_fixed.specs.declared.Begun.the-variants.{All}
-use Rattle.au.specs.Prepared.{Goes}
+use Rattle.au.specs.Prepared.{Goes, GoesAgain}
 
 -- an answer of `begin` with n pairs
 all-says : (x : Res Interned) (g : Res (Checked (List Two))) (root n : ℕ) (b : Budget) → All root n b ≡ begunOf x g → (a : Interned) × (ps : List Two) × (c : ℕ) × (x ≡ ok a) × (g ≡ ok (passed ps c)) × (length ps ≡ n)
@@ -36,12 +36,19 @@ pub record Holds (image : List ℕ) (l r budget n : ℕ) (ls rs : List ℕ) (tab
   pub fresh : enterFrom ls rs n 0 true table .0 ≡ true
   pub held : held (enterFrom ls rs n 0 true table .1) n ≡ ps
 
-pub table-holds : (image : List ℕ) (l r budget : ℕ) (im : Image) (root n : ℕ) (b : Budget) (ls rs ix ts us : List ℕ) → Goes image l r budget im (All root n b) ls rs ix ts us → (table : List Pair) → PAIRS ≤ length table
+-- in buffers of full length
+pub table-holds-again : (image : List ℕ) (l r budget : ℕ) (im : Image) (root n : ℕ) (b : Budget) (ls rs : List ℕ) → GoesAgain image l r budget im (All root n b) ls rs → (table : List Pair) → PAIRS ≤ length table
     → Holds image l r budget n ls rs table
-table-holds image l r budget im root n b ls rs ix ts us G table wide =
-    let (a, ps, c, x, g, m) = all-says (startingTerm (tablesOf image) [] (l, r)) (build (tablesOf image) (l, r) budget) root n b (G .ready .answer) in
-    let ls-is : ls ≡ over (map (λ p. p .0) ps) ls = G .ready .lefts a x ∙ ap (λ (z : Res (Checked (List Two))). leftsAfter z ls) g in
-    let rs-is : rs ≡ over (map (λ p. p .1) ps) rs = G .ready .rights a x ∙ ap (λ (z : Res (Checked (List Two))). rightsAfter z rs) g in
+table-holds-again image l r budget im root n b ls rs G table wide =
+    let (a, ps, c, x, g, m) = all-says (startingTerm (tablesOf image) [] (l, r)) (build (tablesOf image) (l, r) budget) root n b (G .answer) in
+    let ls-is : ls ≡ over (map (λ p. p .0) ps) ls = G .lefts a x ∙ ap (λ (z : Res (Checked (List Two))). leftsAfter z ls) g in
+    let rs-is : rs ≡ over (map (λ p. p .1) ps) rs = G .rights a x ∙ ap (λ (z : Res (Checked (List Two))). rightsAfter z rs) g in
     let step = in-step ls rs ps (built-few (tablesOf image) (l, r) budget c ps g) (λ j h. ap₂ (λ (u v : ℕ). (u, v)) (ap (λ (z : List ℕ). getD z j 0) ls-is ∙ left-at ps ls j h) (ap (λ (z : List ℕ). getD z j 0) rs-is ∙ right-at ps rs j h)) in
     let done = step n 0 table (omega arith) wide refl (λ j z h. built-apart (tablesOf image) (l, r) budget c ps g j h) in
     record { ps = ps; left = c; built = g; many = m; fresh = done .0; held = ap (λ (k : ℕ). held (enterFrom ls rs n 0 true table .1) k) (sym m) ∙ done .1 }
+
+-- in the lent buffers
+pub table-holds : (image : List ℕ) (l r budget : ℕ) (im : Image) (root n : ℕ) (b : Budget) (ls rs ix ts us : List ℕ) → Goes image l r budget im (All root n b) ls rs ix ts us → (table : List Pair) → PAIRS ≤ length table
+    → Holds image l r budget n ls rs table
+table-holds image l r budget im root n b ls rs ix ts us G table wide =
+    table-holds-again image l r budget im root n b ls rs (record { read = G .read; loaded = G .loaded; left = G .left; right = G .right; answer = G .ready .answer; lefts = G .ready .lefts; rights = G .ready .rights }) table wide

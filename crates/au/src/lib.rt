@@ -1,7 +1,7 @@
 // The public merge: "the pair table is a lent slice of records", a thin layer above an engine on plain arrays.
 ghost use mathlib.Core.Path.{_≡_};
 ghost use mathlib.Core.Bool.{true, not};
-ghost use Prim.Native.Nat.{_≤_, _<_, min};
+ghost use Prim.Native.Nat.{_≤_, _<_};
 ghost use lib.ListN.{length, replicate};
 ghost use Rattle.spec.specs.Bytes.{ok};
 ghost use Rattle.spec.specs.Image.{imageOf, tablesOf};
@@ -9,7 +9,10 @@ ghost use Rattle.image.specs.Loaded.{Loaded};
 ghost use Rattle.pair_table.specs.Table.{none};
 ghost use Rattle.au.specs.declared.Answer.the-variants.{Refused};
 ghost use Rattle.au.specs.Merges.{fitOf, fits, Merges, Cleared, Table};
-ghost use Rattle.au.specs.Prepared.{Wide, pairsOf, Prepares, Goes, engineAnswer};
+ghost use Rattle.au.specs.Prepared.{Wide, Full, Goes, GoesAgain, Prepares, pairsBegun, pairsOf, engineAnswer};
+ghost use Rattle.au.specs.Tiers.{shortBegun, shortAnswer};
+ghost use Rattle.exact_fixed.specs.Beginning.{Finishes, EndsShort};
+ghost use Rattle.exact_fixed.specs.Shorts.{UnlessAnswer};
 use exact_fixed::Begun;
 use image::Image;
 use judge::Verdict;
@@ -23,10 +26,11 @@ pub enum Answer {
     Doubled(usize),
 }
 
-// Before the pair table is filled: a refusal of 2 to 11, or the image and what the run has begun.
+// Before the pair table is filled: a refusal of 2 to 11; the image and what the run has begun in the lent buffers; the image and what it begins with in buffers of full length, where a lent one is too short for the query.
 pub enum Prepared {
     Stop(Answer),
     Go(Image, Begun),
+    Again(Image, Begun),
 }
 
 // 1: whether a work buffer is below its constant length
@@ -50,16 +54,16 @@ fn short(
     if rights < 4096 {
         return true;
     }
-    if index < 65536 {
+    if index < 8192 {
         return true;
     }
     if pairs < 24576 {
         return true;
     }
-    if terms < 69634 {
+    if terms < 8194 {
         return true;
     }
-    runs < 65536
+    runs < 4096
 }
 
 fn refuse(k: u8) -> Answer
@@ -69,16 +73,24 @@ fn refuse(k: u8) -> Answer
 }
 
 // how many pairs the graph has where it is built in full
+fn pairs_begun(b: Begun) -> usize
+    ensures { λ r. ⌜ r ≡ pairsBegun b ⌝ }
+{
+    match b {
+        Begun::Stopped(k) => 0,
+        Begun::Cut(root) => 0,
+        Begun::All(root, n, left) => n,
+        Begun::Short => 0,
+    }
+}
+
 fn pairs_of(p: Prepared) -> usize
     ensures { λ r. ⌜ r ≡ pairsOf p ⌝ }
 {
     match p {
         Prepared::Stop(a) => 0,
-        Prepared::Go(im, b) => match b {
-            Begun::Stopped(k) => 0,
-            Begun::Cut(root) => 0,
-            Begun::All(root, n, left) => n,
-        },
+        Prepared::Go(im, b) => pairs_begun(b),
+        Prepared::Again(im, b) => pairs_begun(b),
     }
 }
 
@@ -88,13 +100,46 @@ fn wide(x: u16) -> usize
     x as usize
 }
 
-fn least(a: usize, b: usize) -> usize
-    ensures { λ r. ⌜ r ≡ min a b ⌝ }
+// whether a lent buffer is too short for the root's starting term or for the graph
+fn begun_short(b: Begun) -> bool
+    ensures { λ r. ⌜ r ≡ shortBegun b ⌝ }
 {
-    if a < b {
-        return a;
+    match b {
+        Begun::Stopped(k) => false,
+        Begun::Cut(root) => false,
+        Begun::All(root, n, left) => false,
+        Begun::Short => true,
     }
-    b
+}
+
+// the root's starting term and building in buffers of full length; the graph stands in the lent lefts and rights, for the pair table
+fn begin_again(
+    s: &[u8],
+    im: Image,
+    left: usize,
+    right: usize,
+    budget: u32,
+    lefts: &mut [u16],
+    rights: &mut [u16],
+) -> Begun
+    requires { ⌜ Loaded (now s) im × (imageOf (now s) ≡ ok (tablesOf (now s))) × (left < im .classes) × (right < im .classes) × (4096 ≤ length (now lefts)) × (4096 ≤ length (now rights)) ⌝ }
+    ensures { λ r. ⌜ GoesAgain (now (s .entry)) left right budget im r (now (lefts .exit)) (now (rights .exit)) ⌝ }
+{
+    let mut index = [0u16; 65536];
+    let mut terms = [0u32; 69634];
+    let mut runs = [0u64; 65536];
+    exact_fixed::begin(
+        s,
+        im,
+        left,
+        right,
+        budget,
+        lefts,
+        rights,
+        &mut index,
+        &mut terms,
+        &mut runs,
+    )
 }
 
 // 11, the root's starting term, and building
@@ -131,6 +176,10 @@ fn start(
         terms,
         runs,
     );
+    if begun_short(b) {
+        let again = begin_again(s, im, left, right, budget, lefts, rights);
+        return Prepared::Again(im, again);
+    }
     Prepared::Go(im, b)
 }
 
@@ -217,17 +266,174 @@ fn clear_all(
     clear8(runs);
 }
 
-// what the engine answers, with at most `room` bytes
-fn in_room(a: exact_fixed::Answer, room: usize) -> Answer
-    ensures { λ r. ⌜ r ≡ engineAnswer a room ⌝ }
+// what the engine answers; there is no refusal 0
+fn answer_of(a: exact_fixed::Answer) -> Answer
+    ensures { λ r. ⌜ r ≡ engineAnswer a ⌝ }
 {
     match a {
-        exact_fixed::Answer::Listing(n) => Answer::Listing(least(n, room)),
+        exact_fixed::Answer::Listing(n) => Answer::Listing(n),
         exact_fixed::Answer::Refused(k) => Answer::Refused(k),
+        exact_fixed::Answer::Short => Answer::Refused(0),
     }
 }
 
-// the rounds and the listing
+// whether a buffer is too short for the run
+fn answered_short(a: exact_fixed::Answer) -> bool
+    ensures { λ r. ⌜ r ≡ shortAnswer a ⌝ }
+{
+    match a {
+        exact_fixed::Answer::Listing(n) => false,
+        exact_fixed::Answer::Refused(k) => false,
+        exact_fixed::Answer::Short => true,
+    }
+}
+
+// the rounds and the listing in the lent buffers, with room for 64 cells in a turn
+fn finish_small(
+    s: &[u8],
+    im: Image,
+    left: usize,
+    right: usize,
+    budget: u32,
+    b: Begun,
+    lefts: &mut [u16],
+    rights: &mut [u16],
+    index: &mut [u16],
+    pairs: &mut [u32],
+    terms: &mut [u32],
+    runs: &mut [u64],
+    out: &mut [u8],
+) -> exact_fixed::Answer
+    requires { ⌜ Wide (now lefts) (now rights) (now index) (now terms) (now runs) × (24576 ≤ length (now pairs)) × Goes (now s) left right budget im b (now lefts) (now rights) (now index) (now terms) (now runs) ⌝ }
+    ensures { λ r. ⌜ UnlessAnswer r (EndsShort 64 (now (lefts .entry)) (now (rights .entry)) (now (index .entry)) (now (pairs .entry)) (now (terms .entry)) (now (runs .entry)) (now (out .entry)) (now (lefts .exit)) (now (rights .exit)) (now (index .exit)) (now (pairs .exit)) (now (terms .exit)) (now (runs .exit)) (now (out .exit)))
+        (Finishes (tablesOf (now (s .entry))) (left, right) budget (now (lefts .entry)) (now (rights .entry)) (now (index .entry)) (now (pairs .entry)) (now (terms .entry)) (now (runs .entry)) (now (out .entry)) (now (lefts .exit)) (now (rights .exit)) (now (index .exit)) (now (pairs .exit)) (now (terms .exit)) (now (runs .exit)) (now (out .exit)) r) ⌝ }
+{
+    let ones = [1u8; 64];
+    let mut sizes = [0u32; 64];
+    let mut masses = [0u32; 64];
+    let mut costs = [0u64; 192];
+    let mut flow = [0u64; 64];
+    let mut list = [0u64; 64];
+    exact_fixed::finish(
+        s,
+        im,
+        left,
+        right,
+        budget,
+        b,
+        lefts,
+        rights,
+        index,
+        pairs,
+        terms,
+        runs,
+        &ones,
+        &mut sizes,
+        &mut masses,
+        &mut costs,
+        &mut flow,
+        &mut list,
+        out,
+    )
+}
+
+// the rounds and the listing with room for 4,225 cells in a turn, the most that there are
+fn finish_large(
+    s: &[u8],
+    im: Image,
+    left: usize,
+    right: usize,
+    budget: u32,
+    b: Begun,
+    lefts: &mut [u16],
+    rights: &mut [u16],
+    index: &mut [u16],
+    pairs: &mut [u32],
+    terms: &mut [u32],
+    runs: &mut [u64],
+    out: &mut [u8],
+) -> Answer
+    requires { ⌜ Full (now lefts) (now rights) (now index) (now terms) (now runs) × (24576 ≤ length (now pairs)) × Goes (now s) left right budget im b (now lefts) (now rights) (now index) (now terms) (now runs) ⌝ }
+    ensures { λ r. ⌜ Merges (now (s .entry)) left right budget true (now (out .entry)) (now (out .exit)) r × Cleared true (now (lefts .entry)) (now (lefts .exit)) (now (rights .entry)) (now (rights .exit)) (now (index .entry)) (now (index .exit)) (now (pairs .entry)) (now (pairs .exit)) (now (terms .entry)) (now (terms .exit)) (now (runs .entry)) (now (runs .exit)) ⌝ }
+{
+    let ones = [1u8; 4225];
+    let mut sizes = [0u32; 4225];
+    let mut masses = [0u32; 4225];
+    let mut costs = [0u64; 12675];
+    let mut flow = [0u64; 4225];
+    let mut list = [0u64; 4225];
+    let a = exact_fixed::finish(
+        s,
+        im,
+        left,
+        right,
+        budget,
+        b,
+        lefts,
+        rights,
+        index,
+        pairs,
+        terms,
+        runs,
+        &ones,
+        &mut sizes,
+        &mut masses,
+        &mut costs,
+        &mut flow,
+        &mut list,
+        out,
+    );
+    answer_of(a)
+}
+
+// the whole run in buffers of full length; lefts, rights and pairs are lent
+fn run_large(
+    s: &[u8],
+    im: Image,
+    left: usize,
+    right: usize,
+    budget: u32,
+    lefts: &mut [u16],
+    rights: &mut [u16],
+    pairs: &mut [u32],
+    out: &mut [u8],
+) -> Answer
+    requires { ⌜ Loaded (now s) im × (imageOf (now s) ≡ ok (tablesOf (now s))) × (left < im .classes) × (right < im .classes) × (4096 ≤ length (now lefts)) × (4096 ≤ length (now rights)) × (24576 ≤ length (now pairs)) ⌝ }
+    ensures { λ r. ⌜ Merges (now (s .entry)) left right budget true (now (out .entry)) (now (out .exit)) r × (now (lefts .exit) ≡ replicate (length (now (lefts .entry))) 0) × (now (rights .exit) ≡ replicate (length (now (rights .entry))) 0) × (now (pairs .exit) ≡ replicate (length (now (pairs .entry))) 0) ⌝ }
+{
+    let mut index = [0u16; 65536];
+    let mut terms = [0u32; 69634];
+    let mut runs = [0u64; 65536];
+    let b = exact_fixed::begin(
+        s,
+        im,
+        left,
+        right,
+        budget,
+        lefts,
+        rights,
+        &mut index,
+        &mut terms,
+        &mut runs,
+    );
+    finish_large(
+        s,
+        im,
+        left,
+        right,
+        budget,
+        b,
+        lefts,
+        rights,
+        &mut index,
+        pairs,
+        &mut terms,
+        &mut runs,
+        out,
+    )
+}
+
+// the rounds and the listing; where a lent buffer is too short, the run is made again in buffers of full length
 fn finish(
     s: &[u8],
     im: Image,
@@ -246,7 +452,7 @@ fn finish(
     requires { ⌜ Wide (now lefts) (now rights) (now index) (now terms) (now runs) × (24576 ≤ length (now pairs)) × Goes (now s) left right budget im b (now lefts) (now rights) (now index) (now terms) (now runs) ⌝ }
     ensures { λ r. ⌜ Merges (now (s .entry)) left right budget true (now (out .entry)) (now (out .exit)) r × Cleared true (now (lefts .entry)) (now (lefts .exit)) (now (rights .entry)) (now (rights .exit)) (now (index .entry)) (now (index .exit)) (now (pairs .entry)) (now (pairs .exit)) (now (terms .entry)) (now (terms .exit)) (now (runs .entry)) (now (runs .exit)) ⌝ }
 {
-    let a = exact_fixed::finish(
+    let a = finish_small(
         s,
         im,
         left,
@@ -261,7 +467,32 @@ fn finish(
         runs,
         out,
     );
-    in_room(a, out.len())
+    if answered_short(a) {
+        return run_large(s, im, left, right, budget, lefts, rights, pairs, out);
+    }
+    answer_of(a)
+}
+
+// the run in buffers of full length, where a lent one was too short to begin
+fn finish_again(
+    s: &[u8],
+    im: Image,
+    left: usize,
+    right: usize,
+    budget: u32,
+    lefts: &mut [u16],
+    rights: &mut [u16],
+    index: &mut [u16],
+    pairs: &mut [u32],
+    terms: &mut [u32],
+    runs: &mut [u64],
+    out: &mut [u8],
+) -> Answer
+    requires { ⌜ Loaded (now s) im × (imageOf (now s) ≡ ok (tablesOf (now s))) × (left < im .classes) × (right < im .classes) × (4096 ≤ length (now lefts)) × (4096 ≤ length (now rights)) × (24576 ≤ length (now pairs)) ⌝ }
+    ensures { λ r. ⌜ Merges (now (s .entry)) left right budget true (now (out .entry)) (now (out .exit)) r × Cleared true (now (lefts .entry)) (now (lefts .exit)) (now (rights .entry)) (now (rights .exit)) (now (index .entry)) (now (index .exit)) (now (pairs .entry)) (now (pairs .exit)) (now (terms .entry)) (now (terms .exit)) (now (runs .entry)) (now (runs .exit)) ⌝ }
+{
+    clear_all(lefts, rights, index, pairs, terms, runs);
+    run_large(s, im, left, right, budget, lefts, rights, pairs, out)
 }
 
 // the run and its listing; the plain work buffers are cleared
@@ -294,6 +525,20 @@ fn conclude(
             wide(right),
             budget,
             b,
+            lefts,
+            rights,
+            index,
+            pairs,
+            terms,
+            runs,
+            out,
+        ),
+        Prepared::Again(im, b) => finish_again(
+            s,
+            im,
+            wide(left),
+            wide(right),
+            budget,
             lefts,
             rights,
             index,

@@ -28,16 +28,16 @@ returns-3 : tie.Need-returns-3
 returns-3 c = let a = c .before .before .before .args in rw (le-leb 4096 (a .table) (omega arith), le-leb 4096 (a .lefts) (omega arith), lt-leb 4096 (a .rights) (omega arith)) refl
 
 returns-4 : tie.Need-returns-4
-returns-4 c = let a = c .before .before .before .before .args in rw (le-leb 4096 (a .table) (omega arith), le-leb 4096 (a .lefts) (omega arith), le-leb 4096 (a .rights) (omega arith), lt-leb 65536 (a .index) (omega arith)) refl
+returns-4 c = let a = c .before .before .before .before .args in rw (le-leb 4096 (a .table) (omega arith), le-leb 4096 (a .lefts) (omega arith), le-leb 4096 (a .rights) (omega arith), lt-leb 8192 (a .index) (omega arith)) refl
 
 returns-5 : tie.Need-returns-5
-returns-5 c = let a = c .before .before .before .before .before .args in rw (le-leb 4096 (a .table) (omega arith), le-leb 4096 (a .lefts) (omega arith), le-leb 4096 (a .rights) (omega arith), le-leb 65536 (a .index) (omega arith), lt-leb 24576 (a .pairs) (omega arith)) refl
+returns-5 c = let a = c .before .before .before .before .before .args in rw (le-leb 4096 (a .table) (omega arith), le-leb 4096 (a .lefts) (omega arith), le-leb 4096 (a .rights) (omega arith), le-leb 8192 (a .index) (omega arith), lt-leb 24576 (a .pairs) (omega arith)) refl
 
 returns-6 : tie.Need-returns-6
-returns-6 c = let a = c .before .before .before .before .before .before .args in rw (le-leb 4096 (a .table) (omega arith), le-leb 4096 (a .lefts) (omega arith), le-leb 4096 (a .rights) (omega arith), le-leb 65536 (a .index) (omega arith), le-leb 24576 (a .pairs) (omega arith), lt-leb 69634 (a .terms) (omega arith)) refl
+returns-6 c = let a = c .before .before .before .before .before .before .args in rw (le-leb 4096 (a .table) (omega arith), le-leb 4096 (a .lefts) (omega arith), le-leb 4096 (a .rights) (omega arith), le-leb 8192 (a .index) (omega arith), le-leb 24576 (a .pairs) (omega arith), lt-leb 8194 (a .terms) (omega arith)) refl
 
 returns-7 : tie.Need-returns-7
-returns-7 c = let a = c .before .before .before .before .before .before .args in rw (le-leb 4096 (a .table) (omega arith), le-leb 4096 (a .lefts) (omega arith), le-leb 4096 (a .rights) (omega arith), le-leb 65536 (a .index) (omega arith), le-leb 24576 (a .pairs) (omega arith), le-leb 69634 (a .terms) (omega arith), leb-ltb 65536 (a .runs)) (last (ltb (a .runs) 65536))
+returns-7 c = let a = c .before .before .before .before .before .before .args in rw (le-leb 4096 (a .table) (omega arith), le-leb 4096 (a .lefts) (omega arith), le-leb 4096 (a .rights) (omega arith), le-leb 8192 (a .index) (omega arith), le-leb 24576 (a .pairs) (omega arith), le-leb 8194 (a .terms) (omega arith), leb-ltb 4096 (a .runs)) (last (ltb (a .runs) 4096))
 
 pub short-spec : {M : Type 1} → statement M
 short-spec = tie.close (tie.spec returns returns-2 returns-3 returns-4 returns-5 returns-6 returns-7)
