@@ -12,10 +12,10 @@ fn main() {
     let mut input = [0u8; 65537];
     let mut lefts = [0u16; 4096];
     let mut rights = [0u16; 4096];
-    let mut index = [0u16; 65536];
+    let mut index = [0u16; 8192];
     let mut pairs = [0u32; 24576];
-    let mut terms = [0u32; 69634];
-    let mut runs = [0u64; 65536];
+    let mut terms = [0u32; 8194];
+    let mut runs = [0u64; 4096];
     let mut out = [0u8; 65536];
     let n = io::read_full(STDIN_FILENO, &mut input);
     let k = answer::respond(

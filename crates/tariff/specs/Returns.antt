@@ -41,4 +41,4 @@ pub record Returns (image : List ℕ) (left right budget : ℕ) (fit : Bool) (ou
 
 -- The constant lengths of the work buffers (docs/BUFFERS.md).
 abbrev pub lengths : Lengths
-lengths = record { lefts = 4096; rights = 4096; index = 65536; pairs = 24576; terms = 69634; runs = 65536 }
+lengths = record { lefts = 4096; rights = 4096; index = 8192; pairs = 24576; terms = 8194; runs = 4096 }

@@ -53,10 +53,10 @@ pub extern "C" fn tariff_lengths() -> Lengths
     Lengths {
         lefts: 4096,
         rights: 4096,
-        index: 65536,
+        index: 8192,
         pairs: 24576,
-        terms: 69634,
-        runs: 65536,
+        terms: 8194,
+        runs: 4096,
     }
 }
 
