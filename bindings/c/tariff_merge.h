@@ -9,8 +9,9 @@
  * where the length is 0), aligned for their type, with as many elements behind them as the length says,
  * and no lent buffer overlapping another or the image.
  *
- * Stack: a call needs up to TARIFF_STACK_BYTES of the calling thread's stack, since the listing is written
- * by recursion. The library does not test it: on a thread with less, an overflow ends the process.
+ * Stack: a call needs up to TARIFF_STACK_BYTES of the calling thread's stack, since a query that is too
+ * large for the lent buffers runs in arrays there, about 2 MB, and the listing is written by recursion.
+ * The library does not test it: on a thread with less, an overflow ends the process.
  */
 #ifndef TARIFF_MERGE_H
 #define TARIFF_MERGE_H
@@ -25,15 +26,15 @@ extern "C" {
 /* How many elements each work buffer has at least; `tariff_lengths` answers the same. */
 #define TARIFF_LEFTS 4096
 #define TARIFF_RIGHTS 4096
-#define TARIFF_INDEX 65536
+#define TARIFF_INDEX 8192
 #define TARIFF_PAIRS 24576
-#define TARIFF_TERMS 69634
-#define TARIFF_RUNS 65536
+#define TARIFF_TERMS 8194
+#define TARIFF_RUNS 4096
 
 /* An output buffer of the length that program `merge` has. Any length is allowed. */
 #define TARIFF_OUTPUT_BYTES 65536
 
-#define TARIFF_STACK_BYTES 4194304
+#define TARIFF_STACK_BYTES 6291456
 
 /* What `number` says. */
 enum tariff_number {
@@ -105,7 +106,7 @@ struct tariff_returned tariff_merge(
     uint64_t *runs, size_t runs_length,
     uint8_t *out, size_t out_bytes);
 
-/* All work buffers, of their constant lengths: about 1 MB, so static or from malloc, and kept between calls. */
+/* All work buffers, of their constant lengths: about 0.2 MB, static or from malloc, and kept between calls. */
 struct tariff_work {
     uint64_t runs[TARIFF_RUNS];
     uint32_t pairs[TARIFF_PAIRS];

@@ -4,13 +4,14 @@
 /// How many numbers each work buffer has at least.
 pub const LEFTS: usize = 4_096;
 pub const RIGHTS: usize = 4_096;
-pub const INDEX: usize = 65_536;
+pub const INDEX: usize = 8_192;
 pub const PAIRS: usize = 24_576;
-pub const TERMS: usize = 69_634;
-pub const RUNS: usize = 65_536;
+pub const TERMS: usize = 8_194;
+pub const RUNS: usize = 4_096;
 
-/// What a call may need of its thread's stack: the listing is written by recursion.
-pub const STACK: usize = 4 << 20;
+/// What a call may need of its thread's stack: a query too large for the lent buffers runs in arrays
+/// there, and the listing is written by recursion.
+pub const STACK: usize = 6 << 20;
 
 /// 0 with the listing's length, or a refusal's number; with 10 a class.
 #[repr(C)]
