@@ -9,8 +9,9 @@
  * where the length is 0), aligned for their type, with as many elements behind them as the length says,
  * and no lent buffer overlapping another or the image.
  *
- * Stack: a call needs up to TARIFF_STACK_BYTES of the calling thread's stack, for the buffers of a
- * large query and for the listing, which is written by recursion. The library does not test it: on a thread with less, an overflow ends the process.
+ * Stack: a call needs up to TARIFF_STACK_BYTES of the calling thread's stack, since a query that is too
+ * large for the lent buffers runs in arrays there, about 1.3 MB, and the listing is written by recursion.
+ * The library does not test it: on a thread with less, an overflow ends the process.
  */
 #ifndef TARIFF_MERGE_H
 #define TARIFF_MERGE_H

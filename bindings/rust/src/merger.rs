@@ -29,10 +29,11 @@ const LIVES: &str = "the thread of a Merger lives as long as the Merger";
 
 /// Merges classes of images.
 ///
-/// The library writes a listing by recursion, up to [`raw::STACK`](crate::raw::STACK) bytes of
-/// stack deep, and nothing tests the stack. So a `Merger` has a thread of its own, with four
-/// times as much, and every call runs there: a caller's thread may be as small as it likes. The
-/// thread lives as long as the `Merger` and owns the work buffers (0.2 MB) and the output buffer.
+/// The library runs large queries in arrays on the stack and writes a listing by recursion, with up
+/// to [`raw::STACK`](crate::raw::STACK) bytes in all, and nothing tests the stack. So a `Merger` has
+/// a thread of its own, with four times as much, and every call runs there: a caller's thread may be
+/// as small as it likes. The thread lives as long as the `Merger` and owns the work buffers (0.2 MB)
+/// and the output buffer.
 /// A call costs one hand-over there and back; [`merge_each`](Merger::merge_each) asks many
 /// queries with one. Threads that call at the same time have a `Merger` each.
 pub struct Merger {

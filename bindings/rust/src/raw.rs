@@ -9,8 +9,8 @@ pub const PAIRS: usize = 24_576;
 pub const TERMS: usize = 8_194;
 pub const RUNS: usize = 4_096;
 
-/// What a call may need of its thread's stack: full-length buffers for a large query, and the
-/// listing, which is written by recursion.
+/// What a call may need of its thread's stack: a query too large for the lent buffers runs in arrays
+/// there, and the listing is written by recursion.
 pub const STACK: usize = 6 << 20;
 
 /// 0 with the listing's length, or a refusal's number; with 10 a class.

@@ -1,19 +1,20 @@
 -- What `prepare` gives and leaves.
 use mathlib.Core.Path.{_≡_}
 use mathlib.Core.Bool.{true}
-use mathlib.Core.List.{List, []}
+use mathlib.Core.List.{List}
 use Prim.Native.Nat.{ℕ, _≤_, _<_}
 use lib.ListN.{length}
 use Rattle.spec.specs.Bytes.{ok, refused}
 use Rattle.spec.specs.Image.{imageOf, tablesOf}
 use Rattle.spec.specs.Graph.{build}
-use Rattle.spec.specs.Pool.{Interned, startingTerm}
 use Rattle.spec.specs.Merge.{mergeOf}
 use Rattle.terms.specs.Chains.{Whole}
-use Rattle.graph.specs.Building.{leftsAfter, rightsAfter}
+use Rattle.graph.specs.Building.{builtOf, leftsAfter, rightsAfter}
+use Rattle.graph.specs.declared.Built.{Built}
+use Rattle.graph.specs.declared.Built.the-variants as G
 use Rattle.image.specs.Loaded.{Loaded}
 use Rattle.image.specs.declared.Image.{Image}
-use Rattle.exact_fixed.specs.Beginning.{begunOf, Ready}
+use Rattle.exact_fixed.specs.Beginning.{Ready}
 use Rattle.exact_fixed.specs.declared.Begun.{Begun}
 use Rattle.exact_fixed.specs.declared.Begun.the-variants.{Stopped, Cut, All, Short}
 use Rattle.exact_fixed.specs.declared.Answer as E
@@ -46,10 +47,15 @@ pairsBegun (Cut root) = 0
 pairsBegun (All root n left) = n
 pairsBegun Short = 0
 
+abbrev pub pairsBuilt : Built → ℕ
+pairsBuilt (G.All n left) = n
+pairsBuilt G.Cut = 0
+pairsBuilt G.Full = 0
+
 abbrev pub pairsOf : Prepared → ℕ
 pairsOf (Stop a) = 0
 pairsOf (Go im b) = pairsBegun b
-pairsOf (Again im b) = pairsBegun b
+pairsOf (Again im g) = pairsBuilt g
 
 -- the engine's answer; there is no refusal 0
 abbrev pub engineAnswer : E.Answer → Answer
@@ -72,17 +78,17 @@ pub record Goes (image : List ℕ) (l r budget : ℕ) (im : Image) (b : Begun) (
   pub right : r < im .classes
   pub ready : Ready (tablesOf image) (l, r) budget b ls rs ix ts us
 
--- the same in buffers of full length: what it has begun is the answer of `begin`, and the graph stands in lefts and rights
-pub record GoesAgain (image : List ℕ) (l r budget : ℕ) (im : Image) (b : Begun) (ls rs : List ℕ) : Type 0 where
+-- an accepted image and query, and the graph alone, which stands in lefts and rights
+pub record GoesAgain (image : List ℕ) (l r budget : ℕ) (im : Image) (g : Built) (ls rs : List ℕ) : Type 0 where
   pub read : imageOf image ≡ ok (tablesOf image)
   pub loaded : Loaded image im
   pub left : l < im .classes
   pub right : r < im .classes
-  pub answer : b ≡ begunOf (startingTerm (tablesOf image) [] (l, r)) (build (tablesOf image) (l, r) budget)
-  pub lefts : (a : Interned) → startingTerm (tablesOf image) [] (l, r) ≡ ok a → ls ≡ leftsAfter (build (tablesOf image) (l, r) budget) ls
-  pub rights : (a : Interned) → startingTerm (tablesOf image) [] (l, r) ≡ ok a → rs ≡ rightsAfter (build (tablesOf image) (l, r) budget) rs
+  pub answer : g ≡ builtOf (build (tablesOf image) (l, r) budget)
+  pub lefts : ls ≡ leftsAfter (build (tablesOf image) (l, r) budget) ls
+  pub rights : rs ≡ rightsAfter (build (tablesOf image) (l, r) budget) rs
 
 abbrev pub Prepares : List ℕ → ℕ → ℕ → ℕ → Prepared → List ℕ → List ℕ → List ℕ → List ℕ → List ℕ → Type 0
 Prepares image left right budget (Stop a) ls rs ix ts us = Stops image left right budget a
 Prepares image left right budget (Go im b) ls rs ix ts us = Goes image left right budget im b ls rs ix ts us
-Prepares image left right budget (Again im b) ls rs ix ts us = GoesAgain image left right budget im b ls rs
+Prepares image left right budget (Again im g) ls rs ix ts us = GoesAgain image left right budget im g ls rs

@@ -3,7 +3,7 @@ use mathlib.Core.Path.{_≡_, refl, sym, ap, _∙_}
 use mathlib.Core.Logic.{_≢_, inl, inr}
 use mathlib.Core.Bool.{Bool, true, false}
 use mathlib.Core.List.{List, [], _++_, map}
-use Prim.Native.Nat.{ℕ, _≤_, _<_}
+use Prim.Native.Nat.{ℕ, _*_, _≤_, _<_}
 use native.Mathlib.Omega.{arith}
 use lib.Dec.{leb}
 use lib.ListN.{length, drop, replicate, length-replicate}
@@ -23,7 +23,8 @@ use Rattle.lgg.specs.Results.{refused-ok, refused-inj}
 use Rattle.lgg.specs.Demand3 as D
 use Rattle.image.specs.Loaded.{Loaded, classes-many}
 use Rattle.image.specs.declared.Image.{Image}
-use Rattle.graph.specs.Building.{leftsAfter, rightsAfter, indexAfter, numbered, over}
+use Rattle.graph.specs.Building.{Builds, leftsAfter, rightsAfter, indexAfter, numbered, over}
+use Rattle.graph.specs.declared.Built.{Built}
 use Rattle.exact_fixed.specs.Answers as X
 use Rattle.exact_fixed.specs.Beginning.{ifRooted, Begins, Ready, Finishes}
 use Rattle.exact_fixed.specs.declared.Begun.{Begun}
@@ -115,18 +116,22 @@ pub begins-goes : (s : List ℕ) (l r budget : ℕ) (im : Image) (ls rs ix ts us
     → Begins (tablesOf s) (l, r) budget ls rs ix ts us ls′ rs′ ix′ ts′ us′ b → length ix′ ≡ length ix → Goes s l r budget im b ls′ rs′ ix′ ts′ us′
 begins-goes s l r budget im ls rs ix ts us ls′ rs′ ix′ ts′ us′ b e L g h B k = record { read = e; loaded = L; left = g; right = h; ready = begins-ready (tablesOf s) (l, r) budget ls rs ix ts us ls′ rs′ ix′ ts′ us′ b B k }
 
--- what it leaves in lefts and rights, whatever the other buffers
-pub begins-graph : (s : List ℕ) (l r budget : ℕ) (im : Image) (ls rs ix ts us ls′ rs′ ix′ ts′ us′ : List ℕ) (b : Begun) → imageOf s ≡ ok (tablesOf s) → Loaded s im → l < im .classes → r < im .classes
-    → Begins (tablesOf s) (l, r) budget ls rs ix ts us ls′ rs′ ix′ ts′ us′ b → GoesAgain s l r budget im b ls′ rs′
-begins-graph s l r budget im ls rs ix ts us ls′ rs′ ix′ ts′ us′ b e L g h B = record {
+-- what building alone leaves in lefts and rights
+pub builds-again : (s : List ℕ) (l r budget : ℕ) (im : Image) (ls rs ix ls′ rs′ ix′ : List ℕ) (g : Built) → imageOf s ≡ ok (tablesOf s) → Loaded s im → l < im .classes → r < im .classes
+    → Builds (build (tablesOf s) (l, r) budget) ls rs ix ls′ rs′ ix′ g → GoesAgain s l r budget im g ls′ rs′
+builds-again s l r budget im ls rs ix ls′ rs′ ix′ g e L h k B = record {
   read = e;
   loaded = L;
-  left = g;
-  right = h;
+  left = h;
+  right = k;
   answer = B .answer;
-  lefts = begins-lefts (tablesOf s) (l, r) budget ls rs ix ts us ls′ rs′ ix′ ts′ us′ b B;
-  rights = begins-rights (tablesOf s) (l, r) budget ls rs ix ts us ls′ rs′ ix′ ts′ us′ b B;
+  lefts = B .lefts ∙ lefts-again (build (tablesOf s) (l, r) budget) ls ∙ ap (leftsAfter (build (tablesOf s) (l, r) budget)) (sym (B .lefts));
+  rights = B .rights ∙ rights-again (build (tablesOf s) (l, r) budget) rs ∙ ap (rightsAfter (build (tablesOf s) (l, r) budget)) (sym (B .rights));
 }
+
+-- an index of full length has room for the classes of every image
+pub index-full : (s : List ℕ) (im : Image) → Loaded s im → imageOf s ≡ ok (tablesOf s) → (n : ℕ) → 65536 ≤ n → 256 * im .classes ≤ n
+index-full s im L e n h = omega (arith, classes-many s im L, is-valid s e .counts .fewClasses)
 
 -- ---- what is answered
 pub merges-stop : (s : List ℕ) (l r b : ℕ) (out : List ℕ) (a : Answer) → Stops s l r b a → Merges s l r b true out out a

@@ -9,11 +9,13 @@ ghost use Rattle.image.specs.Loaded.{Loaded};
 ghost use Rattle.pair_table.specs.Table.{none};
 ghost use Rattle.au.specs.declared.Answer.the-variants.{Refused};
 ghost use Rattle.au.specs.Merges.{fitOf, fits, Merges, Cleared, Table};
-ghost use Rattle.au.specs.Prepared.{Wide, Full, Goes, GoesAgain, Prepares, pairsBegun, pairsOf, engineAnswer};
+ghost use Rattle.au.specs.Prepared.{Wide, Full, Goes, GoesAgain, Prepares, pairsBegun, pairsBuilt, pairsOf, engineAnswer};
 ghost use Rattle.au.specs.Tiers.{shortBegun, shortAnswer};
 ghost use Rattle.exact_fixed.specs.Beginning.{Finishes, EndsShort};
 ghost use Rattle.exact_fixed.specs.Shorts.{UnlessAnswer};
+use budget::Budget;
 use exact_fixed::Begun;
+use graph::Built;
 use image::Image;
 use judge::Verdict;
 use judge::judge;
@@ -26,11 +28,11 @@ pub enum Answer {
     Doubled(usize),
 }
 
-// Before the pair table is filled: a refusal of 2 to 11; the image and what the run has begun in the lent buffers; the image and what it begins with in buffers of full length, where a lent one is too short for the query.
+// Before the pair table is filled: a refusal of 2 to 11; the image and what the run has begun in the lent buffers; the image and its graph, where a lent buffer is too short to begin.
 pub enum Prepared {
     Stop(Answer),
     Go(Image, Begun),
-    Again(Image, Begun),
+    Again(Image, Built),
 }
 
 // 1: whether a work buffer is below its constant length
@@ -84,13 +86,23 @@ fn pairs_begun(b: Begun) -> usize
     }
 }
 
+fn pairs_built(g: Built) -> usize
+    ensures { λ r. ⌜ r ≡ pairsBuilt g ⌝ }
+{
+    match g {
+        Built::All(n, left) => n,
+        Built::Cut => 0,
+        Built::Full => 0,
+    }
+}
+
 fn pairs_of(p: Prepared) -> usize
     ensures { λ r. ⌜ r ≡ pairsOf p ⌝ }
 {
     match p {
         Prepared::Stop(a) => 0,
         Prepared::Go(im, b) => pairs_begun(b),
-        Prepared::Again(im, b) => pairs_begun(b),
+        Prepared::Again(im, g) => pairs_built(g),
     }
 }
 
@@ -112,8 +124,8 @@ fn begun_short(b: Begun) -> bool
     }
 }
 
-// the root's starting term and building in buffers of full length; the graph stands in the lent lefts and rights, for the pair table
-fn begin_again(
+// building with an index of full length; the graph stands in the lent lefts and rights, for the pair table
+fn build_again(
     s: &[u8],
     im: Image,
     left: usize,
@@ -121,25 +133,13 @@ fn begin_again(
     budget: u32,
     lefts: &mut [u16],
     rights: &mut [u16],
-) -> Begun
+) -> Built
     requires { ⌜ Loaded (now s) im × (imageOf (now s) ≡ ok (tablesOf (now s))) × (left < im .classes) × (right < im .classes) × (4096 ≤ length (now lefts)) × (4096 ≤ length (now rights)) ⌝ }
     ensures { λ r. ⌜ GoesAgain (now (s .entry)) left right budget im r (now (lefts .exit)) (now (rights .exit)) ⌝ }
 {
     let mut index = [0u16; 65536];
-    let mut terms = [0u32; 69634];
-    let mut runs = [0u64; 65536];
-    exact_fixed::begin(
-        s,
-        im,
-        left,
-        right,
-        budget,
-        lefts,
-        rights,
-        &mut index,
-        &mut terms,
-        &mut runs,
-    )
+    let b = Budget { left: budget };
+    graph::build(s, im, left, right, b, lefts, rights, &mut index)
 }
 
 // 11, the root's starting term, and building
@@ -177,8 +177,8 @@ fn start(
         runs,
     );
     if begun_short(b) {
-        let again = begin_again(s, im, left, right, budget, lefts, rights);
-        return Prepared::Again(im, again);
+        let g = build_again(s, im, left, right, budget, lefts, rights);
+        return Prepared::Again(im, g);
     }
     Prepared::Go(im, b)
 }
@@ -533,7 +533,7 @@ fn conclude(
             runs,
             out,
         ),
-        Prepared::Again(im, b) => finish_again(
+        Prepared::Again(im, g) => finish_again(
             s,
             im,
             wide(left),

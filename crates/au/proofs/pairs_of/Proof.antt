@@ -21,8 +21,8 @@ enum-known-p-3 : tie.Need-enum-known-p-3
 enum-known-p-3 c = search needs
 
 -- src/lib.rt:92:35
-pairs-begun-requires-2 : tie.Need-pairs-begun-requires-2
-pairs-begun-requires-2 c κs = search needs
+pairs-built-requires : tie.Need-pairs-built-requires
+pairs-built-requires c κs = search needs
 
 -- src/lib.rt:86:1
 returns : tie.Need-returns
@@ -36,7 +36,7 @@ returns-2 c =
 -- src/lib.rt:86:1
 returns-3 : tie.Need-returns-3
 returns-3 c =
-    sym (ap pairsOf (c .before .before .p3 .given .1) ∙ sym (c .pairs-begun2 .ensures))
+    sym (ap pairsOf (c .before .before .p3 .given .1) ∙ sym (c .pairs-built .ensures))
 
 pub pairs-of-spec : {M : Type 1} → statement M
 pairs-of-spec =
@@ -46,7 +46,7 @@ pairs-of-spec =
     enum-known-p-2
     pairs-begun-requires
     enum-known-p-3
-    pairs-begun-requires-2
+    pairs-built-requires
     returns
     returns-2
     returns-3)

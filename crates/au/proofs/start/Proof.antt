@@ -30,8 +30,8 @@ begun-short-requires : tie.Need-begun-short-requires
 begun-short-requires c κs = search needs
 
 -- src/lib.rt:188:13
-begin-again-requires : tie.Need-begin-again-requires
-begin-again-requires c κs =
+build-again-requires : tie.Need-build-again-requires
+build-again-requires c κs =
     let a = c .before .before .before .before .before .before .before .before .before .before .before .before .before .before .before .before .before .before .before .before .before .before .before .before .before .before .before .before .before .before in
     let x = c .before .before .before .before .before .before .before .before .before .before .before .before .before .before .begin in
     let w = a .pre .2 in
@@ -97,7 +97,7 @@ start-spec =
     returns-2
     begin-requires
     begun-short-requires
-    begin-again-requires
+    build-again-requires
     same-length
     same-length-2
     same-length-3
