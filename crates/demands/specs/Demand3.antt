@@ -4,6 +4,7 @@ use mathlib.Core.Logic.{_↔_}
 use mathlib.Core.Bool.{Bool, true, false}
 use mathlib.Core.List.{List, _∷_}
 use Prim.Native.Nat.{ℕ, _+_, _*_, _≤_, _<_}
+use native.Mathlib.Omega.{arith}
 use lib.ListN.{length, take}
 use Rattle.spec.specs.Bytes.{Two, ok, refused, passed}
 use Rattle.spec.specs.Image.{Tables, tablesOf}
@@ -13,10 +14,10 @@ use Rattle.spec.specs.Listing.{listingOf}
 use Rattle.spec.specs.Meaning.{In, _⊑_, Derivation, Reachable}
 use Rattle.lgg.specs.Lists.{Distinct}
 use Rattle.lgg.specs.Results.{ok-inj}
-use Rattle.lgg.specs.Rounds.{LeastOf}
+use Rattle.lgg.specs.Rounds.{LeastOf, qualityAfter}
 use Rattle.lgg.specs.Graph.{PairCount, build-cut}
 use Rattle.lgg.specs.Run.{Ends, inBuilding, inStarting, inRounds, run-ends}
-use Rattle.lgg.specs.Outcomes.{started-says}
+use Rattle.lgg.specs.Outcomes.{root-in, started-says}
 use Rattle.lgg.specs.Demand3 as D
 use Rattle.lgg.specs.Demand3.{FirstQuiet, Reported}
 use Rattle.au.specs.declared.Answer.{Answer}
@@ -40,6 +41,21 @@ module _ (image : List ℕ) (left right budget : ℕ) (fit : Bool) (out out′ :
   -- "After any r finished rounds the queried pair has the quality of one of its derivations of height at most r, and every other has at least as much."
   pub least-of-height : LeastOf t (o .rounds) (left, right) (o .quality)
   least-of-height = D.least-of-height t (left, right) budget o ran
+
+  -- "After any r finished rounds": of every r, for a run that is not cut short in building.
+  pub least-after : (k : ℕ) → PairCount t (left, right) k → k ≤ budget
+      → (ps : List Two) × (c : ℕ) × (build t (left, right) budget ≡ ok (passed ps c)) × (o .quality ≡ qualityAfter t ps (o .rounds) (left, right)) × ((r : ℕ) → LeastOf t r (left, right) (qualityAfter t ps r (left, right)))
+  least-after k n h = go (run-ends t (left, right) budget o ran)
+    where
+      whole : (ps : List Two) (c : ℕ) → build t (left, right) budget ≡ ok (passed ps c) → (ps : List Two) × (c : ℕ) × (build t (left, right) budget ≡ ok (passed ps c)) × (o .quality ≡ qualityAfter t ps (o .rounds) (left, right)) × ((r : ℕ) → LeastOf t r (left, right) (qualityAfter t ps r (left, right)))
+      whole ps c e =
+          let (R, l, q) = D.first-quiet t (left, right) budget c ps e in
+          (ps, c, e, D.reported t (left, right) budget c ps e R q budget o ran .quality, λ r. D.least-after-rounds t (left, right) budget c ps e r (left, right) (root-in t (left, right) budget c ps e))
+
+      go : Ends t (left, right) budget o → (ps : List Two) × (c : ℕ) × (build t (left, right) budget ≡ ok (passed ps c)) × (o .quality ≡ qualityAfter t ps (o .rounds) (left, right)) × ((r : ℕ) → LeastOf t r (left, right) (qualityAfter t ps r (left, right)))
+      go (inBuilding root e s) = absurd (omega (arith, build-cut t (left, right) k n budget e))
+      go (inStarting root ps c e l s) = whole ps c e
+      go (inRounds ps c d e l f) = whole ps c e
 
   -- "A complete run is least among derivations of every height."
   pub least-of-every-height : o .complete ≡ true → (h : ℕ) (z : Two) → Derivation t h (left, right) z → o .quality ⊑ z

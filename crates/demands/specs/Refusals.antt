@@ -23,7 +23,9 @@ use Rattle.lgg.specs.Graph.{PairCount}
 use Rattle.lgg.specs.Demand3 as D
 use Rattle.au.specs.declared.Answer.{Answer}
 use Rattle.au.specs.declared.Answer.the-variants.{Listing, Refused, Doubled}
-use Rattle.au.specs.Merges.{answerOf, Merges}
+use Rattle.au.specs.Merges.{answerOf, Merges, Cleared, Table}
+use Rattle.pair_table.specs.declared.Pair.{Pair}
+use Rattle.pair_table.specs.Table.{none}
 use Rattle.demands.specs.Calls.{Asked, Sound, Taken, Way, short, unsound, outside, stopped, over, listed, read-of, taken-is, way, refused-iff, doubled-iff, listing-iff}
 
 module _ (image : List ℕ) (left right budget : ℕ) (fit : Bool) (out out′ : List ℕ) (r : Answer) (m : Merges image left right budget fit out out′ r) where
@@ -209,3 +211,10 @@ module _ (image : List ℕ) (left right budget : ℕ) (fit : Bool) (out out′ :
   -- "(leaves them alone where one was too short)"
   pub work-kept : {B : Type 0} (empty : B) (w w′ : List B) → w′ ≡ workAfter empty fit w → r ≡ Refused 1 → w′ ≡ w
   work-kept empty w w′ e n = rw (refused-1 .0 n) at e
+
+-- .. each of the seven, of one call: from the contract of `merge` as it stands.
+pub all-cleared : (image : List ℕ) (left right budget : ℕ) (fit : Bool) (out out′ : List ℕ) (r : Answer) → Merges image left right budget fit out out′ r → r ≢ Refused 1
+    → (table table′ : List Pair) → Table fit table table′ → {a a′ b b′ c c′ d d′ e e′ f f′ : List ℕ} → Cleared fit a a′ b b′ c c′ d d′ e e′ f f′
+    → (table′ ≡ replicate (length table) none) × (a′ ≡ replicate (length a) 0) × (b′ ≡ replicate (length b) 0) × (c′ ≡ replicate (length c) 0) × (d′ ≡ replicate (length d) 0) × (e′ ≡ replicate (length e) 0) × (f′ ≡ replicate (length f) 0)
+all-cleared image left right budget fit out out′ r m n table table′ z {a} {a′} {b} {b′} {c} {c′} {d} {d′} {e} {e′} {f} {f′} k =
+    (work-cleared image left right budget fit out out′ r m none table table′ z n, work-cleared image left right budget fit out out′ r m 0 a a′ (k .lefts) n, work-cleared image left right budget fit out out′ r m 0 b b′ (k .rights) n, work-cleared image left right budget fit out out′ r m 0 c c′ (k .index) n, work-cleared image left right budget fit out out′ r m 0 d d′ (k .pairs) n, work-cleared image left right budget fit out out′ r m 0 e e′ (k .terms) n, work-cleared image left right budget fit out out′ r m 0 f f′ (k .runs) n)

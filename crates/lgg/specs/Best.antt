@@ -6,7 +6,7 @@ use mathlib.Core.List.{List, [], _∷_, map}
 use Prim.Native.Nat.{ℕ, zero, suc, _+_, _*_, _≤_, _<_}
 use native.Mathlib.Omega.{arith}
 use lib.Dec.{eqb}
-use borrow.Author.Tests.{eqb-true}
+use borrow.Author.Tests.{eqb-true, eqb-false}
 use lib.ListN.{length}
 use Rattle.spec.specs.Bytes.{Two, pick, sum, Res, ok, refused, _>>=_}
 use Rattle.spec.specs.Image.{Tables, Member, MSet, Lit, arities, isCommutative, kindOf, bestSize, membersOf, childrenOf, bestMember, sizeOver}
@@ -124,12 +124,12 @@ module _ (t : Tables) where
   not-mset k e z = clash (rw z at e)
 
   -- a member is what its class is under the member's operation
-  pub member-covers : Valid t → (m : Member) (c : ℕ) → In m (membersOf t c) → Covers t (m .op) c (written (childrenOf t m))
-  member-covers v m c i = go (isCommutative (kindOf t (m .op))) refl
+  pub member-covers : Valid t → (m : Member) (c : ℕ) → In m (membersOf t c) → kindOf t (m .op) ≢ Lit → Covers t (m .op) c (written (childrenOf t m))
+  member-covers v m c i w = go (isCommutative (kindOf t (m .op))) refl
     where
       go : (b : Bool) → isCommutative (kindOf t (m .op)) ≡ b → Covers t (m .op) c (written (childrenOf t m))
       go true e = anyOrder (childrenOf t m) (member m i refl refl) e (λ k. occurs-written k (childrenOf t m))
-      go false e = inOrder m i refl e (written-ones (childrenOf t m) (child-single t v m c i (not-mset (kindOf t (m .op)) e)))
+      go false e = inOrder m i refl e w (written-ones (childrenOf t m) (child-single t v m c i (not-mset (kindOf t (m .op)) e)))
 
   nil-of-length : (l : List Two) → length l ≡ 0 → l ≡ []
   nil-of-length [] e = refl
@@ -152,14 +152,14 @@ module _ (t : Tables) where
       belongs = literal (bestMember t c) i k refl refl
 
   -- the best member over terms that are best for its children
-  node-good : Valid t → (c : ℕ) → c < length (t .classes) → (ts : List Term) (r : Runs)
+  node-good : Valid t → (c : ℕ) → c < length (t .classes) → kindOf t (bestMember t c .op) ≢ Lit → (ts : List Term) (r : Runs)
       → TermsFor t (map (λ d. (d .0, d .0)) (childrenOf t (bestMember t c))) (map (λ d. (bestSize t (d .0), 0)) (childrenOf t (bestMember t c))) ts
       → expand r ≡ spread ts (counts (childrenOf t (bestMember t c))) → TermFor t (c, c) (bestSize t c, 0) (node (bestMember t c .op) r)
   unfolding sizeOver
-  node-good v c h ts r g e =
+  node-good v c h w ts r g e =
       rw (best-is) (good-node t (c, c) (m .op) (map (λ d. (d .0, d .0)) l) (map (λ d. (bestSize t (d .0), 0)) l) ts (counts l) r g (perm-of-eq (sym e)) (λ n. sym e)
-      (rw (map-map {B = Two} (λ d. (d .0, d .0)) (λ d. d .0) l, spread-written l) (member-covers v m c (best-in t v c h)))
-      (rw (map-map {B = Two} (λ d. (d .0, d .0)) (λ d. d .1) l, spread-written l) (member-covers v m c (best-in t v c h))))
+      (rw (map-map {B = Two} (λ d. (d .0, d .0)) (λ d. d .0) l, spread-written l) (member-covers v m c (best-in t v c h) w))
+      (rw (map-map {B = Two} (λ d. (d .0, d .0)) (λ d. d .1) l, spread-written l) (member-covers v m c (best-in t v c h) w)))
     where
       m : Member
       m = bestMember t c
@@ -190,13 +190,13 @@ module _ (t : Tables) where
             (literal-good v c h k);
       }
 
-      asNode : (k : Children) → MakesChildren t p l k → Interns (k .pool) (opNode (m .op) (k .runs)) r → Makes t p (c, c) (bestSize t c, 0) r
-      asNode k M E =
+      asNode : kindOf t (m .op) ≢ Lit → (k : Children) → MakesChildren t p l k → Interns (k .pool) (opNode (m .op) (k .runs)) r → Makes t p (c, c) (bestSize t c, 0) r
+      asNode w k M E =
           let (means, children) = op-means (k .pool) (m .op) (k .runs) r E in record {
             valid = E .valid;
             grown = extends-trans (M .grown) (E .grown);
             within = E .within;
-            good = rw means (node-good v c h (map (treeAt (k .pool)) (classes (k .runs))) _ (M .good)
+            good = rw means (node-good v c h w (map (treeAt (k .pool)) (classes (k .runs))) _ (M .good)
                 (children ∙ ap (map (treeAt (k .pool))) (sym (spread-written (k .runs))) ∙ map-spread (treeAt (k .pool)) (classes (k .runs)) (counts (k .runs)) ∙ ap (spread (map (treeAt (k .pool)) (classes (k .runs)))) (M .same)));
           }
 
@@ -205,10 +205,10 @@ module _ (t : Tables) where
           → ((d : Two) → In d l → (q : Pool) (s : Interned) → PoolValid q → bestTermIn f t q (d .0) ≡ ok s → Makes t q (d .0, d .0) (bestSize t (d .0), 0) s)
           → Makes t p (c, c) (bestSize t c, 0) r
       go true k e ih = asLiteral (eqb-true _ _ k) (intern-enters p (litNode (m .op) (m .value)) r w (lit-valid (length p) (m .op) (m .value)) e)
-      go false k e ih =
+      go false b e ih =
           let (k, ek, e′) = bind-ok (childTerms (bestTermIn f t) p l) _ r e in
           let M = children-made (bestTermIn f t) l ih (child-counted t v m c (best-in t v c h)) p k w ek in
-          asNode k M (intern-enters (k .pool) (opNode (m .op) (k .runs)) r (M .valid) (op-valid (length (k .pool)) (m .op) (k .runs) (M .below)) e′)
+          asNode (eqb-false _ _ b) k M (intern-enters (k .pool) (opNode (m .op) (k .runs)) r (M .valid) (op-valid (length (k .pool)) (m .op) (k .runs) (M .below)) e′)
 
   -- The best term of a class has the class's best size and mass 0, and belongs to the class, read either way.
   pub best-term : Valid t → (p : Pool) (c : ℕ) (r : Interned) → c < length (t .classes) → PoolValid p → bestTerm t p c ≡ ok r → Makes t p (c, c) (bestSize t c, 0) r

@@ -23,7 +23,7 @@ use Rattle.lgg.specs.BagPlan.{plan-rows, plan-columns}
 use Rattle.lgg.specs.PoolIntern.{both-true}
 use Rattle.lgg.specs.ReadingsNode.{Covers, inOrder, anyOrder}
 use Rattle.lgg.specs.BestMembers.{IsClass, identity-class, child-within, child-single, member-arity}
-use Rattle.lgg.specs.Lists.{map-in, in-append, in-cons, in-each, in-left, in-nil, in-right}
+use Rattle.lgg.specs.Lists.{clash, map-in, in-append, in-cons, in-each, in-left, in-nil, in-right}
 
 -- operation o over the places ps, with counts x, is an action of pair p: its left classes cover the left class, its right ones the right, and it joins the places
 pub record Legal (t : Tables) (p : Two) (o : ℕ) (ps : List Two) (x : List ℕ) : Type 0 where
@@ -57,8 +57,8 @@ once ps f = spread-ones (map f ps) ps (length-map ps f)
 module _ (t : Tables) (v : Valid t) where
   -- ---- structural actions
   -- "pair children by position"
-  in-place : (m : Member) (o c : ℕ) → In m (membersOf t c) → o ≡ m .op → isCommutative (kindOf t o) ≡ false → Covers t o c (classes (childrenOf t m))
-  in-place m o c i e n = inOrder m i e n refl
+  in-place : (m : Member) (o c : ℕ) → In m (membersOf t c) → o ≡ m .op → isCommutative (kindOf t o) ≡ false → kindOf t o ≢ Lit → Covers t o c (classes (childrenOf t m))
+  in-place m o c i e n z = inOrder m i e n z refl
 
   -- SPair: two child classes, in either order
   either-way : (m : Member) (o c : ℕ) → In m (membersOf t c) → o ≡ m .op → kindOf t o ≡ SPair → (a b : ℕ) → ((k : ℕ) → occurs k (a ∷ b ∷ []) ≡ occurs k (classes (childrenOf t m))) → Covers t o c (a ∷ b ∷ [])
@@ -74,10 +74,10 @@ module _ (t : Tables) (v : Valid t) where
     left : Covers t (a .op) l (map (λ c. c .0) (a .pairs))
     right : Covers t (a .op) r (map (λ c. c .1) (a .pairs))
 
-  by-position : (m n : Member) (o l r : ℕ) → In m (membersOf t l) → In n (membersOf t r) → o ≡ m .op → o ≡ n .op → isCommutative (kindOf t o) ≡ false
+  by-position : (m n : Member) (o l r : ℕ) → In m (membersOf t l) → In n (membersOf t r) → o ≡ m .op → o ≡ n .op → isCommutative (kindOf t o) ≡ false → kindOf t o ≢ Lit
       → (a : Action) → In a (byPosition o (classes (childrenOf t m)) (classes (childrenOf t n))) → Aligned l r a
   unfolding byPosition
-  by-position m n o l r i j e f k a h = go (eqb (length (classes (childrenOf t m))) (length (classes (childrenOf t n)))) refl h
+  by-position m n o l r i j e f k w a h = go (eqb (length (classes (childrenOf t m))) (length (classes (childrenOf t n)))) refl h
     where
       whole : Action
       whole = record { op = o; pairs = zip (classes (childrenOf t m)) (classes (childrenOf t n)) }
@@ -87,7 +87,7 @@ module _ (t : Tables) (v : Valid t) where
       go true z h =
           let len = eqb-true _ _ z in
           elim (in-cons h) [
-            | inl q ↦ rw q (record { left = rw (zip-left (classes (childrenOf t m)) (classes (childrenOf t n)) len) (in-place m o l i e k); right = rw (zip-right (classes (childrenOf t m)) (classes (childrenOf t n)) len) (in-place n o r j f k) })
+            | inl q ↦ rw q (record { left = rw (zip-left (classes (childrenOf t m)) (classes (childrenOf t n)) len) (in-place m o l i e k w); right = rw (zip-right (classes (childrenOf t m)) (classes (childrenOf t n)) len) (in-place n o r j f k w) })
             | inr q ↦ absurd (in-nil q)
           ]
 
@@ -131,6 +131,10 @@ module _ (t : Tables) (v : Valid t) where
   either-left false b e = refl
   either-left true b e = e
 
+  neither-right : (a b : Bool) → either a b ≡ false → b ≡ false
+  neither-right false b e = e
+  neither-right true b e = absurd (clash e)
+
   member-aligned : (m n : Member) (l r : ℕ) → In m (membersOf t l) → In n (membersOf t r) → (a : Action) → In a (alignMembers t m n) → Aligned l r a
   unfolding alignMembers alignments
   member-aligned m n l r i j a h = go (eqb (m .op) (n .op)) refl (eqb k SPair) refl (either (isAC k) (eqb k Lit)) refl h
@@ -149,7 +153,7 @@ module _ (t : Tables) (v : Valid t) where
       go false p y q z u h = absurd (in-nil h)
       go true p true q z u h = both-ways m n (m .op) l r i j refl (eqb-true _ _ p) (eqb-true _ _ q) a h
       go true p false q true u h = absurd (in-nil h)
-      go true p false q false u h = by-position m n (m .op) l r i j refl (eqb-true _ _ p) (neither k q (either-left (isAC k) (eqb k Lit) u)) a h
+      go true p false q false u h = by-position m n (m .op) l r i j refl (eqb-true _ _ p) (neither k q (either-left (isAC k) (eqb k Lit) u)) (λ z. eqb-false k Lit (neither-right (isAC k) (eqb k Lit) u) z) a h
 
   -- An action of a pair, each place once.
   pub structural-legal : (p : Two) (a : Action) → In a (structural t (p .0) (p .1)) → Legal t p (a .op) (a .pairs) (ones (a .pairs))

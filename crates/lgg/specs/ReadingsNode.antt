@@ -1,12 +1,13 @@
 -- A node over the terms of places: its quality, and what it belongs to when it is read.
 use mathlib.Core.Path.{_≡_, refl, sym, ap, ap₂, _∙_}
+use mathlib.Core.Logic.{_≢_}
 use mathlib.Core.Bool.{Bool, true, false}
 use mathlib.Core.List.{List, [], _∷_, _++_, map}
 use Prim.Native.Nat.{ℕ, zero, suc, _+_, _*_}
 use native.Mathlib.Omega.{arith}
 use lib.ListN.{replicate}
 use Rattle.spec.specs.Bytes.{sum, Two}
-use Rattle.spec.specs.Image.{Tables, Member, kindOf, isCommutative, membersOf, childrenOf}
+use Rattle.spec.specs.Image.{Tables, Member, Lit, kindOf, isCommutative, membersOf, childrenOf}
 use Rattle.spec.specs.Monomial.{classes}
 use Rattle.spec.specs.Transport.{planSize, planMass}
 use Rattle.spec.specs.Round.{cellsOver, qualityOver}
@@ -59,12 +60,12 @@ module _ (t : Tables) where
 
   -- The classes cs, in the order of the places, are what class c is under operation o: a member's child classes in their order, or in any order where that is free.
   pub data Covers (o c : ℕ) (cs : List ℕ) : Type 0 where
-    inOrder : (m : Member) → In m (membersOf t c) → o ≡ m .op → isCommutative (kindOf t o) ≡ false → cs ≡ classes (childrenOf t m) → Covers o c cs
+    inOrder : (m : Member) → In m (membersOf t c) → o ≡ m .op → isCommutative (kindOf t o) ≡ false → kindOf t o ≢ Lit → cs ≡ classes (childrenOf t m) → Covers o c cs
     anyOrder : (l : List Two) → Side t c o l → isCommutative (kindOf t o) ≡ true → ((k : ℕ) → occurs k cs ≡ countIn k l) → Covers o c cs
 
   pub covers-belongs : (o c : ℕ) (cs : List ℕ) (ts : List Term) (r : Runs) → Covers o c cs → Perm ts (expand r) → (isCommutative (kindOf t o) ≡ false → ts ≡ expand r)
       → AllBelong t ts cs → Belongs t (node o r) c
-  covers-belongs o c cs ts r (inOrder m i e n h) p q b = ordered {r = r} m i e n (rw (← q n, ← h) b)
+  covers-belongs o c cs ts r (inOrder m i e n z h) p q b = ordered {r = r} m i e n z (rw (← q n, ← h) b)
   covers-belongs o c cs ts r (anyOrder l s n h) p q b = let (ds, d, e) = belong-perm p b in unordered {r = r} l ds s n d (λ k. e k ∙ h k)
 
   -- ---- a term for pair p with quality q: it has the quality, and belongs to the left class read by the first branches, to the right one read by the second

@@ -41,7 +41,7 @@ module _ (t : Tables) (v : Valid t) where
   side-within c o l h (padded {l = m} {e = e} k n q s) r j = elim (in-cons j) [ inl z ↦ rw (z, q) (identity-class t v o n) | inr y ↦ side-within c o m h s r y ]
 
   covers-within : (o c : ℕ) (cs : List ℕ) → IsClass t c → Covers t o c cs → (k : ℕ) → In k cs → IsClass t k
-  covers-within o c cs h (inOrder m i e n f) k j = let (r, q, z) = map-in (λ s. s .0) (childrenOf t m) k (rw f at j) in rw (← z) (child-within t v m c i r q)
+  covers-within o c cs h (inOrder m i e n w f) k j = let (r, q, z) = map-in (λ s. s .0) (childrenOf t m) k (rw f at j) in rw (← z) (child-within t v m c i r q)
   covers-within o c cs h (anyOrder l s n f) k j = let (r, q, z) = counted-in k l (omega (arith, f k, occurs-in k cs j)) in rw z (side-within c o l h s r q)
 
   action-within : (p : Two) → IsPair t p → (a : Action) → In a (structural t (p .0) (p .1)) → (c : Two) → In c (a .pairs) → IsPair t c

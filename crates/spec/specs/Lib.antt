@@ -16,3 +16,6 @@ pub mod Samples
 pub mod Refusals
 pub mod Limits
 pub mod Slips
+pub mod Found
+pub mod Bounds
+pub mod Belonging

@@ -111,7 +111,7 @@ mutual
     -- "if it has a member's literal"
     literal : {o v c : ℕ} (m : Member) → In m (membersOf t c) → kindOf t (m .op) ≡ Lit → o ≡ m .op → v ≡ m .value → Belongs t (lit o v) c
     -- "or its operation over children belonging to the member's child classes"
-    ordered : {o c : ℕ} {r : Runs} (m : Member) → In m (membersOf t c) → o ≡ m .op → isCommutative (kindOf t o) ≡ false → AllBelong t (expand r) (classes (childrenOf t m)) → Belongs t (node o r) c
+    ordered : {o c : ℕ} {r : Runs} (m : Member) → In m (membersOf t c) → o ≡ m .op → isCommutative (kindOf t o) ≡ false → kindOf t o ≢ Lit → AllBelong t (expand r) (classes (childrenOf t m)) → Belongs t (node o r) c
     -- "For commutative kinds order is free"
     unordered : {o c : ℕ} {r : Runs} (l : List Two) (cs : List ℕ) → Side t c o l → isCommutative (kindOf t o) ≡ true
         → AllBelong t (expand r) cs → ((k : ℕ) → occurs k cs ≡ countIn k l) → Belongs t (node o r) c
