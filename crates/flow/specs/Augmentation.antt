@@ -8,7 +8,7 @@ use native.Mathlib.Omega.{arith}
 use lib.IntN.{pos}
 use lib.ListN.{length, set, length-set}
 use Rattle.spec.specs.Bytes.{sumTo, Two}
-use Rattle.spec.specs.Transport.{Problem, sizeOf, massOf, rowsOf, colsOf, cellAt, supplyAt, demandAt, capacity, moved, rowFlow, colFlow, source, row, column, target, sink, nodeCount, nodeOf, residual, price, shift, push}
+use Rattle.spec.specs.Transport.{Problem, sizeOf, massOf, rowsOf, colsOf, cellAt, supplyAt, demandAt, capacity, moved, rowFlow, colFlow, source, row, column, target, sink, nodeCount, vertexOf, residual, price, shift, push}
 use Rattle.flow.specs.AugmentingPath.{TightPath, path, Carries, end, step, carries-step}
 use Rattle.flow.specs.Flat.{at-same, at-other, row-same, row-other, col-same, col-other}
 use Rattle.flow.specs.Network.{rowFlow-is, colFlow-is, node-row, node-column, NodeIs, view, isSource, isRow, isColumn, isSink}
@@ -131,11 +131,11 @@ module _ (p : Problem) (w : ℕ) (x₀ : List ℕ) (π h : ℕ → ℕ) (δ : �
   pushed [] a x (end e) f (inCol j hj q A) K = absurd (omega arith)
   pushed (s ∷ path) a x (step b ha hb b0 nt up rr tt′ ch) (carries-step ft fs) (inRow i hi q A) K = go (view p b hb) (λ x′ H′ K′. pushed path b x′ ch fs H′ K′)
     where
-      qa : nodeOf p a ≡ row i
-      qa = ap (nodeOf p) q ∙ node-row p i hi
+      qa : vertexOf p a ≡ row i
+      qa = ap (vertexOf p) q ∙ node-row p i hi
 
       go : NodeIs p b → ((x′ : List ℕ) → Carried p δ r c b x′ → Kept p w x₀ π h b x′ → Pushed p w x₀ π δ r c (push p δ path x′))
-          → Pushed p w x₀ π δ r c (push p δ path (shift p δ (nodeOf p a) (nodeOf p b) x))
+          → Pushed p w x₀ π δ r c (push p δ path (shift p δ (vertexOf p a) (vertexOf p b) x))
       go (isSource e n) ih = absurd (b0 e)
       go (isRow k hk e n) ih = let z : 0 < residual p x₀ (row i) (row k) = rw (qa, n) at rr in absurd (omega arith)
       go (isSink e n) ih = let z : 0 < residual p x₀ (row i) target = rw (qa, n) at rr in absurd (omega arith)
@@ -150,11 +150,11 @@ module _ (p : Problem) (w : ℕ) (x₀ : List ℕ) (π h : ℕ → ℕ) (δ : �
           (ahead a b x (A .len) i j (moved p x i j + δ) hi hj (omega arith) (inl (sym ea)) ((omega arith), inr tight) K))
   pushed (s ∷ path) a x (step b ha hb b0 nt up rr tt′ ch) (carries-step ft fs) (inCol j hj q A) K = go (view p b hb) (λ x′ H′ K′. pushed path b x′ ch fs H′ K′)
     where
-      qa : nodeOf p a ≡ column j
-      qa = ap (nodeOf p) q ∙ node-column p j hj
+      qa : vertexOf p a ≡ column j
+      qa = ap (vertexOf p) q ∙ node-column p j hj
 
       go : NodeIs p b → ((x′ : List ℕ) → Carried p δ r c b x′ → Kept p w x₀ π h b x′ → Pushed p w x₀ π δ r c (push p δ path x′))
-          → Pushed p w x₀ π δ r c (push p δ path (shift p δ (nodeOf p a) (nodeOf p b) x))
+          → Pushed p w x₀ π δ r c (push p δ path (shift p δ (vertexOf p a) (vertexOf p b) x))
       go (isSource e n) ih = absurd (b0 e)
       go (isColumn k hk e n) ih = let z : 0 < residual p x₀ (column j) (column k) = rw (qa, n) at rr in absurd (omega arith)
       go (isRow i hi e n) ih =
@@ -187,7 +187,7 @@ module _ (p : Problem) (w : ℕ) (x₀ : List ℕ) (π h : ℕ → ℕ) (δ : �
   augmented-by [] (end e) f = absurd (omega arith)
   augmented-by (s ∷ path) (step b ha hb b0 nt up rr t′ ch) (carries-step ft fs) = go (view p b hb)
     where
-      go : NodeIs p b → Augmented p w x₀ π δ (push p δ path (shift p δ source (nodeOf p b) x₀))
+      go : NodeIs p b → Augmented p w x₀ π δ (push p δ path (shift p δ source (vertexOf p b) x₀))
       go (isSource e n) = absurd (b0 e)
       go (isColumn k hk e n) = let z : 0 < residual p x₀ source (column k) = rw n at rr in absurd (omega arith)
       go (isSink e n) = let z : 0 < residual p x₀ source target = rw n at rr in absurd (omega arith)

@@ -10,7 +10,7 @@ use native.Mathlib.Omega.{arith}
 use lib.Dec.{T}
 use lib.IntN.{ℤ, pos}
 use Rattle.spec.specs.Bytes.{Two}
-use Rattle.spec.specs.Transport.{Problem, sink, nodeCount, nodeOf, residual, Search, walkBack, bottleneck}
+use Rattle.spec.specs.Transport.{Problem, sink, nodeCount, vertexOf, residual, Search, walkBack, bottleneck}
 use Rattle.flow.specs.Search.{same-label, none-some, labelAt, predAt, NodeLabel, residualOf, priceOf, Potential, status, below, Settled, AtRest, unseen, root, edge}
 use Rattle.flow.specs.SearchEnds.{dearest, dear}
 use Rattle.flow.specs.Signed.{posPart, negPart}
@@ -129,12 +129,12 @@ module _ (p : Problem) (w : ℕ) (x : List ℕ) where
   pub bottleneck-le : (b : ℕ) (path : List Two) → bottleneck p x b path ≤ b
   unfolding bottleneck
   bottleneck-le b [] = le-refl _
-  bottleneck-le b (s ∷ path) = omega (arith, bottleneck-le (min b (residual p x (nodeOf p (s .0)) (nodeOf p (s .1)))) path)
+  bottleneck-le b (s ∷ path) = omega (arith, bottleneck-le (min b (residual p x (vertexOf p (s .0)) (vertexOf p (s .1)))) path)
 
   pub bottleneck-carries : (b : ℕ) (path : List Two) → Carries (bottleneck p x b path) path
   unfolding bottleneck
   bottleneck-carries b [] = carries-end
-  bottleneck-carries b ((c, d) ∷ r) = carries-step {a = c} {b = d} (omega (arith, bottleneck-le (min b (residual p x (nodeOf p c) (nodeOf p d))) r)) (bottleneck-carries (min b (residual p x (nodeOf p c) (nodeOf p d))) r)
+  bottleneck-carries b ((c, d) ∷ r) = carries-step {a = c} {b = d} (omega (arith, bottleneck-le (min b (residual p x (vertexOf p c) (vertexOf p d))) r)) (bottleneck-carries (min b (residual p x (vertexOf p c) (vertexOf p d))) r)
 
   pub bottleneck-positive : (π h : ℕ → ℕ) (b a : ℕ) (path : List Two) → 0 < b → TightPath π h a path → 0 < bottleneck p x b path
   unfolding bottleneck

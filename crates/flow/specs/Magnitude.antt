@@ -5,13 +5,13 @@ use native.Mathlib.Nat.{mul-le-mul}
 use native.Mathlib.Omega.{arith}
 use lib.ListN.{length, getD}
 use Rattle.spec.specs.Bytes.{sum}
-use Rattle.spec.specs.Transport.{forbidden, Problem, sizeOf, massOf, largest, weight, cellCost, rowsOf, colsOf, nodeCount, SIDE}
+use Rattle.spec.specs.Transport.{forbidden, Problem, sizeOf, massOf, largest, weight, cellCost, rowsOf, colsOf, nodeCount, WIDEST}
 use Rattle.flow.specs.SearchEnds.{dearest}
 
 -- "At most 65 rows and 65 columns", and 32-bit numbers
 pub record Small (p : Problem) : Type 0 where
-  pub fewRows : rowsOf p ≤ SIDE
-  pub fewColumns : colsOf p ≤ SIDE
+  pub fewRows : rowsOf p ≤ WIDEST
+  pub fewColumns : colsOf p ≤ WIDEST
   pub supplies : (i : ℕ) → getD (p .supply) i 0 < 2 ^ 32
   pub sizes : (k : ℕ) → sizeOf (getD (p .cells) k forbidden) < 2 ^ 32
   pub masses : (k : ℕ) → massOf (getD (p .cells) k forbidden) < 2 ^ 32

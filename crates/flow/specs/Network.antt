@@ -8,7 +8,7 @@ use native.Mathlib.Omega.{arith}
 use lib.Dec.{T, eqb, eqb→eq, ltb, leb, ltb→lt, leb→le, le→leb, lt→ltb}
 use lib.ListN.{length, getD}
 use Rattle.spec.specs.Bytes.{sumTo}
-use Rattle.spec.specs.Transport.{Cell, forbidden, Problem, sizeOf, massOf, largest, rowsOf, colsOf, cellAt, moved, rowFlow, colFlow, source, row, column, target, sink, nodeCount, nodeOf, planSize, planMass}
+use Rattle.spec.specs.Transport.{Cell, forbidden, Problem, sizeOf, massOf, largest, rowsOf, colsOf, cellAt, moved, rowFlow, colFlow, source, row, column, target, sink, nodeCount, vertexOf, planSize, planMass}
 use Rattle.flow.specs.Sums.{sum-first, sum2, sum-flat}
 
 -- ---- tests
@@ -77,14 +77,14 @@ largest-ge f (x ∷ l) (suc k) d e = omega (arith, largest-ge f l k d e)
 
 -- ---- numbers of nodes
 module _ (p : Problem) where
-  pub node-row : (i : ℕ) → i < rowsOf p → nodeOf p (1 + i) ≡ row i
+  pub node-row : (i : ℕ) → i < rowsOf p → vertexOf p (1 + i) ≡ row i
   node-row i h =
       rw (is-no (eqb (1 + i) 0) (λ t. not-source (eqb→eq (1 + i) 0 t)), is-yes (leb (1 + i) (rowsOf p)) (le→leb (1 + i) (rowsOf p) (omega arith))) (ap row (omega arith))
     where
       not-source : 1 + i ≡ 0 → ⊥
       not-source e = omega arith
 
-  pub node-column : (j : ℕ) → j < colsOf p → nodeOf p (1 + rowsOf p + j) ≡ column j
+  pub node-column : (j : ℕ) → j < colsOf p → vertexOf p (1 + rowsOf p + j) ≡ column j
   node-column j h =
       rw (
         is-no (eqb (1 + rowsOf p + j) 0) (λ t. not-source (eqb→eq (1 + rowsOf p + j) 0 t)),
@@ -98,7 +98,7 @@ module _ (p : Problem) where
       not-row : 1 + rowsOf p + j ≤ rowsOf p → ⊥
       not-row e = omega arith
 
-  pub node-sink : nodeOf p (sink p) ≡ target
+  pub node-sink : vertexOf p (sink p) ≡ target
   node-sink =
       rw (
         is-no (eqb (sink p) 0) (λ t. not-source (eqb→eq (sink p) 0 t)),
@@ -117,17 +117,17 @@ module _ (p : Problem) where
 
   -- what a number below the count is
   pub data NodeIs (u : ℕ) : Type 0 where
-    isSource : u ≡ 0 → nodeOf p u ≡ source → NodeIs u
-    isRow : (i : ℕ) → i < rowsOf p → u ≡ 1 + i → nodeOf p u ≡ row i → NodeIs u
-    isColumn : (j : ℕ) → j < colsOf p → u ≡ 1 + rowsOf p + j → nodeOf p u ≡ column j → NodeIs u
-    isSink : u ≡ sink p → nodeOf p u ≡ target → NodeIs u
+    isSource : u ≡ 0 → vertexOf p u ≡ source → NodeIs u
+    isRow : (i : ℕ) → i < rowsOf p → u ≡ 1 + i → vertexOf p u ≡ row i → NodeIs u
+    isColumn : (j : ℕ) → j < colsOf p → u ≡ 1 + rowsOf p + j → vertexOf p u ≡ column j → NodeIs u
+    isSink : u ≡ sink p → vertexOf p u ≡ target → NodeIs u
 
   pub view : (u : ℕ) → u < nodeCount p → NodeIs u
   view u h = go (ℕ-discrete u 0) (decLe u (rowsOf p)) (decLt u (sink p))
     where
       go : Dec (u ≡ 0) → Dec (u ≤ rowsOf p) → Dec (u < sink p) → NodeIs u
-      go (yes e) b c = isSource e (ap (nodeOf p) e)
-      go (no e) (yes l) c = let q : u ≡ 1 + (u - 1) = omega arith in isRow (u - 1) (omega arith) q (ap (nodeOf p) q ∙ node-row (u - 1) (omega arith))
+      go (yes e) b c = isSource e (ap (vertexOf p) e)
+      go (no e) (yes l) c = let q : u ≡ 1 + (u - 1) = omega arith in isRow (u - 1) (omega arith) q (ap (vertexOf p) q ∙ node-row (u - 1) (omega arith))
       go (no e) (no l) (yes c) = let q : u ≡ 1 + rowsOf p + (u - 1 - rowsOf p) = omega arith in
-          isColumn (u - 1 - rowsOf p) (omega arith) q (ap (nodeOf p) q ∙ node-column (u - 1 - rowsOf p) (omega arith))
-      go (no e) (no l) (no c) = let q : u ≡ sink p = omega arith in isSink q (ap (nodeOf p) q ∙ node-sink)
+          isColumn (u - 1 - rowsOf p) (omega arith) q (ap (vertexOf p) q ∙ node-column (u - 1 - rowsOf p) (omega arith))
+      go (no e) (no l) (no c) = let q : u ≡ sink p = omega arith in isSink q (ap (vertexOf p) q ∙ node-sink)

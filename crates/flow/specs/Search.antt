@@ -14,7 +14,7 @@ use lib.ListN.{length, getD, set, length-set}
 use lib.Seq.{getD-set-same, getD-set-other}
 use Rattle.spec.specs.Bytes.{pick, both, sumTo}
 use Rattle.spec.specs.Meaning.{In, here, there}
-use Rattle.spec.specs.Transport.{Problem, Node, source, row, column, target, nodeCount, nodeOf, neighbours, residual, price, Search, improves, labelOr0, label, leave, relax, visit, search, found}
+use Rattle.spec.specs.Transport.{Problem, Vertex, source, row, column, target, nodeCount, vertexOf, neighbours, residual, price, Search, improves, labelOr0, label, leave, relax, visit, search, found}
 use Rattle.flow.specs.Cut.{bit}
 use Rattle.flow.specs.Flat.{at}
 use Rattle.flow.specs.Queue.{in-nil, queue-keeps, queue-has, queue-length, queue-from, in-tail}
@@ -72,17 +72,17 @@ module _ (M : ℕ) (residualOf : ℕ → ℕ → ℕ) (priceOf : ℕ → ℕ →
 -- ---- the state
 module _ (p : Problem) (w : ℕ) (x : List ℕ) where
   abbrev pub residualOf : ℕ → ℕ → ℕ
-  residualOf a b = residual p x (nodeOf p a) (nodeOf p b)
+  residualOf a b = residual p x (vertexOf p a) (vertexOf p b)
 
   abbrev pub priceOf : ℕ → ℕ → ℤ
-  priceOf a b = price p w (nodeOf p a) (nodeOf p b)
+  priceOf a b = price p w (vertexOf p a) (vertexOf p b)
 
   -- potentials: along an edge with something left they rise by no more than its price
   pub record Potential (π : ℕ → ℕ) : Type 0 where
     pub at0 : π 0 ≡ 0
     pub slope : (a b : ℕ) → a < nodeCount p → b < nodeCount p → 0 < residualOf a b → π b + negPart (priceOf a b) ≤ π a + posPart (priceOf a b)
 
-  pub residual-self : (n : Node) → residual p x n n ≡ 0
+  pub residual-self : (n : Vertex) → residual p x n n ≡ 0
   unfolding residual
   residual-self source = refl
   residual-self (row i) = refl
@@ -90,7 +90,7 @@ module _ (p : Problem) (w : ℕ) (x : List ℕ) where
   residual-self target = refl
 
   pub apart : (a b : ℕ) → 0 < residualOf a b → a ≢ b
-  apart a b h e = let q : residualOf a b ≡ residualOf b b = ap (λ (z : ℕ). residualOf z b) e in omega (arith, residual-self (nodeOf p b))
+  apart a b h e = let q : residualOf a b ≡ residualOf b b = ap (λ (z : ℕ). residualOf z b) e in omega (arith, residual-self (vertexOf p b))
 
   pub record Labelled (π : ℕ → ℕ) (K : ℕ) (s : Search) (h : ℕ → ℕ) : Type 0 where
     pub distLength : length (s .dist) ≡ nodeCount p
@@ -370,8 +370,8 @@ module _ (p : Problem) (w : ℕ) (x : List ℕ) where
       pub quiet : t .queue ≡ []
       pub ok : (a b : ℕ) → a < nodeCount p → b < nodeCount p → 0 < residualOf a b → Settled t a b
 
-    module _ (inner : (a v : ℕ) → a < nodeCount p → In v (neighbours p (nodeOf p a)) → v < nodeCount p)
-        (reach : (a b : ℕ) → a < nodeCount p → b < nodeCount p → 0 < residualOf a b → In b (neighbours p (nodeOf p a))) where
+    module _ (inner : (a v : ℕ) → a < nodeCount p → In v (neighbours p (vertexOf p a)) → v < nodeCount p)
+        (reach : (a b : ℕ) → a < nodeCount p → b < nodeCount p → 0 < residualOf a b → In b (neighbours p (vertexOf p a))) where
       pub rests : (f : ℕ) (q : List ℕ) (s : Search) (h : ℕ → ℕ) → Labelled π K s h → s .queue ≡ q → labelSum (nodeCount p * K + 1) s + length q ≤ f
           → ((a b : ℕ) → a < nodeCount p → b < nodeCount p → 0 < residualOf a b → Settled s a b ⊎ In a (s .queue)) → AtRest (search p w x f q s)
       unfolding search Settled
@@ -388,11 +388,11 @@ module _ (p : Problem) (w : ℕ) (x : List ℕ) where
           drop-nil a b (inr i) = absurd (in-nil (rw e at i))
       rests (suc f) (u ∷ q) s h G e m k =
           let (hu, (l, Lu)) = G .inside u (rw e here) in
-          let B = visited u l hu (neighbours p (nodeOf p u)) (λ v i. inner u v hu i) (leave u q s) h (good-leave s h G u q e) Lu in
-          let r = visit p w x u (pos l) (neighbours p (nodeOf p u)) (leave u q s) in
+          let B = visited u l hu (neighbours p (vertexOf p u)) (λ v i. inner u v hu i) (leave u q s) h (good-leave s h G u q e) Lu in
+          let r = visit p w x u (pos l) (neighbours p (vertexOf p u)) (leave u q s) in
           rw Lu (rests f (r .queue) r (B .hops) (B .good) refl (omega (arith, B .less)) (λ a b ha hb z. mk l r B a b ha hb z (ℕ-discrete a u) (k a b ha hb z)))
         where
-          mk : (l : ℕ) (t : Search) → Visited u l (neighbours p (nodeOf p u)) (leave u q s) t → (a b : ℕ) → a < nodeCount p → b < nodeCount p → 0 < residualOf a b → Dec (a ≡ u)
+          mk : (l : ℕ) (t : Search) → Visited u l (neighbours p (vertexOf p u)) (leave u q s) t → (a b : ℕ) → a < nodeCount p → b < nodeCount p → 0 < residualOf a b → Dec (a ≡ u)
               → Settled s a b ⊎ In a (s .queue) → Settled t a b ⊎ In a (t .queue)
           mk l t B a b ha hb z d (inl o) = B .keep a b (inl o)
           mk l t B a b ha hb z (no ne) (inr i) = B .keep a b (inr (in-tail (rw e at i) ne))

@@ -10,7 +10,7 @@ use native.Mathlib.Omega.{arith}
 use lib.IntN.{pos}
 use lib.ListN.{getD, replicate, length-replicate}
 use Rattle.spec.specs.Meaning.{In, here, there}
-use Rattle.spec.specs.Transport.{forbidden, Problem, sizeOf, massOf, largest, cellCost, rowsOf, colsOf, cellAt, Node, source, row, column, target, sink, nodeCount, nodeOf, neighbours, residual, price, begin, searchFuel, searched, found}
+use Rattle.spec.specs.Transport.{forbidden, Problem, sizeOf, massOf, largest, cellCost, rowsOf, colsOf, cellAt, Vertex, source, row, column, target, sink, nodeCount, vertexOf, neighbours, residual, price, begin, searchFuel, searched, found}
 use Rattle.flow.specs.Cut.{bit}
 use Rattle.flow.specs.Flat.{at}
 use Rattle.flow.specs.Network.{largest-ge, NodeIs, view, isSource, isRow, isColumn, isSink}
@@ -32,7 +32,7 @@ module _ (p : Problem) (w : ℕ) where
   pub cell-dear : (i j : ℕ) → sizeOf (cellAt p i j) * w + massOf (cellAt p i j) ≤ dearest
   cell-dear i j = largest-ge (cellCost w) (p .cells) (i * colsOf p + j) forbidden (omega arith)
 
-  pub price-le : (m n : Node) → posPart (price p w m n) ≤ dearest + negPart (price p w m n)
+  pub price-le : (m n : Vertex) → posPart (price p w m n) ≤ dearest + negPart (price p w m n)
   unfolding price
   price-le (row i) (column j) = omega (arith, cell-dear i j)
   price-le (column j) (row i) = omega (arith, z-neg (pos (sizeOf (cellAt p i j) * w + massOf (cellAt p i j))))
@@ -45,25 +45,25 @@ module _ (p : Problem) (w : ℕ) where
   price-le source n = omega arith
   price-le target n = omega arith
 
-  abbrev pub dear : (a b : ℕ) → posPart (price p w (nodeOf p a) (nodeOf p b)) ≤ dearest + negPart (price p w (nodeOf p a) (nodeOf p b))
-  dear a b = price-le (nodeOf p a) (nodeOf p b)
+  abbrev pub dear : (a b : ℕ) → posPart (price p w (vertexOf p a) (vertexOf p b)) ≤ dearest + negPart (price p w (vertexOf p a) (vertexOf p b))
+  dear a b = price-le (vertexOf p a) (vertexOf p b)
 
 module _ (p : Problem) (w : ℕ) (x : List ℕ) where
   in-cons : {v a : ℕ} {l : List ℕ} → In v (a ∷ l) → (v ≡ a) ⊎ In v l
   in-cons here = inl refl
   in-cons (there i) = inr i
 
-  pub inner-node : (n : Node) (v : ℕ) → In v (neighbours p n) → v < nodeCount p
+  pub inner-node : (n : Vertex) (v : ℕ) → In v (neighbours p n) → v < nodeCount p
   unfolding neighbours
   inner-node source v i = omega (arith, in-upFrom (rowsOf p) 1 v i)
   inner-node (row k) v i = elim (in-cons i) [ inl e ↦ omega arith | inr j ↦ omega (arith, in-upFrom (colsOf p) (1 + rowsOf p) v j) ]
   inner-node (column k) v i = elim (in-cons i) [ inl e ↦ omega arith | inr j ↦ omega (arith, in-upFrom (rowsOf p) 1 v j) ]
   inner-node target v i = omega (arith, in-upFrom (colsOf p) (1 + rowsOf p) v i)
 
-  pub inner : (a v : ℕ) → a < nodeCount p → In v (neighbours p (nodeOf p a)) → v < nodeCount p
-  inner a v ha i = inner-node (nodeOf p a) v i
+  pub inner : (a v : ℕ) → a < nodeCount p → In v (neighbours p (vertexOf p a)) → v < nodeCount p
+  inner a v ha i = inner-node (vertexOf p a) v i
 
-  reach-node : (m : Node) (b : ℕ) → NodeIs p b → 0 < residual p x m (nodeOf p b) → In b (neighbours p m)
+  reach-node : (m : Vertex) (b : ℕ) → NodeIs p b → 0 < residual p x m (vertexOf p b) → In b (neighbours p m)
   unfolding neighbours residual
   reach-node source b (isSource e q) r = let z : 0 < residual p x source source = rw q at r in absurd (omega arith)
   reach-node source b (isRow k h e q) r = upFrom-in (rowsOf p) 1 b (omega arith) (omega arith)
@@ -82,8 +82,8 @@ module _ (p : Problem) (w : ℕ) (x : List ℕ) where
   reach-node target b (isColumn k h e q) r = upFrom-in (colsOf p) (1 + rowsOf p) b (omega arith) (omega arith)
   reach-node target b (isSink e q) r = let z : 0 < residual p x target target = rw q at r in absurd (omega arith)
 
-  pub reach : (a b : ℕ) → a < nodeCount p → b < nodeCount p → 0 < residualOf p w x a b → In b (neighbours p (nodeOf p a))
-  reach a b ha hb r = reach-node (nodeOf p a) b (view p b hb) r
+  pub reach : (a b : ℕ) → a < nodeCount p → b < nodeCount p → 0 < residualOf p w x a b → In b (neighbours p (vertexOf p a))
+  reach a b ha hb r = reach-node (vertexOf p a) b (view p b hb) r
 
   -- ---- the beginning
   begin-lab : (v : ℕ) → labelAt (begin p) (suc v) ≡ none

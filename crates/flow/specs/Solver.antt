@@ -12,7 +12,7 @@ use lib.Dec.{T, eqb, eqb→eq, eqb-refl}
 use lib.IntN.{ℤ, pos}
 use lib.ListN.{replicate, length-replicate}
 use Rattle.spec.specs.Bytes.{either, sumTo, Two, sum}
-use Rattle.spec.specs.Transport.{Problem, weight, rowsOf, colsOf, supplyAt, moved, Node, source, row, column, target, sink, nodeCount, nodeOf, residual, price, searched, found, walkBack, bottleneck, push, augment, solveCells}
+use Rattle.spec.specs.Transport.{Problem, weight, rowsOf, colsOf, supplyAt, moved, Vertex, source, row, column, target, sink, nodeCount, vertexOf, residual, price, searched, found, walkBack, bottleneck, push, augment, solveCells}
 use Rattle.flow.specs.Augmentation.{rowSum, colSum, augmented-by, Partial, next-partial, grows}
 use Rattle.flow.specs.AugmentingPath.{next, next-potential, path, bottleneck-le, bottleneck-carries, bottleneck-positive}
 use Rattle.flow.specs.Network.{is-no}
@@ -107,7 +107,7 @@ module _ (p : Problem) (w : ℕ) where
   moved-0 : (i j : ℕ) → moved p empty i j ≡ 0
   moved-0 i j = getD-same (rowsOf p * colsOf p) (i * colsOf p + j) 0
 
-  flat-slope : (m n : Node) → 0 < residual p empty m n → negPart (price p w m n) ≤ posPart (price p w m n)
+  flat-slope : (m n : Vertex) → 0 < residual p empty m n → negPart (price p w m n) ≤ posPart (price p w m n)
   unfolding residual price
   flat-slope (column j) (row i) r = absurd (omega (arith, moved-0 i j))
   flat-slope (row i) (column j) r = zero-le
@@ -133,7 +133,7 @@ module _ (p : Problem) (w : ℕ) where
     cols = λ j hj. omega (arith, col-0 j);
     caps = λ i j hi hj. omega (arith, moved-0 i j);
     π = λ v. 0;
-    pot = record { at0 = refl; slope = λ a b ha hb r. omega (arith, flat-slope (nodeOf p a) (nodeOf p b) r) };
+    pot = record { at0 = refl; slope = λ a b ha hb r. omega (arith, flat-slope (vertexOf p a) (vertexOf p b) r) };
   }
 
   pub start-placed : placed p w empty ≡ 0

@@ -7,7 +7,7 @@ use Prim.Native.Nat.{ℕ, zero, suc, _+_, _*_, _-_, _^_, _≤_, _<_}
 use native.Mathlib.Omega.{arith}
 use lib.IntN.{ℤ, pos, _+ℤ_}
 use Rattle.spec.specs.Bytes.{Two, sum, Res, ok, refused}
-use Rattle.spec.specs.Transport.{Problem, Solution, weight, rowsOf, colsOf, sink, nodeCount, nodeOf, neighbours, residual, price, Search, labelOr0, leave, relax, visit, search, begin, searchFuel, searched, push, planSize, planMass, solveCells, solvedBy, shapeRight, solveTransport}
+use Rattle.spec.specs.Transport.{Problem, Solution, weight, rowsOf, colsOf, sink, nodeCount, vertexOf, neighbours, residual, price, Search, labelOr0, leave, relax, visit, search, begin, searchFuel, searched, push, planSize, planMass, solveCells, solvedBy, shapeRight, solveTransport}
 use Rattle.spec.specs.Meaning.{In, here, there, Plan, _⊑_}
 use Rattle.flow.specs.Search.{Labelled, labelAt, label-range, offer-range, after, good-leave}
 use Rattle.flow.specs.SearchEnds.{dearest, dear, inner, good-begin, searched-rests}
@@ -96,7 +96,7 @@ module _ (p : Problem) where
   -- "every walk back reaches the source": the steps lead from the source to the sink, along edges with something left
   pub data Leads (x : List ℕ) : ℕ → List Two → Type 0 where
     arrived : {a : ℕ} → a ≡ sink p → Leads x a []
-    onward : {a b : ℕ} {steps : List Two} → 0 < residual p x (nodeOf p a) (nodeOf p b) → Leads x b steps → Leads x a ((a, b) ∷ steps)
+    onward : {a b : ℕ} {steps : List Two} → 0 < residual p x (vertexOf p a) (vertexOf p b) → Leads x b steps → Leads x a ((a, b) ∷ steps)
 
   leads : (x : List ℕ) (π h : ℕ → ℕ) (a : ℕ) (steps : List Two) → TightPath p w x π h a steps → Leads x a steps
   leads x π h a [] (TightPath.end e) = arrived e
@@ -140,7 +140,7 @@ module _ (p : Problem) where
       (k, q, omega arith)
 
   pub offer-natural : (l : ℕ) (x : List ℕ) (s : Search) → Met p l x → Moment x s → (u v : ℕ) (z : ℤ) → u < nodeCount p → v < nodeCount p → labelAt s u ≡ some z
-      → 0 < residual p x (nodeOf p u) (nodeOf p v) → (k : ℕ) × (z +ℤ price p w (nodeOf p u) (nodeOf p v) ≡ pos k) × (k ≤ nodeCount p * dearest p w)
+      → 0 < residual p x (vertexOf p u) (vertexOf p v) → (k : ℕ) × (z +ℤ price p w (vertexOf p u) (vertexOf p v) ≡ pos k) × (k ≤ nodeCount p * dearest p w)
   offer-natural l x s m o u v z hu hv e r =
       let (I, _) = met-partial l x m in
       let (h, G) = moment-labelled x I s o in
@@ -165,9 +165,9 @@ module _ (p : Problem) where
   search-passes x I (suc f) (u ∷ q) s m e =
       let (h, G) = moment-labelled x I s m in
       let (hu, (l, L)) = G .inside u (rw e here) in
-      let r = visit p w x u (labelOr0 (labelAt s u)) (neighbours p (nodeOf p u)) (leave u q s) in
+      let r = visit p w x u (labelOr0 (labelAt s u)) (neighbours p (vertexOf p u)) (leave u q s) in
       search-passes x I f (r .queue) r
-      (rw L (visit-passes x I u (pos l) hu (neighbours p (nodeOf p u)) (λ v i. inner p w x u v hu i) (leave u q s) (taken u q m e refl) L)) refl
+      (rw L (visit-passes x I u (pos l) hu (neighbours p (vertexOf p u)) (λ v i. inner p w x u v hu i) (leave u q s) (taken u q m e refl) L)) refl
 
   pub searched-moment : (l : ℕ) (x : List ℕ) → Met p l x → Moment x (searched p w x)
   unfolding searched
@@ -178,5 +178,5 @@ module _ (p : Problem) where
   label-small S l x s m o v z e = let (k, q, b) = label-natural l x s m o v z e in (k, q, path-lt p S k b)
 
   pub offer-small : Small p → (l : ℕ) (x : List ℕ) (s : Search) → Met p l x → Moment x s → (u v : ℕ) (z : ℤ) → u < nodeCount p → v < nodeCount p → labelAt s u ≡ some z
-      → 0 < residual p x (nodeOf p u) (nodeOf p v) → (k : ℕ) × (z +ℤ price p w (nodeOf p u) (nodeOf p v) ≡ pos k) × (k < 2 ^ 111)
+      → 0 < residual p x (vertexOf p u) (vertexOf p v) → (k : ℕ) × (z +ℤ price p w (vertexOf p u) (vertexOf p v) ≡ pos k) × (k < 2 ^ 111)
   offer-small S l x s m o u v z hu hv e r = let (k, q, b) = offer-natural l x s m o u v z hu hv e r in (k, q, path-lt p S k b)

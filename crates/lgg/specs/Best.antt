@@ -21,7 +21,7 @@ use Rattle.lgg.specs.BagCount.{written, spread, map-spread, spread-writt
 use Rattle.lgg.specs.Pool.{RunsBelow, runs-below-nil, runs-below-cons, PoolValid, op-valid, lit-valid, variants-valid, tree-operation, tree-literal, tree-marked}
 use Rattle.lgg.specs.PoolTrees.{expand-runs}
 use Rattle.lgg.specs.PoolIntern.{Extends, extends-refl, extends-trans, extends-within, extends-tree, Interns, intern-enters}
-use Rattle.lgg.specs.ReadingsNode.{Covers, inOrder, anyOrder, TermFor, TermsFor, noPlace, place, good-node}
+use Rattle.lgg.specs.ReadingsNode.{Covers, inOrder, anyOrder, TermFor, TermsFor, noTerm, andTerm, good-node}
 use Rattle.lgg.specs.BestMembers.{best-in, best-falls, child-within, child-counted, child-single, member-arity}
 use Rattle.lgg.specs.Lists.{clash, map-map}
 use Rattle.lgg.specs.Results.{bind-ok, ok-inj}
@@ -52,7 +52,7 @@ module _ (t : Tables) where
   children-made : (best : Pool → ℕ → Res Interned) (l : List Two) → ((c : Two) → In c l → (p : Pool) (r : Interned) → PoolValid p → best p (c .0) ≡ ok r → Makes t p (c .0, c .0) (bestSize t (c .0), 0) r)
       → ((c : Two) → In c l → 1 ≤ c .1) → (p : Pool) (k : Children) → PoolValid p → childTerms best p l ≡ ok k → MakesChildren t p l k
   unfolding childTerms
-  children-made best [] h n p k v e = rw (← ok-inj e) (record { valid = v; grown = extends-refl p; below = runs-below-nil (length p); same = refl; good = noPlace })
+  children-made best [] h n p k v e = rw (← ok-inj e) (record { valid = v; grown = extends-refl p; below = runs-below-nil (length p); same = refl; good = noTerm })
   children-made best (c ∷ l) h n p k v e =
       let (a, ea, e′) = bind-ok (best p (c .0)) _ k e in
       let (m, em, e″) = bind-ok (childTerms best (a .pool) l) _ k e′ in
@@ -65,7 +65,7 @@ module _ (t : Tables) where
         grown = extends-trans (A .grown) (M .grown);
         below = runs-below-cons {r = (a .term, c .1)} (extends-within (M .grown) (a .term) (A .within)) (n c here) (M .below);
         same = ap (λ (z : List ℕ). c .1 ∷ z) (M .same);
-        good = place g (M .good);
+        good = andTerm g (M .good);
       })
 
   -- ---- fuel

@@ -75,34 +75,34 @@ module _ (t : Tables) where
     pub second : Belongs t (readSecond a) (p .1)
 
   pub data TermsFor : List Two → List Two → List Term → Type 0 where
-    noPlace : TermsFor [] [] []
-    place : {p q : Two} {a : Term} {ps qs : List Two} {ts : List Term} → TermFor p q a → TermsFor ps qs ts → TermsFor (p ∷ ps) (q ∷ qs) (a ∷ ts)
+    noTerm : TermsFor [] [] []
+    andTerm : {p q : Two} {a : Term} {ps qs : List Two} {ts : List Term} → TermFor p q a → TermsFor ps qs ts → TermsFor (p ∷ ps) (q ∷ qs) (a ∷ ts)
 
   firsts : {ps qs : List Two} {ts : List Term} (x : List ℕ) → TermsFor ps qs ts → AllBelong t (map readFirst (spread ts x)) (spread (map (λ p. p .0) ps) x)
   unfolding spread
-  firsts x noPlace = noMore
-  firsts [] (place g gs) = noMore
-  firsts (n ∷ x) (place {a = a} {ts = ts} g gs) = rw (map-append readFirst (replicate n a) (spread ts x), map-replicate readFirst n a) (belong-replicate n (g .first) (firsts x gs))
+  firsts x noTerm = noMore
+  firsts [] (andTerm g gs) = noMore
+  firsts (n ∷ x) (andTerm {a = a} {ts = ts} g gs) = rw (map-append readFirst (replicate n a) (spread ts x), map-replicate readFirst n a) (belong-replicate n (g .first) (firsts x gs))
 
   seconds : {ps qs : List Two} {ts : List Term} (x : List ℕ) → TermsFor ps qs ts → AllBelong t (map readSecond (spread ts x)) (spread (map (λ p. p .1) ps) x)
   unfolding spread
-  seconds x noPlace = noMore
-  seconds [] (place g gs) = noMore
-  seconds (n ∷ x) (place {a = a} {ts = ts} g gs) = rw (map-append readSecond (replicate n a) (spread ts x), map-replicate readSecond n a) (belong-replicate n (g .second) (seconds x gs))
+  seconds x noTerm = noMore
+  seconds [] (andTerm g gs) = noMore
+  seconds (n ∷ x) (andTerm {a = a} {ts = ts} g gs) = rw (map-append readSecond (replicate n a) (spread ts x), map-replicate readSecond n a) (belong-replicate n (g .second) (seconds x gs))
 
   sizes : {ps qs : List Two} {ts : List Term} (x : List ℕ) → TermsFor ps qs ts → sum (map size (spread ts x)) ≡ planSize x (cellsOver qs)
   unfolding spread sum planSize
-  sizes [] noPlace = refl
-  sizes (n ∷ x) noPlace = refl
-  sizes [] (place g gs) = refl
-  sizes (n ∷ x) (place {a = a} {ts = ts} g gs) = omega (arith, sum-spread size a n (spread ts x), sizes x gs, ap (λ (z : Two). n * z .0) (g .quality))
+  sizes [] noTerm = refl
+  sizes (n ∷ x) noTerm = refl
+  sizes [] (andTerm g gs) = refl
+  sizes (n ∷ x) (andTerm {a = a} {ts = ts} g gs) = omega (arith, sum-spread size a n (spread ts x), sizes x gs, ap (λ (z : Two). n * z .0) (g .quality))
 
   masses : {ps qs : List Two} {ts : List Term} (x : List ℕ) → TermsFor ps qs ts → sum (map mass (spread ts x)) ≡ planMass x (cellsOver qs)
   unfolding spread sum planMass
-  masses [] noPlace = refl
-  masses (n ∷ x) noPlace = refl
-  masses [] (place g gs) = refl
-  masses (n ∷ x) (place {a = a} {ts = ts} g gs) = omega (arith, sum-spread mass a n (spread ts x), masses x gs, ap (λ (z : Two). n * z .1) (g .quality))
+  masses [] noTerm = refl
+  masses (n ∷ x) noTerm = refl
+  masses [] (andTerm g gs) = refl
+  masses (n ∷ x) (andTerm {a = a} {ts = ts} g gs) = omega (arith, sum-spread mass a n (spread ts x), masses x gs, ap (λ (z : Two). n * z .1) (g .quality))
 
   -- An operation over places with counts x: "1 plus the sum of count × size, and the sum of count × mass", and it belongs, read either way.
   pub good-node : (p : Two) (o : ℕ) (ps qs : List Two) (ts : List Term) (x : List ℕ) (r : Runs) → TermsFor ps qs ts

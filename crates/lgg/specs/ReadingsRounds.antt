@@ -20,7 +20,7 @@ use Rattle.lgg.specs.BagCount.{written, spread, map-spread, written-perm
 use Rattle.lgg.specs.Pool.{PoolValid}
 use Rattle.lgg.specs.PoolIntern.{Extends, extends-refl, extends-trans, extends-within, extends-tree, Interns}
 use Rattle.lgg.specs.PoolSort.{plan-written, plan-below, actionRuns, action-perm, action-kept, action-enters}
-use Rattle.lgg.specs.ReadingsNode.{TermFor, TermsFor, noPlace, good-node}
+use Rattle.lgg.specs.ReadingsNode.{TermFor, TermsFor, noTerm, good-node}
 use Rattle.lgg.specs.ReadingsNode as N
 use Rattle.lgg.specs.ReadingsActions.{Legal, structural-legal, transport-legal}
 use Rattle.lgg.specs.Best.{OpMeans, op-means, Makes}
@@ -131,8 +131,8 @@ module _ (t : Tables) (v : Valid t) (margins : (p : Problem) (x : List ℕ) → 
 
   -- ---- terms
   places-good : (pool : Pool) (q : Two → Two) (of : Two → ℕ) (ps : List Two) → ((c : Two) → In c ps → TermAt t pool q of c) → TermsFor t ps (map q ps) (map (treeAt pool) (map of ps))
-  places-good pool q of [] h = noPlace
-  places-good pool q of (c ∷ ps) h = N.place (h c here .1) (places-good pool q of ps (λ d i. h d (there i)))
+  places-good pool q of [] h = noTerm
+  places-good pool q of (c ∷ ps) h = N.andTerm (h c here .1) (places-good pool q of ps (λ d i. h d (there i)))
 
   pub action-made : (pool : Pool) (p : Two) (q : Two → Two) (of : Two → ℕ) (o : ℕ) (ps : List Two) (x : List ℕ) (r : Interned) → PoolValid pool → Legal t p o ps x
       → ((c : Two) → In c ps → TermAt t pool q of c) → actionTerm t pool o (planRuns of ps x) ≡ ok r → Makes t pool p (qualityOver x (map q ps)) r

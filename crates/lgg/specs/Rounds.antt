@@ -40,7 +40,7 @@ changed t ps r = any changes (turnsOf t ps (qualitiesAfter r t ps))
 -- ---- derivations by moves
 places-length : (t : Tables) (h : ℕ) (ps qs : List Two) → Places t h ps qs → length qs ≡ length ps
 places-length t h ps qs noPlace = refl
-places-length t h ps qs (M.place {ps = l} {qs = m} k d r) = ap suc (places-length t h l m r)
+places-length t h ps qs (M.andPlace {ps = l} {qs = m} k d r) = ap suc (places-length t h l m r)
 
 abbrev Moved : Tables → ℕ → Two → Two → Type 0
 Moved t h p z = (ps : List Two) × (x : List ℕ) × (qs : List Two) × Move t p ps x × Places t h ps qs × (z ≡ qualityOver x qs)
@@ -52,7 +52,7 @@ by-move t h p z (transport {h = k} a i qs l x n e) = inr (k, refl, (_, x, qs, pl
 
 places-of : (t : Tables) (h : ℕ) (q : Two → Two) (cs : List Two) → ((c : Two) → In c cs → AtMost t h c (q c)) → Places t h cs (map q cs)
 places-of t h q [] f = noPlace
-places-of t h q (c ∷ cs) f = let d = f c here in M.place (d .1) (d .2) (places-of t h q cs (λ e k. f e (there k)))
+places-of t h q (c ∷ cs) f = let d = f c here in M.andPlace (d .1) (d .2) (places-of t h q cs (λ e k. f e (there k)))
 
 -- what a move gives is derived, if what it joins is
 derive : (t : Tables) (h : ℕ) (p z : Two) (q : Two → Two) (cs : List Two) (x : List ℕ) → Move t p cs x → z ≡ qualityOver x (map q cs) → ((c : Two) → In c cs → AtMost t h c (q c)) → Derivation t (suc h) p z
@@ -62,7 +62,7 @@ derive t h p z q cs x (planned a i e qs l n) w f =
 
 below-places : (t : Tables) (h r : ℕ) (q : Two → Two) (cs zs : List Two) → h ≤ r → Places t h cs zs → ((c z : Two) → In c cs → AtMost t r c z → q c ⊑ z) → Below (map q cs) zs
 below-places t h r q [] [] le noPlace g = below-nil
-below-places t h r q (c ∷ cs) (z ∷ zs) le (M.place {k = k} s d rest) g = below-next (g c z here (k, le-trans s le, d)) (below-places t h r q cs zs le rest (λ e y i. g e y (there i)))
+below-places t h r q (c ∷ cs) (z ∷ zs) le (M.andPlace {k = k} s d rest) g = below-next (g c z here (k, le-trans s le, d)) (below-places t h r q cs zs le rest (λ e y i. g e y (there i)))
 
 module _ (t : Tables) (ps : List Two) where
   -- ---- from round to round

@@ -9,7 +9,7 @@ use native.Mathlib.Omega.{arith}
 use lib.Dec.{eqb}
 use lib.ListN.{length, getD, length-append, List·getD-append}
 use Rattle.spec.specs.Bytes.{pick, place, Two, sameTwo, Res, ok, refused, Checked, passed, cutShort}
-use Rattle.spec.specs.Image.{Tables, bestSize}
+use Rattle.spec.specs.Image.{Tables, BEST-SIZE, bestSize}
 use Rattle.spec.specs.Graph.{build}
 use Rattle.spec.specs.Pool.{Pool, Interned, startingTerm}
 use Rattle.spec.specs.Round.{startingQuality, lookUp, Choice, stay, act, turnOf, planRuns, choiceTerm, Terms}
@@ -184,7 +184,7 @@ starting-stands t v p (h, k) = go (eqb (p .0) (p .1)) (v .best .bestRange (p .0)
     starts : Bool → Two
     starts b = pick b (bestSize t (p .0), 0) (bestSize t (p .0) + bestSize t (p .1), bestSize t (p .0) + bestSize t (p .1))
 
-    go : (b : Bool) → bestSize t (p .0) ≤ 2147483646 → bestSize t (p .1) ≤ 2147483646 → Low (starts b) × (starts b .0 < 2 ^ 32)
+    go : (b : Bool) → bestSize t (p .0) ≤ BEST-SIZE → bestSize t (p .1) ≤ BEST-SIZE → Low (starts b) × (starts b .0 < 2 ^ 32)
     go true x y = (omega arith, omega arith)
     go false x y = (omega arith, omega arith)
 

@@ -13,7 +13,7 @@ use lib.IntN.{pos}
 use lib.ListN.{length, getD}
 use Rattle.spec.specs.Bytes.{pick}
 use Rattle.spec.specs.Meaning.{here}
-use Rattle.spec.specs.Transport.{Search, weight, rowsOf, colsOf, nodeCount, sink, nodeOf, neighbours, leave, visit, search, begin, searchFuel, searched, found}
+use Rattle.spec.specs.Transport.{Search, weight, rowsOf, colsOf, nodeCount, sink, vertexOf, neighbours, leave, visit, search, begin, searchFuel, searched, found}
 use Rattle.flow.specs.Sums.{sum-cong}
 use Rattle.flow.specs.Search.{labelAt, labelOr, labelSum, Labelled, good-leave, visited as all-visited}
 use Rattle.flow.specs.SearchEnds.{good-begin, inner, searched-rests}
@@ -71,7 +71,7 @@ module _ {r c : ℕ} {g f y : List ℕ} (R : Ready r c g f y) where
   search-stop (suc n) q s e = rw e refl
 
   search-step : (n : ℕ) (b : List ℕ) (s : Search) (u : ℕ) (q : List ℕ) (l : ℕ) → b ≡ u ∷ q → labelAt s u ≡ some (pos l)
-      → (let t = visit (R .p) (weight (R .p)) (R .x) u (pos l) (neighbours (R .p) (nodeOf (R .p) u)) (leave u q s) in
+      → (let t = visit (R .p) (weight (R .p)) (R .x) u (pos l) (neighbours (R .p) (vertexOf (R .p) u)) (leave u q s) in
       search (R .p) (weight (R .p)) (R .x) (suc n) b s ≡ search (R .p) (weight (R .p)) (R .x) n (t .queue) t)
   unfolding search
   search-step n b s u q l e L = rw (e, L) refl
@@ -104,8 +104,8 @@ module _ {r c : ℕ} {g f y : List ℕ} (R : Ready r c g f y) where
           let gl = good-leave (R .p) (weight (R .p)) (R .x) (R .partly .π) (R .partly .pot) (2 ^ 103) (dear103 (R .p) (R .small) (R .x) (R .partly)) (A .s) (A .hops) (A .good) u q e in
           let G : Going (R .p) (R .small) (R .x) (R .partly) u l (leave u q (A .s)) (left m) = record { hops = A .hops; good = gl; net = leave-holds (R .p) few′ (A .s) Z m (A .net) u q e; at = L } in
           let H = visit-holds (R .p) (R .small) (R .x) (R .partly) g f y (R .costs) (R .flow) (R .margins) u l hu (leave u q (A .s)) (left m) G in
-          let W = all-visited (R .p) (weight (R .p)) (R .x) (R .partly .π) (R .partly .pot) (2 ^ 103) (dear103 (R .p) (R .small) (R .x) (R .partly)) u l hu (neighbours (R .p) (nodeOf (R .p) u)) (λ v i. inner (R .p) (weight (R .p)) (R .x) u v hu i) (leave u q (A .s)) (A .hops) gl L in
-          let t = visit (R .p) (weight (R .p)) (R .x) u (pos l) (neighbours (R .p) (nodeOf (R .p) u)) (leave u q (A .s)) in
+          let W = all-visited (R .p) (weight (R .p)) (R .x) (R .partly .π) (R .partly .pot) (2 ^ 103) (dear103 (R .p) (R .small) (R .x) (R .partly)) u l hu (neighbours (R .p) (vertexOf (R .p) u)) (λ v i. inner (R .p) (weight (R .p)) (R .x) u v hu i) (leave u q (A .s)) (A .hops) gl L in
+          let t = visit (R .p) (weight (R .p)) (R .x) u (pos l) (neighbours (R .p) (vertexOf (R .p) u)) (leave u q (A .s)) in
           let em : visited g f y r c (firstOf m) (left m) ≡ visited g f y (rowsOf (R .p)) (colsOf (R .p)) u (left m) = λ i. visited g f y (sym (R .rows) i) (sym (R .cols) i) (fst i) (left m) in
           let er : search (R .p) (weight (R .p)) (R .x) n (t .queue) t ≡ searched (R .p) (weight (R .p)) (R .x) = sym (search-step n (A .s .queue) (A .s) u q l e L) ∙ rest in
           let m₁ = measure-is (A .s) m (A .net) in

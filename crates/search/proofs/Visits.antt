@@ -12,7 +12,7 @@ use lib.IntN.{ℤ, pos, _+ℤ_}
 use lib.Arith.{digits-lt}
 use lib.ListN.{getD}
 use Rattle.spec.specs.Bytes.{upFrom}
-use Rattle.spec.specs.Transport.{Problem, Search, weight, cellCost, cellAt, rowsOf, colsOf, nodeCount, sink, nodeOf, neighbours, residual, price, capacity, moved, relax, visit}
+use Rattle.spec.specs.Transport.{Problem, Search, weight, cellCost, cellAt, rowsOf, colsOf, nodeCount, sink, vertexOf, neighbours, residual, price, capacity, moved, relax, visit}
 use Rattle.wide.specs.declared.Wide.{Wide}
 use Rattle.wide.specs.Wrap.{Natural, addWords, negWords, add-natural, sub-natural}
 use Rattle.flow.specs.Signed.{posPart, negPart, plus, z-add}
@@ -205,7 +205,7 @@ module _ (p : Problem) (S : Small p) (x : List ℕ) (I : Partial p (weight p) x)
 
   module _ (g f y : List ℕ) (H : CostsHold p g) (F : FlowHolds p x f) (M : MarginsHold p x y) where
     abbrev After : ℕ → ℕ → Search → List ℕ → Type 0
-    After u l s m = Going u l (visit p (weight p) x u (pos l) (neighbours p (nodeOf p u)) s) (visited g f y (rowsOf p) (colsOf p) u m)
+    After u l s m = Going u l (visit p (weight p) x u (pos l) (neighbours p (vertexOf p u)) s) (visited g f y (rowsOf p) (colsOf p) u m)
 
     from-source : (l : ℕ) (s : Search) (m : List ℕ) → Going 0 l s m → After 0 l s m
     unfolding neighbours residual price

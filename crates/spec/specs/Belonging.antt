@@ -8,7 +8,7 @@ use native.Mathlib.Omega.{arith}
 use Rattle.spec.specs.Bytes.{Two, ok}
 use Rattle.spec.specs.Image.{Tables, Operation, Class, Member, imageOf, tablesOf, kindOf, childrenOf}
 use Rattle.spec.specs.Monomial.{classes}
-use Rattle.spec.specs.Meaning.{In, here, there, Term, lit, node, variants, Runs, done, run, Belongs, literal, ordered, unordered, AllBelong, noMore, andThen, Side, member, itself, padded, expand, occurs, countIn, Derivation, start, action, transport, Places, noPlace, place, Plan, _⊑_}
+use Rattle.spec.specs.Meaning.{In, here, there, Term, lit, node, variants, Runs, done, run, Belongs, literal, ordered, unordered, AllBelong, noMore, andThen, Side, member, itself, padded, expand, occurs, countIn, Derivation, start, action, transport, Places, noPlace, andPlace, Plan, _⊑_}
 use Rattle.spec.specs.Asked.{hex}
 
 unfoldable imageE : List ℕ

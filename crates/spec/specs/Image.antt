@@ -37,6 +37,13 @@ CHILD-BYTES = 6
 abbrev pub NO-IDENTITY : ℕ
 NO-IDENTITY = 65535
 
+-- of one member
+abbrev pub MEMBER-CHILDREN : ℕ
+MEMBER-CHILDREN = 64
+
+abbrev pub KINDS : ℕ
+KINDS = 10
+
 abbrev pub BEST-SIZE : ℕ
 BEST-SIZE = 2147483646
 
@@ -176,7 +183,7 @@ bestMember t c = theMember t (theClass t c .best)
 -- ---- 6: "kind (0 to 9), commutative flag (1 exactly for SPair, MSet, Set, else 0), identity class (65,535 for none; a class of the image only for MSet and Set)"
 abbrev pub operationRight : ℕ → Operation → Bool
 operationRight classes o =
-    both (ltb (o .kind) 10)
+    both (ltb (o .kind) KINDS)
     (both (eqb (o .flag) (pick (isCommutative (o .kind)) 1 0))
     (either (eqb (o .identity) NO-IDENTITY) (both (isAC (o .kind)) (ltb (o .identity) classes))))
 
@@ -195,7 +202,7 @@ rises (x ∷ y ∷ l) = elim (leb x y) [ true ↦ rises (y ∷ l) | false ↦ fa
 abbrev pub memberRight : Tables → Member → Bool
 memberRight t m =
     both (ltb (m .op) (length (t .operations)))
-    (both (leb (m .count) 64)
+    (both (leb (m .count) MEMBER-CHILDREN)
     (either (eqb (m .value) 0) (eqb (kindOf t (m .op)) Lit)))
 
 unfoldable pub spansRight : Tables → Bool

@@ -148,7 +148,7 @@ mutual
 
   pub data Places (t : Tables) : ℕ → List Two → List Two → Type 0 where
     noPlace : {h : ℕ} → Places t h [] []
-    place : {h k : ℕ} {p q : Two} {ps qs : List Two} → k ≤ h → Derivation t k p q → Places t h ps qs → Places t h (p ∷ ps) (q ∷ qs)
+    andPlace : {h k : ℕ} {p q : Two} {ps qs : List Two} → k ≤ h → Derivation t k p q → Places t h ps qs → Places t h (p ∷ ps) (q ∷ qs)
 
 -- ---- "it holds the queried pair and, with each pair, every pair of classes that an action of it joins"
 pub data Reachable (t : Tables) (root : Two) : Two → Type 0 where

@@ -79,12 +79,12 @@ module _ (p : Problem) where
   unfolding sumTo
   colFlow x j = sumTo rowsOf (λ i. moved x i j)
 
--- ---- the network. Nodes are numbered: the source 0, then the rows, then the columns, then the sink.
-pub data Node : Type 0 where
-  source : Node
-  row : ℕ → Node
-  column : ℕ → Node
-  target : Node
+-- ---- the network. Its nodes are numbered: the source 0, then the rows, then the columns, then the sink.
+pub data Vertex : Type 0 where
+  source : Vertex
+  row : ℕ → Vertex
+  column : ℕ → Vertex
+  target : Vertex
 
 module _ (p : Problem) where
   abbrev pub sink : ℕ
@@ -93,15 +93,15 @@ module _ (p : Problem) where
   abbrev pub nodeCount : ℕ
   nodeCount = 1 + sink
 
-  abbrev pub nodeOf : ℕ → Node
-  nodeOf u =
+  abbrev pub vertexOf : ℕ → Vertex
+  vertexOf u =
       pick (eqb u 0) source
       (pick (leb u (rowsOf p)) (row (u - 1))
       (pick (ltb u sink) (column (u - 1 - rowsOf p)) target))
 
   -- "Edges in order: source to rows, columns to sink, cells row by row where the capacity is above 0, each with its reverse at the negated cost."
   -- So, by insertion: a row leads back to the source, then to its columns; a column leads to the sink, then back to its rows.
-  unfoldable pub neighbours : Node → List ℕ
+  unfoldable pub neighbours : Vertex → List ℕ
   unfolding upFrom
   neighbours source = upFrom 1 (rowsOf p)
   neighbours (row i) = 0 ∷ upFrom (1 + rowsOf p) (colsOf p)
@@ -109,7 +109,7 @@ module _ (p : Problem) where
   neighbours target = upFrom (1 + rowsOf p) (colsOf p)
 
   -- what is left on the edge from one node to another under the plan x
-  unfoldable pub residual : List ℕ → Node → Node → ℕ
+  unfoldable pub residual : List ℕ → Vertex → Vertex → ℕ
   unfolding colFlow rowFlow
   residual x source v = elim v [ source ↦ 0 | row i ↦ supplyAt p i - rowFlow p x i | column j ↦ 0 | target ↦ 0 ]
   residual x (row i) v = elim v [ source ↦ rowFlow p x i | row k ↦ 0 | column j ↦ capacity p i j - moved p x i j | target ↦ 0 ]
@@ -120,7 +120,7 @@ module _ (p : Problem) where
   abbrev pub cellPrice : ℕ → ℕ → ℕ → ℤ
   cellPrice w i j = weigh w (pos (sizeOf (cellAt p i j))) (pos (massOf (cellAt p i j)))
 
-  unfoldable pub price : ℕ → Node → Node → ℤ
+  unfoldable pub price : ℕ → Vertex → Vertex → ℤ
   price w source v = pos 0
   price w (row i) v = elim v [ source ↦ pos 0 | row k ↦ pos 0 | column j ↦ cellPrice w i j | target ↦ pos 0 ]
   price w (column j) v = elim v [ source ↦ pos 0 | row i ↦ negℤ (cellPrice w i j) | column k ↦ pos 0 | target ↦ pos 0 ]
@@ -154,8 +154,8 @@ module _ (p : Problem) (w : ℕ) (x : List ℕ) where
   unfoldable pub relax : ℕ → ℤ → ℕ → Search → Search
   unfolding price residual
   relax u d v s =
-      let e = d +ℤ price p w (nodeOf p u) (nodeOf p v) in
-      pick (both (ltb 0 (residual p x (nodeOf p u) (nodeOf p v))) (improves e (getD (s .dist) v none))) (label u v e s) s
+      let e = d +ℤ price p w (vertexOf p u) (vertexOf p v) in
+      pick (both (ltb 0 (residual p x (vertexOf p u) (vertexOf p v))) (improves e (getD (s .dist) v none))) (label u v e s) s
 
   unfoldable pub visit : ℕ → ℤ → List ℕ → Search → Search
   unfolding relax
@@ -167,7 +167,7 @@ module _ (p : Problem) (w : ℕ) (x : List ℕ) where
   unfolding neighbours visit
   search zero q s = s
   search (suc f) [] s = s
-  search (suc f) (u ∷ q) s = let r = visit u (labelOr0 (getD (s .dist) u none)) (neighbours p (nodeOf p u)) (leave u q s) in search f (r .queue) r
+  search (suc f) (u ∷ q) s = let r = visit u (labelOr0 (getD (s .dist) u none)) (neighbours p (vertexOf p u)) (leave u q s) in search f (r .queue) r
 
 -- the source has the label 0 and stands in the queue
 abbrev pub begin : Problem → Search
@@ -193,10 +193,10 @@ module _ (p : Problem) where
   unfoldable pub bottleneck : List ℕ → ℕ → List Two → ℕ
   unfolding residual
   bottleneck x b [] = b
-  bottleneck x b (s ∷ path) = bottleneck x (min b (residual p x (nodeOf p (s .0)) (nodeOf p (s .1)))) path
+  bottleneck x b (s ∷ path) = bottleneck x (min b (residual p x (vertexOf p (s .0)) (vertexOf p (s .1)))) path
 
   -- a step from a row to a column adds δ to the cell; one from a column back to a row takes δ off
-  unfoldable pub shift : ℕ → Node → Node → List ℕ → List ℕ
+  unfoldable pub shift : ℕ → Vertex → Vertex → List ℕ → List ℕ
   shift δ source v x = x
   shift δ (row i) v x = elim v [ source ↦ x | row k ↦ x | column j ↦ set x (i * colsOf p + j) (moved p x i j + δ) | target ↦ x ]
   shift δ (column j) v x = elim v [ source ↦ x | row i ↦ set x (i * colsOf p + j) (moved p x i j - δ) | column k ↦ x | target ↦ x ]
@@ -205,7 +205,7 @@ module _ (p : Problem) where
   unfoldable pub push : ℕ → List Two → List ℕ → List ℕ
   unfolding shift
   push δ [] x = x
-  push δ (s ∷ path) x = push δ path (shift δ (nodeOf p (s .0)) (nodeOf p (s .1)) x)
+  push δ (s ∷ path) x = push δ path (shift δ (vertexOf p (s .0)) (vertexOf p (s .1)) x)
 
 -- ---- shortest paths one after the other until all of F is placed; none where the sink is not reached
 abbrev pub found : Option ℤ → Bool
@@ -253,13 +253,14 @@ unfolding planMass planSize
 solvedBy cs none = refused 16
 solvedBy cs (some x) = ok (record { plan = x; size = planSize x cs; mass = planMass x cs })
 
-abbrev pub SIDE : ℕ
-SIDE = 65
+-- "At most 65 rows and 65 columns."
+abbrev pub WIDEST : ℕ
+WIDEST = 65
 
 -- "over 65 rows or columns, or cells or a lent plan buffer not rows × columns": 15
 abbrev pub shapeRight : Problem → ℕ → Bool
 shapeRight p plan =
-    both (both (leb (rowsOf p) SIDE) (leb (colsOf p) SIDE))
+    both (both (leb (rowsOf p) WIDEST) (leb (colsOf p) WIDEST))
     (both (eqb (length (p .cells)) (rowsOf p * colsOf p)) (eqb plan (rowsOf p * colsOf p)))
 
 -- "in transport 1, 15, 16": whether the work buffer has its length; the problem; the length of the lent plan buffer

@@ -13,7 +13,7 @@ use lib.Arith.{digits-lt}
 use lib.ListN.{length, getD, set, length-set}
 use lib.Seq.{getD-set-same, getD-set-other}
 use Rattle.spec.specs.Bytes.{pick, Two}
-use Rattle.spec.specs.Transport.{Problem, weight, rowsOf, colsOf, nodeCount, sink, nodeOf, source, row, column, target, residual, capacity, moved, rowFlow, colFlow, supplyAt, demandAt, allowed, cellAt, searched, found, walkBack, bottleneck, shift, push}
+use Rattle.spec.specs.Transport.{Problem, weight, rowsOf, colsOf, nodeCount, sink, vertexOf, source, row, column, target, residual, capacity, moved, rowFlow, colFlow, supplyAt, demandAt, allowed, cellAt, searched, found, walkBack, bottleneck, shift, push}
 use Rattle.flow.specs.Sums.{sum-cong}
 use Rattle.flow.specs.Network.{NodeIs, isSource, isRow, isColumn, isSink, view, node-row, node-column, node-sink, rowFlow-is, colFlow-is}
 use Rattle.flow.specs.Search.{labelAt, predAt, residualOf, AtRest, none-some, true-false, status}
@@ -113,7 +113,7 @@ module _ (p : Problem) (δ : ℕ) where
   set-both : (x f : List ℕ) → Both x f → (k v : ℕ) → k < rowsOf p * colsOf p → Both (set x k v) (set f k v)
   set-both x f B k v hk = record { long = length-set x k v ∙ B .long; room = rw (length-set f k v) (B .room); holds = set-holds p x f (B .long) (B .room) (B .holds) k v hk }
 
-  shift-both : (a b : ℕ) → Kind p a b → (x f : List ℕ) → Both x f → Both (shift p δ (nodeOf p a) (nodeOf p b) x) (sentOn (rowsOf p) (colsOf p) δ a b f)
+  shift-both : (a b : ℕ) → Kind p a b → (x f : List ℕ) → Both x f → Both (shift p δ (vertexOf p a) (vertexOf p b) x) (sentOn (rowsOf p) (colsOf p) δ a b f)
   unfolding shift
   shift-both a b (sourceRow i hi ea eb) x f B = rw (ea, ← sent-source (rowsOf p) (colsOf p) δ 0 b f refl) B
   shift-both a b (rowColumn i j hi hj ea eb) x f B =
@@ -135,7 +135,7 @@ module _ (p : Problem) (δ : ℕ) where
   unfolding push sent
   push-both x₀ π h a [] (end e) x f B = B
   push-both x₀ π h a (s ∷ l) (step b ha hb b0 nt up r t c) x f B =
-      push-both x₀ π h b l c (shift p δ (nodeOf p a) (nodeOf p b) x) (sentOn (rowsOf p) (colsOf p) δ a b f) (shift-both a b (kind-of p x₀ a b ha hb b0 nt r) x f B)
+      push-both x₀ π h b l c (shift p δ (vertexOf p a) (vertexOf p b) x) (sentOn (rowsOf p) (colsOf p) δ a b f) (shift-both a b (kind-of p x₀ a b ha hb b0 nt r) x f B)
 
 -- ---- the walk back
 module _ (p : Problem) (few′ : nodeCount p ≤ 132) (x : List ℕ) (I : Partial p (weight p) x) (m : List ℕ) (N : NetHolds p (searched p (weight p) x) m) where

@@ -4,29 +4,23 @@ use borrow.Author.Needs.{needs}
 use Rattle.ac_repr.proofs.add_child.Statement.{statement}
 use Rattle.ac_repr.proofs.add_child.Tie as tie
 
--- src/lib.rt:103:18
 child-class-requires : tie.Need-child-class-requires
 child-class-requires c κs = search needs
 
--- src/lib.rt:103:9
 long-requires : tie.Need-long-requires
 long-requires c κs = search needs
 
--- src/lib.rt:104:9
 child-times-requires : tie.Need-child-times-requires
 child-times-requires c κs = search needs
 
--- src/lib.rt:105:5
 add-class-requires : tie.Need-add-class-requires
 add-class-requires c κs =
     let b = c .before .before .before .before .before .before in
     roomy-less (b .args .n) (c .before .child-times .result) 4294967295 (b .args .mono .now) (omega (arith, c .before .child-times .ensures .1)) (b .pre .2)
 
--- src/lib.rt:98:1
 same-length : tie.Need-same-length
 same-length c = search needs
 
--- src/lib.rt:98:1
 returns : tie.Need-returns
 returns c =
     let a = c .before .before in

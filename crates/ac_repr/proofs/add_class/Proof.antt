@@ -9,34 +9,27 @@ use borrow.Author.Needs.{needs}
 use Rattle.ac_repr.proofs.add_class.Statement.{statement}
 use Rattle.ac_repr.proofs.add_class.Tie as tie
 
--- src/lib.rt:71:9
 place-requires : tie.Need-place-requires
 place-requires c κs = search needs
 
--- src/lib.rt:73:12
 class-at-requires : tie.Need-class-at-requires
 class-at-requires c κs = search needs
 
--- src/lib.rt:74:21
 count-at-requires : tie.Need-count-at-requires
 count-at-requires c κs = search needs
 
--- src/lib.rt:74:21
 add-v : tie.Need-add-v
 add-v c =
     let s = c .before .before .before .before .before .before in
     let b = s .before .before .before in
     record { fits = room-for (b .args .n) (b .args .k) (b .args .mono .now) (s .place .result) (c .count-at .result) (b .pre) (c .before .before .before .before .before .if1 .taken) (c .count-at .ensures) }
 
--- src/lib.rt:75:13
 put-term-requires : tie.Need-put-term-requires
 put-term-requires c κs = search needs
 
--- src/lib.rt:76:13
 same-length : tie.Need-same-length
 same-length c = search needs
 
--- src/lib.rt:76:13
 returns : tie.Need-returns
 returns c =
     let d = c .before .before .before .before in
@@ -52,23 +45,18 @@ missed : (c : tie.Joined1) → c .before .place .result < c .before .before .bef
     → ⊥
 missed c l e = ⊎-elim (λ w. w .3 .left (w .2 .ensures ∙ e)) (λ w. omega arith) (c .if1 .came)
 
--- src/lib.rt:79:26
 sub-insert-term : tie.Need-sub-insert-term
 sub-insert-term c = search needs
 
--- src/lib.rt:79:5
 insert-term-requires : tie.Need-insert-term-requires
 insert-term-requires c κs = search needs
 
--- src/lib.rt:80:5
 add-result : tie.Need-add-result
 add-result c = search needs
 
--- src/lib.rt:67:1
 same-length-2 : tie.Need-same-length-2
 same-length-2 c = search needs
 
--- src/lib.rt:67:1
 returns-2 : tie.Need-returns-2
 returns-2 c =
     let j = c .before .before .before .before in

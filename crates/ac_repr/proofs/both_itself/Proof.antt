@@ -3,19 +3,15 @@ use borrow.Author.Needs.{needs}
 use Rattle.ac_repr.proofs.both_itself.Statement.{statement}
 use Rattle.ac_repr.proofs.both_itself.Tie as tie
 
--- src/lib.rt:201:8
 is-itself-requires : tie.Need-is-itself-requires
 is-itself-requires c κs = search needs
 
--- src/lib.rt:202:9
 is-itself-requires-2 : tie.Need-is-itself-requires-2
 is-itself-requires-2 c κs = search needs
 
--- src/lib.rt:202:9
 returns : tie.Need-returns
 returns c = both-first _ _ _ _ (c .before .if1 .taken) (c .before .before .is-itself .ensures) (c .is-itself2 .ensures)
 
--- src/lib.rt:197:1
 returns-2 : tie.Need-returns-2
 returns-2 c = both-not _ _ _ (c .if1 .left) (c .before .is-itself .ensures)
 

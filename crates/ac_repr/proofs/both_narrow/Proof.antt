@@ -3,19 +3,15 @@ use borrow.Author.Needs.{needs}
 use Rattle.ac_repr.proofs.both_narrow.Statement.{statement}
 use Rattle.ac_repr.proofs.both_narrow.Tie as tie
 
--- src/lib.rt:177:8
 narrow-requires : tie.Need-narrow-requires
 narrow-requires c κs = search needs
 
--- src/lib.rt:178:9
 narrow-requires-2 : tie.Need-narrow-requires-2
 narrow-requires-2 c κs = search needs
 
--- src/lib.rt:178:9
 returns : tie.Need-returns
 returns c = both-first _ _ _ _ (c .before .if1 .taken) (c .before .before .narrow .ensures) (c .narrow2 .ensures)
 
--- src/lib.rt:173:1
 returns-2 : tie.Need-returns-2
 returns-2 c = both-not _ _ _ (c .if1 .left) (c .before .narrow .ensures)
 

@@ -6,19 +6,15 @@ use borrow.Author.Needs.{needs}
 use Rattle.ac_repr.proofs.class_at.Statement.{statement}
 use Rattle.ac_repr.proofs.class_at.Tie as tie
 
--- src/lib.rt:15:10
 mul-result : tie.Need-mul-result
 mul-result c = search needs
 
--- src/lib.rt:15:5
 mul-result-2 : tie.Need-mul-result-2
 mul-result-2 c = search needs
 
--- src/lib.rt:15:5
 shared-slice-read-result : tie.Need-shared-slice-read-result
 shared-slice-read-result c = search needs
 
--- src/lib.rt:11:1
 returns : tie.Need-returns
 returns c =
     let a = c .before .args in

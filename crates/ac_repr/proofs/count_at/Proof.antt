@@ -6,23 +6,18 @@ use borrow.Author.Needs.{needs}
 use Rattle.ac_repr.proofs.count_at.Statement.{statement}
 use Rattle.ac_repr.proofs.count_at.Tie as tie
 
--- src/lib.rt:22:10
 mul-result : tie.Need-mul-result
 mul-result c = search needs
 
--- src/lib.rt:22:10
 add-result : tie.Need-add-result
 add-result c = search needs
 
--- src/lib.rt:22:5
 mul-result-2 : tie.Need-mul-result-2
 mul-result-2 c = search needs
 
--- src/lib.rt:22:5
 shared-slice-read-result : tie.Need-shared-slice-read-result
 shared-slice-read-result c = search needs
 
--- src/lib.rt:18:1
 returns : tie.Need-returns
 returns c =
     let a = c .before .args in

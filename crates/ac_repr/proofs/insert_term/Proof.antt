@@ -14,45 +14,35 @@ Inv-loop mono₀ p n c k x₀ y₀ j₀ mono x y j = (j ≤ n + 1) × (length mo
 abbrev μ-loop : tie.MeasureT-loop
 μ-loop mono₀ p n c k x₀ y₀ j₀ mono x y j = n + 1 - j
 
--- src/lib.rt:56:5
 loop-holds : tie.Need-loop-holds Inv-loop μ-loop
 loop-holds c =
     let b = c .before in
     (omega arith, b .pre .0, rippled-none (terms (b .args .mono .now)) (b .args .p) (b .args .c, b .args .k))
 
--- src/lib.rt:57:32
 add-class-at : tie.Need-add-class-at Inv-loop μ-loop
 add-class-at c = search needs
 
--- src/lib.rt:57:13
 class-at-requires : tie.Need-class-at-requires Inv-loop μ-loop
 class-at-requires c κs = search needs
 
--- src/lib.rt:58:32
 add-count-at : tie.Need-add-count-at Inv-loop μ-loop
 add-count-at c = search needs
 
--- src/lib.rt:58:13
 count-at-requires : tie.Need-count-at-requires Inv-loop μ-loop
 count-at-requires c κs = search needs
 
--- src/lib.rt:59:24
 add-put-term : tie.Need-add-put-term Inv-loop μ-loop
 add-put-term c = search needs
 
--- src/lib.rt:59:9
 put-term-requires : tie.Need-put-term-requires Inv-loop μ-loop
 put-term-requires c κs = search needs
 
--- src/lib.rt:62:9
 add-j : tie.Need-add-j Inv-loop μ-loop
 add-j c = search needs
 
--- src/lib.rt:56:5
 loop-less : tie.Need-loop-less Inv-loop μ-loop
 loop-less c = search needs
 
--- src/lib.rt:56:5
 loop-again : tie.Need-loop-again Inv-loop μ-loop
 loop-again c =
     let q = c .before .before in
@@ -67,11 +57,9 @@ loop-again c =
           (t .class-at .result) (u .count-at .result) (b .pre .0) h (l .loop .inv .2) (t .class-at .ensures) (u .count-at .ensures) (q .put-term .ensures),
     )
 
--- src/lib.rt:49:1
 same-length : tie.Need-same-length Inv-loop μ-loop
 same-length c = search needs
 
--- src/lib.rt:49:1
 returns : tie.Need-returns Inv-loop μ-loop
 returns c =
     let e : c .before .before .before .args .n + 1 ≡ c .before .loop .j = omega arith in

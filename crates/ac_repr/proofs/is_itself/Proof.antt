@@ -4,32 +4,26 @@ use borrow.Author.Needs.{needs}
 use Rattle.ac_repr.proofs.is_itself.Statement.{statement}
 use Rattle.ac_repr.proofs.is_itself.Tie as tie
 
--- src/lib.rt:189:9
 returns : tie.Need-returns
 returns c =
     let b = c .before .before in
     sym (itself-length (b .args .mono .now) (b .args .n) (b .args .c) (b .pre .0) (b .pre .1) (c .if1 .taken))
 
--- src/lib.rt:191:8
 class-at-requires : tie.Need-class-at-requires
 class-at-requires c κs = search needs
 
--- src/lib.rt:191:29
 long-requires : tie.Need-long-requires
 long-requires c κs = search needs
 
--- src/lib.rt:192:9
 returns-2 : tie.Need-returns-2
 returns-2 c =
     let b = c .before .before .before .before .before in
     sym (itself-class (b .args .mono .now) (b .args .n) (b .args .c) (b .pre .0) (b .pre .1) (c .before .before .class-at .result) (c .before .before .before .if1 .left) (c .before .before .class-at .ensures)
     (λ e. c .if2 .taken (e ∙ sym (c .before .long .ensures))))
 
--- src/lib.rt:194:5
 count-at-requires : tie.Need-count-at-requires
 count-at-requires c κs = search needs
 
--- src/lib.rt:184:1
 returns-3 : tie.Need-returns-3
 returns-3 c =
     let b = c .before .before .before .before .before .before in

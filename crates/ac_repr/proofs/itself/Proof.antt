@@ -3,19 +3,15 @@ use borrow.Author.Needs.{needs}
 use Rattle.ac_repr.proofs.itself.Statement.{statement}
 use Rattle.ac_repr.proofs.itself.Tie as tie
 
--- src/lib.rt:128:23
 long-requires : tie.Need-long-requires
 long-requires c κs = search needs
 
--- src/lib.rt:128:5
 put-term-requires : tie.Need-put-term-requires
 put-term-requires c κs = search needs
 
--- src/lib.rt:124:1
 same-length : tie.Need-same-length
 same-length c = search needs
 
--- src/lib.rt:124:1
 returns : tie.Need-returns
 returns c =
     let p = c .before .before in

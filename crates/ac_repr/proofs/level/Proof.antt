@@ -6,39 +6,32 @@ use borrow.Author.Needs.{needs}
 use Rattle.ac_repr.proofs.level.Statement.{statement}
 use Rattle.ac_repr.proofs.level.Tie as tie
 
--- src/lib.rt:223:39
 long-requires : tie.Need-long-requires
 long-requires c κs = search needs
 
--- src/lib.rt:223:49
 sub-add-class : tie.Need-sub-add-class
 sub-add-class c = search needs
 
--- src/lib.rt:223:13
 add-class-requires : tie.Need-add-class-requires
 add-class-requires c κs =
     let b = c .before .before .before .before .before in
     level-room (b .args .n) (b .args .a) (b .args .b) (b .args .mono .now) (b .pre .0) (b .pre .1) (b .pre .2) (b .pre .3) (c .before .before .before .if1 .taken)
 
--- src/lib.rt:223:13
 same-length : tie.Need-same-length
 same-length c = search needs
 
--- src/lib.rt:223:13
 returns : tie.Need-returns
 returns c =
     let b = c .before .before .before .before .before .before .before .before in
     level-more (held (b .args .n) (b .args .mono .now)) (b .args .id) (b .args .a) (b .args .b) (b .args .mono .now) (c .before .before .add-class .last .0) (c .before .before .add-class .result) (c .before .before .before .long .result)
     (c .before .before .before .before .before .before .if1 .taken) (c .before .before .before .before .before .if2 .taken) (c .before .before .before .long .ensures) (c .before .before .add-class .ensures)
 
--- src/lib.rt:217:1
 returns-2 : tie.Need-returns-2
 returns-2 c =
     let b = c .before .before .before in
     level-none (held (b .args .n) (b .args .mono .now)) (b .args .id) (b .args .a) (b .args .b) (b .args .mono .now) (b .args .mono .now) (b .args .n)
     (c .if2 .left) (held-same (b .args .n) (b .args .mono .now) (b .pre .0) (omega arith))
 
--- src/lib.rt:217:1
 returns-3 : tie.Need-returns-3
 returns-3 c =
     let b = c .before .before in

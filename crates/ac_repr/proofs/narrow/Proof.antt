@@ -16,30 +16,24 @@ Inv-loop mono n i₀ i = (i ≤ n) × (narrow (drop i (held n mono)) ≡ narrow 
 abbrev μ-loop : tie.MeasureT-loop
 μ-loop mono n i₀ i = n - i
 
--- src/lib.rt:164:5
 loop-holds : tie.Need-loop-holds Inv-loop μ-loop
 loop-holds c = (omega arith, refl)
 
--- src/lib.rt:165:12
 count-at-requires : tie.Need-count-at-requires Inv-loop μ-loop
 count-at-requires c κs = search needs
 
--- src/lib.rt:166:13
 returns : tie.Need-returns Inv-loop μ-loop
 returns c =
     let l = c .before .before .before in
     let b = l .before .before in
     sym (narrow-stop (b .args .mono .now) (b .args .n) (l .loop .i) (c .before .count-at .result) (b .pre .0) (b .pre .1) (omega arith) (c .before .count-at .ensures) (c .if1 .taken)) ∙ l .loop .inv .1
 
--- src/lib.rt:168:9
 add-i : tie.Need-add-i Inv-loop μ-loop
 add-i c = search needs
 
--- src/lib.rt:164:5
 loop-less : tie.Need-loop-less Inv-loop μ-loop
 loop-less c = search needs
 
--- src/lib.rt:164:5
 loop-again : tie.Need-loop-again Inv-loop μ-loop
 loop-again c =
     let l = c .before .before .before in
@@ -48,7 +42,6 @@ loop-again c =
       rw add-one (sym (narrow-more (b .args .mono .now) (b .args .n) (l .loop .i) (c .before .count-at .result) (b .pre .0) (b .pre .1) (omega arith) (c .before .count-at .ensures) (c .if1 .left)) ∙ l .loop .inv .1),
     )
 
--- src/lib.rt:159:1
 returns-2 : tie.Need-returns-2 Inv-loop μ-loop
 returns-2 c =
     let b = c .before .before .before in

@@ -12,18 +12,15 @@ Inv-loop s im m mono₀ span n₀ k₀ mono n k = Upto (tablesOf s) (span .from)
 abbrev μ-loop : tie.MeasureT-loop
 μ-loop s im m mono₀ span n₀ k₀ mono n k = span .to - k
 
--- src/lib.rt:113:9
 children-of-requires : tie.Need-children-of-requires Inv-loop μ-loop
 children-of-requires c κs = search needs
 
--- src/lib.rt:116:5
 loop-holds : tie.Need-loop-holds Inv-loop μ-loop
 loop-holds c =
     let b = c .before .before .before in
     upto-none (tablesOf (b .args .s .now)) (c .children-of .result .from) (c .children-of .result .to)
     (member-few (b .args .s .now) (b .args .im) (b .pre .0) (b .pre .1) (b .args .m) (c .children-of .result) (b .pre .2) (c .children-of .ensures .0)) (b .args .mono .now) (b .pre .3)
 
--- src/lib.rt:117:9
 add-child-requires : tie.Need-add-child-requires Inv-loop μ-loop
 add-child-requires c κs =
     let l = c .before .before .before in
@@ -36,15 +33,12 @@ add-child-requires c κs =
           (b .args .mono .now) (l .loop .mono) (l .loop .n) (l .loop .k) (l .loop .inv) (omega arith),
     )
 
--- src/lib.rt:118:9
 add-k : tie.Need-add-k Inv-loop μ-loop
 add-k c = search needs
 
--- src/lib.rt:116:5
 loop-less : tie.Need-loop-less Inv-loop μ-loop
 loop-less c = search needs
 
--- src/lib.rt:116:5
 loop-again : tie.Need-loop-again Inv-loop μ-loop
 loop-again c =
     let a = c .before .before in
@@ -55,11 +49,9 @@ loop-again c =
     (member-few (b .args .s .now) (b .args .im) (b .pre .0) (b .pre .1) (b .args .m) (d .children-of .result) (b .pre .2) (d .children-of .ensures .0))
     (b .args .mono .now) (l .loop .mono) (a .add-child .last .1 .1 .1 .0) (l .loop .n) (l .loop .k) (a .add-child .result) (l .loop .inv) (omega arith) (a .add-child .kept .1 .1 .1 .0) (a .add-child .ensures)
 
--- src/lib.rt:109:1
 same-length : tie.Need-same-length Inv-loop μ-loop
 same-length c = search needs
 
--- src/lib.rt:109:1
 returns : tie.Need-returns Inv-loop μ-loop
 returns c =
     let l = c .before .before in

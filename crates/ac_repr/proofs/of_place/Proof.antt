@@ -4,11 +4,9 @@ use borrow.Author.Needs.{needs}
 use Rattle.ac_repr.proofs.of_place.Statement.{statement}
 use Rattle.ac_repr.proofs.of_place.Tie as tie
 
--- src/lib.rt:137:9
 members-of-requires : tie.Need-members-of-requires
 members-of-requires c κs = search needs
 
--- src/lib.rt:139:9
 of-member-requires : tie.Need-of-member-requires
 of-member-requires c κs =
     let d = c .before .before .before in
@@ -19,11 +17,9 @@ of-member-requires c κs =
       b .pre .3,
     )
 
--- src/lib.rt:139:9
 same-length : tie.Need-same-length
 same-length c = search needs
 
--- src/lib.rt:139:9
 returns : tie.Need-returns
 returns c =
     let d = c .before .before .before .before .before .before in
@@ -31,15 +27,12 @@ returns c =
     place-member (tablesOf (b .args .s .now)) (b .args .c) (b .args .x) (b .args .mono .now) (c .before .before .of-member .last .1 .1 .1 .0) (c .before .before .of-member .result) (d .members-of .result) (d .members-of .ensures .0)
     (c .before .before .before .before .if1 .taken) (c .before .before .of-member .ensures)
 
--- src/lib.rt:141:5
 itself-requires : tie.Need-itself-requires
 itself-requires c κs = search needs
 
--- src/lib.rt:133:1
 same-length-2 : tie.Need-same-length-2
 same-length-2 c = search needs
 
--- src/lib.rt:133:1
 returns-2 : tie.Need-returns-2
 returns-2 c =
     let d = c .before .before .before .before .before .before in

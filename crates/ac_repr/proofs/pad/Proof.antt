@@ -4,27 +4,21 @@ use borrow.Author.Needs.{needs}
 use Rattle.ac_repr.proofs.pad.Statement.{statement}
 use Rattle.ac_repr.proofs.pad.Tie as tie
 
--- src/lib.rt:240:9
 total-requires : tie.Need-total-requires
 total-requires c κs = search needs
 
--- src/lib.rt:241:9
 total-requires-2 : tie.Need-total-requires-2
 total-requires-2 c κs = search needs
 
--- src/lib.rt:242:8
 unmatched-requires : tie.Need-unmatched-requires
 unmatched-requires c κs = search needs
 
--- src/lib.rt:243:9
 same-length : tie.Need-same-length
 same-length c = search needs
 
--- src/lib.rt:243:9
 same-length-2 : tie.Need-same-length-2
 same-length-2 c = search needs
 
--- src/lib.rt:243:9
 returns : tie.Need-returns
 returns c =
     let q = c .before .before in
@@ -33,15 +27,12 @@ returns c =
     pads-unmatched (b .args .id) (b .args .n) (b .args .m) (b .args .left .now) (b .args .right .now) (b .pre) (c .before .unmatched .result) (o .total .result) (q .total2 .result)
     (o .total .ensures) (q .total2 .ensures) (c .before .unmatched .ensures) (c .if1 .taken)
 
--- src/lib.rt:245:9
 level-requires : tie.Need-level-requires
 level-requires c κs = search needs
 
--- src/lib.rt:246:9
 level-requires-2 : tie.Need-level-requires-2
 level-requires-2 c κs = search needs
 
--- src/lib.rt:247:8
 both-narrow-requires : tie.Need-both-narrow-requires
 both-narrow-requires c κs =
     let v = c .before .before .before .before in
@@ -56,15 +47,12 @@ both-narrow-requires c κs =
       few-cols (b .args .id) (b .args .n) (b .args .m) (o .total .result) (q .total2 .result) (b .args .left .now) (b .args .right .now) (w .level .last .0) (v .level2 .last .0) (w .level .result) (v .level2 .result) (b .pre) (o .total .ensures) (q .total2 .ensures) (w .level .ensures) (v .level2 .ensures),
     )
 
--- src/lib.rt:248:9
 same-length-3 : tie.Need-same-length-3
 same-length-3 c = search needs
 
--- src/lib.rt:248:9
 same-length-4 : tie.Need-same-length-4
 same-length-4 c = search needs
 
--- src/lib.rt:248:9
 returns-2 : tie.Need-returns-2
 returns-2 c =
     let v = c .before .before .before .before .before .before in
@@ -76,15 +64,12 @@ returns-2 c =
     pads-pair (b .args .id) (b .args .n) (b .args .m) (o .total .result) (q .total2 .result) (b .args .left .now) (b .args .right .now) (w .level .last .0) (v .level2 .last .0) (w .level .result) (v .level2 .result) (b .pre) (o .total .ensures) (q .total2 .ensures) (w .level .ensures) (v .level2 .ensures)
     (u .unmatched .result) (c .before .both-narrow .result) (u .unmatched .ensures) (w .before .before .if1 .left) (c .before .both-narrow .ensures) (c .if2 .taken)
 
--- src/lib.rt:236:1
 same-length-5 : tie.Need-same-length-5
 same-length-5 c = search needs
 
--- src/lib.rt:236:1
 same-length-6 : tie.Need-same-length-6
 same-length-6 c = search needs
 
--- src/lib.rt:236:1
 returns-3 : tie.Need-returns-3
 returns-3 c =
     let v = c .before .before .before .before .before .before in

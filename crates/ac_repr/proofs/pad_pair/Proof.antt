@@ -3,37 +3,29 @@ use borrow.Author.Needs.{needs}
 use Rattle.ac_repr.proofs.pad_pair.Statement.{statement}
 use Rattle.ac_repr.proofs.pad_pair.Tie as tie
 
--- src/lib.rt:258:8
 both-itself-requires : tie.Need-both-itself-requires
 both-itself-requires c κs = search needs
 
--- src/lib.rt:259:9
 same-length : tie.Need-same-length
 same-length c = search needs
 
--- src/lib.rt:259:9
 same-length-2 : tie.Need-same-length-2
 same-length-2 c = search needs
 
--- src/lib.rt:259:9
 returns : tie.Need-returns
 returns c =
     let b = c .before .before .before .before .before .before in
     pads-itself (b .args .id) (b .args .l) (b .args .r) (b .args .n) (b .args .m) (b .args .left .now) (b .args .right .now) (b .pre) (c .before .both-itself .result) (c .before .both-itself .ensures) (c .if1 .taken)
 
--- src/lib.rt:261:5
 pad-requires : tie.Need-pad-requires
 pad-requires c κs = search needs
 
--- src/lib.rt:254:1
 same-length-3 : tie.Need-same-length-3
 same-length-3 c = search needs
 
--- src/lib.rt:254:1
 same-length-4 : tie.Need-same-length-4
 same-length-4 c = search needs
 
--- src/lib.rt:254:1
 returns-2 : tie.Need-returns-2
 returns-2 c =
     let p = c .before .before .before .before in

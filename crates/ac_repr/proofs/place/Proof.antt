@@ -15,30 +15,24 @@ Inv-loop mono n c i₀ i = (i ≤ n) × (position c (held n mono) ≡ i + positi
 abbrev μ-loop : tie.MeasureT-loop
 μ-loop mono n c i₀ i = n - i
 
--- src/lib.rt:39:5
 loop-holds : tie.Need-loop-holds Inv-loop μ-loop
 loop-holds c = search needs
 
--- src/lib.rt:40:12
 class-at-requires : tie.Need-class-at-requires Inv-loop μ-loop
 class-at-requires c κs = search needs
 
--- src/lib.rt:41:13
 returns : tie.Need-returns Inv-loop μ-loop
 returns c =
     let l = c .before .before .before in
     let b = l .before .before in
     omega (arith, scan-stop (b .args .c) (b .args .mono .now) (b .args .n) (l .loop .i) (c .before .class-at .result) (b .pre .0) (b .pre .1) (omega arith) (c .before .class-at .ensures) (c .if1 .taken), l .loop .inv .1)
 
--- src/lib.rt:43:9
 add-i : tie.Need-add-i Inv-loop μ-loop
 add-i c = search needs
 
--- src/lib.rt:39:5
 loop-less : tie.Need-loop-less Inv-loop μ-loop
 loop-less c = search needs
 
--- src/lib.rt:39:5
 loop-again : tie.Need-loop-again Inv-loop μ-loop
 loop-again c =
     let l = c .before .before .before in
@@ -46,7 +40,6 @@ loop-again c =
     rw add-one
     (omega (arith, scan-more (b .args .c) (b .args .mono .now) (b .args .n) (l .loop .i) (c .before .class-at .result) (b .pre .0) (b .pre .1) (omega arith) (c .before .class-at .ensures) (c .if1 .left), l .loop .inv .1))
 
--- src/lib.rt:34:1
 returns-2 : tie.Need-returns-2 Inv-loop μ-loop
 returns-2 c =
     let b = c .before .before .before in

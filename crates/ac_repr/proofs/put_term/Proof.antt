@@ -5,35 +5,27 @@ use borrow.Author.Needs.{needs}
 use Rattle.ac_repr.proofs.put_term.Statement.{statement}
 use Rattle.ac_repr.proofs.put_term.Tie as tie
 
--- src/lib.rt:38:14
 mul-at : tie.Need-mul-at
 mul-at c = search needs
 
--- src/lib.rt:39:5
 mul-mono : tie.Need-mul-mono
 mul-mono c = search needs
 
--- src/lib.rt:39:5
 slice-write-mono : tie.Need-slice-write-mono
 slice-write-mono c = search needs
 
--- src/lib.rt:40:10
 add-mono : tie.Need-add-mono
 add-mono c = search needs
 
--- src/lib.rt:40:5
 mul-mono-2 : tie.Need-mul-mono-2
 mul-mono-2 c = search needs
 
--- src/lib.rt:40:5
 slice-write-mono-2 : tie.Need-slice-write-mono-2
 slice-write-mono-2 c = simp length-set (omega arith)
 
--- src/lib.rt:34:1
 same-length : tie.Need-same-length
 same-length c = search needs
 
--- src/lib.rt:34:1
 returns : tie.Need-returns
 returns c = terms-set (c .args .mono .now) (c .args .i) (c .args .c) (c .args .k) (omega arith)
 

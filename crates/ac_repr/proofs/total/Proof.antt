@@ -16,37 +16,30 @@ Inv-loop mono n sum₀ i₀ sum i = (i ≤ n) × (sum + total (drop i (held n mo
 abbrev μ-loop : tie.MeasureT-loop
 μ-loop mono n sum₀ i₀ sum i = n - i
 
--- src/lib.rt:151:5
 loop-holds : tie.Need-loop-holds Inv-loop μ-loop
 loop-holds c = omega arith
 
--- src/lib.rt:152:16
 count-at-requires : tie.Need-count-at-requires Inv-loop μ-loop
 count-at-requires c κs = search needs
 
--- src/lib.rt:152:9
 add-sum : tie.Need-add-sum Inv-loop μ-loop
 add-sum c =
     let l = c .before .before in
     let b = l .before .before in
     record { fits = omega (arith, b .pre, l .loop .inv, total-more (b .args .mono .now) (b .args .n) (l .loop .i) (c .count-at .result) (b .pre .0) (b .pre .1) (omega arith) (c .count-at .ensures)) }
 
--- src/lib.rt:153:9
 add-i : tie.Need-add-i Inv-loop μ-loop
 add-i c = search needs
 
--- src/lib.rt:151:5
 loop-less : tie.Need-loop-less Inv-loop μ-loop
 loop-less c = search needs
 
--- src/lib.rt:151:5
 loop-again : tie.Need-loop-again Inv-loop μ-loop
 loop-again c =
     let l = c .before .before in
     let b = l .before .before in
     rw add-one (omega (arith, l .loop .inv, total-more (b .args .mono .now) (b .args .n) (l .loop .i) (c .count-at .result) (b .pre .0) (b .pre .1) (omega arith) (c .count-at .ensures)))
 
--- src/lib.rt:145:1
 returns : tie.Need-returns Inv-loop μ-loop
 returns c =
     let b = c .before .before .before in

@@ -3,11 +3,9 @@ use mathlib.Core.Path.{refl}
 use Rattle.ac_repr.proofs.unmatched.Statement.{statement}
 use Rattle.ac_repr.proofs.unmatched.Tie as tie
 
--- src/lib.rt:211:9
 returns : tie.Need-returns
 returns c = rw (eq-eqb _ _ (c .if1 .taken)) refl
 
--- src/lib.rt:207:1
 returns-2 : tie.Need-returns-2
 returns-2 c = rw (ne-eqb _ _ (c .if1 .left)) refl
 

@@ -6,27 +6,22 @@ use borrow.Author.Needs.{needs}
 use Rattle.actions.proofs.both_ways.Statement.{statement}
 use Rattle.actions.proofs.both_ways.Tie as tie
 
--- src/lib.rt:58:8
 twins-requires : tie.Need-twins-requires
 twins-requires c κs = search needs
 
--- src/lib.rt:59:9
 returns : tie.Need-returns
 returns c =
     let a = c .before .before .before in let t = tablesOf (a .args .s .now) in
     ways-left (theMember t (a .args .a) .op) (childClasses t (a .args .a)) (childClasses t (a .args .b)) (sym (c .if1 .taken) ∙ c .before .twins .ensures)
 
--- src/lib.rt:61:8
 twins-requires-2 : tie.Need-twins-requires-2
 twins-requires-2 c κs = search needs
 
--- src/lib.rt:62:9
 returns-2 : tie.Need-returns-2
 returns-2 c =
     let a = c .before .before .before .before .before in let t = tablesOf (a .args .s .now) in
     ways-right (theMember t (a .args .a) .op) (childClasses t (a .args .a)) (childClasses t (a .args .b)) (sym (c .before .before .if1 .left) ∙ c .before .before .before .twins .ensures) (sym (c .if2 .taken) ∙ c .before .twins2 .ensures)
 
--- src/lib.rt:54:1
 returns-3 : tie.Need-returns-3
 returns-3 c =
     let a = c .before .before .before .before .before in let t = tablesOf (a .args .s .now) in

@@ -3,12 +3,10 @@ use native.Mathlib.Omega.{arith}
 use Rattle.actions.proofs.count.Statement.{statement}
 use Rattle.actions.proofs.count.Tie as tie
 
--- src/lib.rt:187:5
 child-count-requires : tie.Need-child-count-requires
 child-count-requires c κs =
     let a = c .before in (a .pre .0, omega (arith, left-member (a .args .s .now) (a .args .im) (a .pre .0) (a .pre .1) (a .args .v) (a .pre .2)))
 
--- src/lib.rt:183:1
 returns : tie.Need-returns
 returns c =
     let a = c .before .before in action-count (a .args .s .now) (a .args .im) (a .pre .0) (a .pre .1) (a .args .v) (a .pre .2) (c .child-count .ensures .0)

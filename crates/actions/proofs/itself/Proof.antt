@@ -2,7 +2,6 @@ use mathlib.Core.Path.{refl}
 use Rattle.actions.proofs.itself.Statement.{statement}
 use Rattle.actions.proofs.itself.Tie as tie
 
--- src/lib.rt:37:1
 returns : tie.Need-returns
 returns c = refl
 

@@ -5,42 +5,34 @@ use borrow.Author.Needs.{needs}
 use Rattle.actions.proofs.right_class.Statement.{statement}
 use Rattle.actions.proofs.right_class.Tie as tie
 
--- src/lib.rt:203:9
 first-child-requires : tie.Need-first-child-requires
 first-child-requires c κs =
     let a = c .before in (a .pre .0, omega (arith, left-member (a .args .s .now) (a .args .im) (a .pre .0) (a .pre .1) (a .args .v) (a .pre .2), right-member (a .args .s .now) (a .args .im) (a .pre .0) (a .pre .1) (a .args .v) (a .pre .2)))
 
--- src/lib.rt:205:35
 add-child-class : tie.Need-add-child-class
 add-child-class c =
     let a = c .before .before .before .before in
     record { fits = omega (arith, a .pre .1 .counts .fewChildren, children-many (a .args .s .now) (a .args .im) (a .pre .0), straight-child (a .args .s .now) (a .args .im) (a .pre .0) (a .pre .1) (a .args .v) (a .pre .2) (a .args .k) (a .pre .3) (c .before .before .first-child .ensures .0)) }
 
--- src/lib.rt:205:9
 child-class-requires : tie.Need-child-class-requires
 child-class-requires c κs =
     let a = c .before .before .before .before in (a .pre .0, omega (arith, straight-child (a .args .s .now) (a .args .im) (a .pre .0) (a .pre .1) (a .args .v) (a .pre .2) (a .args .k) (a .pre .3) (c .before .before .first-child .ensures .0)))
 
--- src/lib.rt:205:9
 returns : tie.Need-returns
 returns c =
     let a = c .before .before .before .before .before in straight-joined (a .args .s .now) (a .args .im) (a .pre .0) (a .pre .1) (a .args .v) (a .pre .2) (a .args .k) (a .pre .3) (c .before .before .before .first-child .ensures .0) (c .before .if1 .taken) (c .child-class .ensures .0)
 
--- src/lib.rt:207:24
 add-child-class-2 : tie.Need-add-child-class-2
 add-child-class-2 c = search needs
 
--- src/lib.rt:207:24
 sub-child-class : tie.Need-sub-child-class
 sub-child-class c =
     let a = c .before .before .before .before in omega (arith, crossed-two (a .args .s .now) (a .args .im) (a .pre .0) (a .pre .1) (a .args .v) (a .pre .2) (a .args .k) (a .pre .3) (c .before .before .first-child .ensures .0) (c .if1 .left))
 
--- src/lib.rt:207:5
 child-class-requires-2 : tie.Need-child-class-requires-2
 child-class-requires-2 c κs =
     let a = c .before .before .before .before in (a .pre .0, omega (arith, crossed-child (a .args .s .now) (a .args .im) (a .pre .0) (a .pre .1) (a .args .v) (a .pre .2) (a .args .k) (a .pre .3) (c .before .before .first-child .ensures .0) (c .if1 .left)))
 
--- src/lib.rt:199:1
 returns-2 : tie.Need-returns-2
 returns-2 c =
     let a = c .before .before .before .before .before in crossed-joined (a .args .s .now) (a .args .im) (a .pre .0) (a .pre .1) (a .args .v) (a .pre .2) (a .args .k) (a .pre .3) (c .before .before .before .first-child .ensures .0) (c .before .if1 .left) (c .child-class2 .ensures .0)

@@ -15,19 +15,15 @@ Inv-loop s im l r to right v₀ v = listFrom (tablesOf s) l r v ≡ listFrom (ta
 abbrev μ-loop : tie.MeasureT-loop
 μ-loop s im l r to right v₀ v = to - v .left
 
--- src/lib.rt:140:14
 members-of-requires : tie.Need-members-of-requires Inv-loop μ-loop
 members-of-requires c κs = search needs
 
--- src/lib.rt:141:9
 members-of-requires-2 : tie.Need-members-of-requires-2 Inv-loop μ-loop
 members-of-requires-2 c κs = search needs
 
--- src/lib.rt:143:5
 loop-holds : tie.Need-loop-holds Inv-loop μ-loop
 loop-holds c = refl
 
--- src/lib.rt:144:15
 seek-right-requires : tie.Need-seek-right-requires Inv-loop μ-loop
 seek-right-requires c κs =
     let l = c .before .before in let m = l .before .before in let a = m .before .before in (
@@ -37,11 +33,9 @@ seek-right-requires c κs =
       span-end (a .args .s .now) (a .args .im) (a .pre .0) (a .pre .1) (a .args .r) (l .before .members-of2 .result) (a .pre .3) (l .before .members-of2 .ensures .0),
     )
 
--- src/lib.rt:145:24
 enum-known-x : tie.Need-enum-known-x Inv-loop μ-loop
 enum-known-x c = search needs
 
--- src/lib.rt:146:17
 returns : tie.Need-returns Inv-loop μ-loop
 returns c =
     let l = c .before .before .before .before .before .before in let m = l .before .before in let a = m .before .before in
@@ -50,19 +44,15 @@ returns c =
     let k = rw e at (c .before .before .before .seek-right .ensures) in
     (sym (l .loop .inv) ∙ g (c .before .x .given .0 .0) (c .before .before .before .before .if1 .taken) (k .0) (k .2), k .1)
 
--- src/lib.rt:150:27
 enum-told : tie.Need-enum-told Inv-loop μ-loop
 enum-told c = search needs
 
--- src/lib.rt:150:27
 add-t13 : tie.Need-add-t13 Inv-loop μ-loop
 add-t13 c = search needs
 
--- src/lib.rt:143:5
 loop-less : tie.Need-loop-less Inv-loop μ-loop
 loop-less c = search needs
 
--- src/lib.rt:143:5
 loop-again : tie.Need-loop-again Inv-loop μ-loop
 loop-again c =
     let l = c .before .before .before .before .before .before in let m = l .before .before in let a = m .before .before in
@@ -70,7 +60,6 @@ loop-again c =
     let k = rw (c .before .enum-told .given .1) at (c .before .before .before .seek-right .ensures) in
     g (c .before .before .before .before .if1 .taken) (k .0) ∙ l .loop .inv
 
--- src/lib.rt:136:1
 returns-2 : tie.Need-returns-2 Inv-loop μ-loop
 returns-2 c =
     let l = c .before .before in let m = l .before .before in let a = m .before .before in

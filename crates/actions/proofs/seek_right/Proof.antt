@@ -18,16 +18,13 @@ Inv-loop s im to w j₀ n₀ j n = rowAt (tablesOf s) to (record { left = w .lef
 abbrev μ-loop : tie.MeasureT-loop
 μ-loop s im to w j₀ n₀ j n = to - j
 
--- src/lib.rt:121:5
 loop-holds : tie.Need-loop-holds Inv-loop μ-loop
 loop-holds c = refl
 
--- src/lib.rt:122:16
 aligned-requires : tie.Need-aligned-requires Inv-loop μ-loop
 aligned-requires c κs =
     let l = c .before in let a = l .before .before in (a .pre .0, a .pre .1, a .pre .2, omega (arith, c .loop-test, a .pre .3))
 
--- src/lib.rt:123:13
 returns : tie.Need-returns Inv-loop μ-loop
 returns c =
     let l = c .before .before .before in let a = l .before .before in let t = tablesOf (a .args .s .now) in
@@ -39,15 +36,12 @@ returns c =
       refl,
     )
 
--- src/lib.rt:129:9
 add-j : tie.Need-add-j Inv-loop μ-loop
 add-j c = search needs
 
--- src/lib.rt:121:5
 loop-less : tie.Need-loop-less Inv-loop μ-loop
 loop-less c = search needs
 
--- src/lib.rt:121:5
 loop-again : tie.Need-loop-again Inv-loop μ-loop
 loop-again c =
     let l = c .before .before .before in let a = l .before .before in let t = tablesOf (a .args .s .now) in
@@ -55,7 +49,6 @@ loop-again c =
     let k : a .args .to ≤ length (t .members) = omega (arith, a .pre .3, members-many (a .args .s .now) (a .args .im) (a .pre .0)) in
     row-more t (a .args .to) k w (omega (arith, c .before .before .loop-test)) (omega (arith, c .if1 .left, c .before .aligned .ensures)) ∙ l .loop .inv
 
--- src/lib.rt:115:1
 returns-2 : tie.Need-returns-2 Inv-loop μ-loop
 returns-2 c =
     let l = c .before in let a = l .before .before in let t = tablesOf (a .args .s .now) in

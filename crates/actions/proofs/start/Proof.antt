@@ -7,25 +7,20 @@ use borrow.Author.Needs.{needs}
 use Rattle.actions.proofs.start.Statement.{statement}
 use Rattle.actions.proofs.start.Tie as tie
 
--- src/lib.rt:98:9
 members-of-requires : tie.Need-members-of-requires
 members-of-requires c κs = search needs
 
--- src/lib.rt:99:9
 first-member-requires : tie.Need-first-member-requires
 first-member-requires c κs = search needs
 
--- src/lib.rt:100:8
 itself-requires : tie.Need-itself-requires
 itself-requires c κs = search needs
 
--- src/lib.rt:101:9
 returns : tie.Need-returns
 returns c =
     let a = c .before .before .before .before .before in let t = tablesOf (a .args .s .now) in
     rw (c .before .before .before .members-of .ensures .0, c .before .before .first-member .ensures .0) (start-itself t (a .args .l) (a .args .r) (class-end (a .args .s .now) (a .args .im) (a .pre .0) (a .pre .1) (a .args .l) (a .pre .2)) (class-end (a .args .s .now) (a .args .im) (a .pre .0) (a .pre .1) (a .args .r) (a .pre .3)) (eqb-true _ _ (sym (c .before .itself .ensures) ∙ c .if1 .taken)))
 
--- src/lib.rt:94:1
 returns-2 : tie.Need-returns-2
 returns-2 c =
     let a = c .before .before .before .before .before in let t = tablesOf (a .args .s .now) in

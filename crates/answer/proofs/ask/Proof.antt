@@ -8,113 +8,90 @@ use Rattle.answer.specs.RespondingLaws.{framed-says, asks-from}
 use Rattle.answer.proofs.ask.Statement.{statement}
 use Rattle.answer.proofs.ask.Tie as tie
 
--- src/program.rt:97:18
 be4-requires : tie.Need-be4-requires
 be4-requires c κs =
     let a = c .before .before .before .before .before .before .before .before in
     let F = framed-says (a .args .input .now) (a .pre) in
     omega (arith, F .some)
 
--- src/program.rt:97:13
 size-requires : tie.Need-size-requires
 size-requires c κs = search needs
 
--- src/program.rt:97:13
 add-n : tie.Need-add-n
 add-n c = search needs
 
--- src/program.rt:98:24
 be2-requires : tie.Need-be2-requires
 be2-requires c κs =
     let a = c .before .before .before .before .before .before .before .before .before .before in
     let F = framed-says (a .args .input .now) (a .pre) in
     omega (arith, F .ends, F .short, c .size .ensures, c .before .be4 .ensures .0)
 
--- src/program.rt:98:9
 narrow2-requires : tie.Need-narrow2-requires
 narrow2-requires c κs = search needs
 
--- src/program.rt:99:36
 add-be2 : tie.Need-add-be2
 add-be2 c = search needs
 
--- src/program.rt:99:25
 be2-requires-2 : tie.Need-be2-requires-2
 be2-requires-2 c κs =
     let a = c .before .before .before .before .before .before .before .before .before .before .before .before in
     let F = framed-says (a .args .input .now) (a .pre) in
     omega (arith, F .ends, F .short, c .before .before .size .ensures, c .before .before .before .be4 .ensures .0)
 
--- src/program.rt:99:9
 narrow2-requires-2 : tie.Need-narrow2-requires-2
 narrow2-requires-2 c κs = search needs
 
--- src/program.rt:100:37
 add-be4 : tie.Need-add-be4
 add-be4 c = search needs
 
--- src/program.rt:100:26
 be4-requires-2 : tie.Need-be4-requires-2
 be4-requires-2 c κs =
     let a = c .before .before .before .before .before .before .before .before .before .before .before .before .before .before in
     let F = framed-says (a .args .input .now) (a .pre) in
     omega (arith, F .ends, F .short, c .before .before .before .before .size .ensures, c .before .before .before .before .before .be4 .ensures .0)
 
--- src/program.rt:100:9
 narrow4-requires : tie.Need-narrow4-requires
 narrow4-requires c κs = search needs
 
--- src/program.rt:101:17
 sub-merge-plain : tie.Need-sub-merge-plain
 sub-merge-plain c = search needs
 
--- src/program.rt:101:17
 part-merge-plain-start : tie.Need-part-merge-plain-start
 part-merge-plain-start c =
     let a = c .before .before .before .before .before .before .before .before .before .before .before .before .before .before .before .before in
     let F = framed-says (a .args .input .now) (a .pre) in
     omega (arith, F .ends, F .short, c .before .before .before .before .before .before .size .ensures, c .before .before .before .before .before .before .before .be4 .ensures .0)
 
--- src/program.rt:101:17
 part-merge-plain-end : tie.Need-part-merge-plain-end
 part-merge-plain-end c =
     let a = c .before .before .before .before .before .before .before .before .before .before .before .before .before .before .before .before in
     let F = framed-says (a .args .input .now) (a .pre) in
     omega (arith, F .ends, F .short, c .before .before .before .before .before .before .size .ensures, c .before .before .before .before .before .before .before .be4 .ensures .0)
 
--- src/program.rt:101:5
 merge-plain-requires : tie.Need-merge-plain-requires
 merge-plain-requires c κs = search needs
 
--- src/program.rt:82:1
 same-length : tie.Need-same-length
 same-length c = search needs
 
--- src/program.rt:82:1
 same-length-2 : tie.Need-same-length-2
 same-length-2 c = search needs
 
--- src/program.rt:82:1
 same-length-3 : tie.Need-same-length-3
 same-length-3 c = search needs
 
--- src/program.rt:82:1
 same-length-4 : tie.Need-same-length-4
 same-length-4 c = search needs
 
--- src/program.rt:82:1
 same-length-5 : tie.Need-same-length-5
 same-length-5 c = search needs
 
--- src/program.rt:82:1
 same-length-6 : tie.Need-same-length-6
 same-length-6 c = search needs
 
--- src/program.rt:82:1
 same-length-7 : tie.Need-same-length-7
 same-length-7 c = search needs
 
--- src/program.rt:82:1
 returns : tie.Need-returns
 returns c =
     let a = c .before .before .before .before .before .before .before .before .before .before .before .before .before .before .before .before .before .before .before .before .before .before .before .before .before .before .before .before .before .before .before .before .before .before .before .before .before .before .before in

@@ -4,29 +4,23 @@ use Rattle.answer.specs.RespondingLaws.{too-long, too-short, by-length}
 use Rattle.answer.proofs.is_framed.Statement.{statement}
 use Rattle.answer.proofs.is_framed.Tie as tie
 
--- src/program.rt:52:9
 returns : tie.Need-returns
 returns c =
     too-long (c .before .before .args .input .now) (omega (arith, c .if1 .taken))
 
--- src/program.rt:55:9
 returns-2 : tie.Need-returns-2
 returns-2 c =
     too-short (c .before .before .before .args .input .now) (omega (arith, c .before .if1 .left)) (omega (arith, c .if2 .taken))
 
--- src/program.rt:57:5
 be4-requires : tie.Need-be4-requires
 be4-requires c κs = search needs
 
--- src/program.rt:57:5
 add-result : tie.Need-add-result
 add-result c = search needs
 
--- src/program.rt:57:27
 long-requires : tie.Need-long-requires
 long-requires c κs = search needs
 
--- src/program.rt:48:1
 returns-3 : tie.Need-returns-3
 returns-3 c =
     let s = c .before .before .before .before .before .args .input .now in rw (c .long .ensures) (by-length s _ (omega (arith, c .before .before .before .if1 .left)) (omega (arith, c .before .before .if2 .left)) (omega (arith, c .before .be4 .ensures .0)))

@@ -5,31 +5,25 @@ use Rattle.answer.specs.RespondingLaws.{room-label, room-end, wrote-line
 use Rattle.answer.proofs.refusal.Statement.{statement}
 use Rattle.answer.proofs.refusal.Tie as tie
 
--- src/program.rt:65:39
 slice-aggregate-labelled : tie.Need-slice-aggregate-labelled
 slice-aggregate-labelled c = search needs
 
--- src/program.rt:65:9
 labelled-requires : tie.Need-labelled-requires
 unfolding X.text
 labelled-requires c κs =
     let a = c .before .before .before in room-label (a .args .k) (length (a .args .out .now)) (a .pre .1) (a .pre .0)
 
--- src/program.rt:66:27
 slice-aggregate-text : tie.Need-slice-aggregate-text
 slice-aggregate-text c = search needs
 
--- src/program.rt:66:5
 text-requires : tie.Need-text-requires
 unfolding X.text
 text-requires c κs =
     let a = c .before .before .before .before .before .before .before .before in room-end (a .args .k) (a .args .out .now) _ _ (a .pre .1) (a .pre .0) (c .before .before .before .before .labelled .ensures)
 
--- src/program.rt:61:1
 same-length : tie.Need-same-length
 same-length c = search needs
 
--- src/program.rt:61:1
 returns : tie.Need-returns
 unfolding X.text
 returns c =

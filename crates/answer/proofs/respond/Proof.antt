@@ -5,49 +5,38 @@ use Rattle.answer.specs.RespondingLaws.{responds, cleared-asked, not-fra
 use Rattle.answer.proofs.respond.Statement.{statement}
 use Rattle.answer.proofs.respond.Tie as tie
 
--- src/program.rt:118:8
 is-framed-requires : tie.Need-is-framed-requires
 is-framed-requires c κs = search needs
 
--- src/program.rt:119:13
 ask-requires : tie.Need-ask-requires
 ask-requires c κs =
     sym (c .before .before .before .before .before .before .before .before .is-framed .ensures) ∙ c .before .before .before .before .before .before .before .if1 .taken
 
--- src/program.rt:120:9
 print-requires : tie.Need-print-requires
 print-requires c κs =
     let a = c .before .before .before .before .before .before .before .before .before .before .before .before .before .before .before .before .before .before .before .before .before .before .before .before .before .before .before .before .before .before .before .before .before in omega (arith, a .pre .output)
 
--- src/program.rt:120:9
 same-length : tie.Need-same-length
 same-length c = search needs
 
--- src/program.rt:120:9
 same-length-2 : tie.Need-same-length-2
 same-length-2 c = search needs
 
--- src/program.rt:120:9
 same-length-3 : tie.Need-same-length-3
 same-length-3 c = search needs
 
--- src/program.rt:120:9
 same-length-4 : tie.Need-same-length-4
 same-length-4 c = search needs
 
--- src/program.rt:120:9
 same-length-5 : tie.Need-same-length-5
 same-length-5 c = search needs
 
--- src/program.rt:120:9
 same-length-6 : tie.Need-same-length-6
 same-length-6 c = search needs
 
--- src/program.rt:120:9
 same-length-7 : tie.Need-same-length-7
 same-length-7 c = search needs
 
--- src/program.rt:120:9
 returns : tie.Need-returns
 returns c =
     let a = c .before .before .before .before .before .before .before .before .before .before .before .before .before .before .before .before .before .before .before .before .before .before .before .before .before .before .before .before .before .before .before .before .before .before .before .before in
@@ -55,16 +44,13 @@ returns c =
     let f = sym (c .before .before .before .before .before .before .before .before .before .before .before .before .before .before .before .before .before .before .before .before .before .before .before .before .before .before .before .is-framed .ensures) ∙ c .before .before .before .before .before .before .before .before .before .before .before .before .before .before .before .before .before .before .before .before .before .before .before .before .before .before .if1 .taken in
     (responds (a .args .input .now) (a .args .out .now) _ _ _ _ _ f (a .pre .fit) (a .pre .output) (k .0) (c .before .before .print .ensures), cleared-asked _ (a .args .input .now) f (a .pre .fit) (k .1))
 
--- src/program.rt:122:5
 refusal-requires : tie.Need-refusal-requires
 refusal-requires c κs =
     let a = c .before .before .before .before .before .before .before .before .before .before .before in (omega (arith, a .pre .output), omega arith)
 
--- src/program.rt:105:1
 same-length-8 : tie.Need-same-length-8
 same-length-8 c = search needs
 
--- src/program.rt:105:1
 returns-2 : tie.Need-returns-2
 returns-2 c =
     let a = c .before .before .before .before .before .before .before .before .before .before .before .before .before .before in

@@ -5,15 +5,12 @@ use Rattle.au.specs.Tiers.{finished-long, finished-short, short-cleared,
 use Rattle.au.proofs.finish.Statement.{statement}
 use Rattle.au.proofs.finish.Tie as tie
 
--- src/lib.rt:462:9
 finish-small-requires : tie.Need-finish-small-requires
 finish-small-requires c κs = search needs
 
--- src/lib.rt:477:8
 answered-short-requires : tie.Need-answered-short-requires
 answered-short-requires c κs = search needs
 
--- src/lib.rt:478:9
 run-large-requires : tie.Need-run-large-requires
 run-large-requires c κs =
     let a = c .before .before .before .before .before .before .before .before .before .before .before .before .before .before .before .before .before .before .before .before .before .before .before .before .before .before .before .before .before .before .before .before .before .before .before .before in
@@ -21,35 +18,27 @@ run-large-requires c κs =
     let g = a .pre .2 in
     (g .loaded, g .read, g .left, g .right, as-long 4096 (a .pre .0 .lefts) (x .kept .1 .1 .1 .1 .1 .1 .0), as-long 4096 (a .pre .0 .rights) (x .kept .1 .1 .1 .1 .1 .1 .1 .0), as-long 24576 (a .pre .1) (x .kept .1 .1 .1 .1 .1 .1 .1 .1 .1 .0))
 
--- src/lib.rt:478:9
 same-length : tie.Need-same-length
 same-length c = search needs
 
--- src/lib.rt:478:9
 same-length-2 : tie.Need-same-length-2
 same-length-2 c = search needs
 
--- src/lib.rt:478:9
 same-length-3 : tie.Need-same-length-3
 same-length-3 c = search needs
 
--- src/lib.rt:478:9
 same-length-4 : tie.Need-same-length-4
 same-length-4 c = search needs
 
--- src/lib.rt:478:9
 same-length-5 : tie.Need-same-length-5
 same-length-5 c = search needs
 
--- src/lib.rt:478:9
 same-length-6 : tie.Need-same-length-6
 same-length-6 c = search needs
 
--- src/lib.rt:478:9
 same-length-7 : tie.Need-same-length-7
 same-length-7 c = search needs
 
--- src/lib.rt:478:9
 returns : tie.Need-returns
 returns c =
     let f = c .before .before .before .before .before .before .before .before .run-large .ensures in
@@ -57,39 +46,30 @@ returns c =
     let S = finished-short (x .result) _ (sym (c .before .before .before .before .before .before .before .before .before .before .before .before .before .before .answered-short .ensures) ∙ c .before .before .before .before .before .before .before .before .before .before .before .before .before .if1 .taken) (x .ensures) in
     (merges-from (S .output) (f .0), cleared-large (short-cleared _ _ _ _ _ _ _ _ _ _ _ _ _ _ _ S) (f .1) (f .2) (f .3))
 
--- src/lib.rt:480:5
 answer-of-requires : tie.Need-answer-of-requires
 answer-of-requires c κs = search needs
 
--- src/lib.rt:444:1
 same-length-8 : tie.Need-same-length-8
 same-length-8 c = search needs
 
--- src/lib.rt:444:1
 same-length-9 : tie.Need-same-length-9
 same-length-9 c = search needs
 
--- src/lib.rt:444:1
 same-length-10 : tie.Need-same-length-10
 same-length-10 c = search needs
 
--- src/lib.rt:444:1
 same-length-11 : tie.Need-same-length-11
 same-length-11 c = search needs
 
--- src/lib.rt:444:1
 same-length-12 : tie.Need-same-length-12
 same-length-12 c = search needs
 
--- src/lib.rt:444:1
 same-length-13 : tie.Need-same-length-13
 same-length-13 c = search needs
 
--- src/lib.rt:444:1
 same-length-14 : tie.Need-same-length-14
 same-length-14 c = search needs
 
--- src/lib.rt:444:1
 returns-2 : tie.Need-returns-2
 returns-2 c =
     let a = c .before .before .before .before .before .before .before .before .before .before .before .before .before .before .before .before .before .before .before .before .before .before .before .before .before .before .before .before .before .before .before .before .before in

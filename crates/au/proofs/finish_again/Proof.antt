@@ -3,46 +3,36 @@ use Rattle.au.specs.Tiers.{as-long, cleared-large}
 use Rattle.au.proofs.finish_again.Statement.{statement}
 use Rattle.au.proofs.finish_again.Tie as tie
 
--- src/lib.rt:501:5
 clear-all-requires : tie.Need-clear-all-requires
 clear-all-requires c κs = search needs
 
--- src/lib.rt:502:5
 run-large-requires : tie.Need-run-large-requires
 run-large-requires c κs =
     let a = c .before .before .before .before .before .before .before .before .before .before .before .before .before .before .before .before .before .before .before .before .before .before .before .before .before .before .before .before .before .before .before in
     let x = c .before .before .before .before .before .before .before .before .before .before .before .before .before .before .before .before .clear-all in
     (a .pre .0, a .pre .1, a .pre .2, a .pre .3, as-long 4096 (a .pre .4) (x .kept .0), as-long 4096 (a .pre .5) (x .kept .1 .0), as-long 24576 (a .pre .6) (x .kept .1 .1 .1 .0))
 
--- src/lib.rt:484:1
 same-length : tie.Need-same-length
 same-length c = search needs
 
--- src/lib.rt:484:1
 same-length-2 : tie.Need-same-length-2
 same-length-2 c = search needs
 
--- src/lib.rt:484:1
 same-length-3 : tie.Need-same-length-3
 same-length-3 c = search needs
 
--- src/lib.rt:484:1
 same-length-4 : tie.Need-same-length-4
 same-length-4 c = search needs
 
--- src/lib.rt:484:1
 same-length-5 : tie.Need-same-length-5
 same-length-5 c = search needs
 
--- src/lib.rt:484:1
 same-length-6 : tie.Need-same-length-6
 same-length-6 c = search needs
 
--- src/lib.rt:484:1
 same-length-7 : tie.Need-same-length-7
 same-length-7 c = search needs
 
--- src/lib.rt:484:1
 returns : tie.Need-returns
 returns c =
     let f = c .before .before .before .before .before .before .before .before .run-large .ensures in

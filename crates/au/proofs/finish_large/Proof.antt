@@ -5,31 +5,24 @@ use Rattle.au.specs.Tiers.{finished-full, zeros-long, roomy-arrays, read
 use Rattle.au.proofs.finish_large.Statement.{statement}
 use Rattle.au.proofs.finish_large.Tie as tie
 
--- src/lib.rt:385:9
 slice-aggregate-finish : tie.Need-slice-aggregate-finish
 slice-aggregate-finish c = search needs
 
--- src/lib.rt:386:9
 slice-aggregate-finish-2 : tie.Need-slice-aggregate-finish-2
 slice-aggregate-finish-2 c = search needs
 
--- src/lib.rt:387:9
 slice-aggregate-finish-3 : tie.Need-slice-aggregate-finish-3
 slice-aggregate-finish-3 c = search needs
 
--- src/lib.rt:388:9
 slice-aggregate-finish-4 : tie.Need-slice-aggregate-finish-4
 slice-aggregate-finish-4 c = search needs
 
--- src/lib.rt:389:9
 slice-aggregate-finish-5 : tie.Need-slice-aggregate-finish-5
 slice-aggregate-finish-5 c = search needs
 
--- src/lib.rt:390:9
 slice-aggregate-finish-6 : tie.Need-slice-aggregate-finish-6
 slice-aggregate-finish-6 c = search needs
 
--- src/lib.rt:372:9
 finish-requires : tie.Need-finish-requires
 finish-requires c κs =
     let a = c .before .before .before .before .before .before .before .before .before .before .before .before .before .before .before .before .before .before .before .before .before in
@@ -37,39 +30,30 @@ finish-requires c κs =
     let g = a .pre .2 in
     (g .loaded, is-valid (a .args .s .now) (g .read), g .left, g .right, w .lefts, w .rights, a .pre .1, ready-unless _ _ _ _ _ _ _ _ _ _ (g .ready), roomy-arrays 4225 (omega arith))
 
--- src/lib.rt:393:5
 answer-of-requires : tie.Need-answer-of-requires
 answer-of-requires c κs = search needs
 
--- src/lib.rt:348:1
 same-length : tie.Need-same-length
 same-length c = search needs
 
--- src/lib.rt:348:1
 same-length-2 : tie.Need-same-length-2
 same-length-2 c = search needs
 
--- src/lib.rt:348:1
 same-length-3 : tie.Need-same-length-3
 same-length-3 c = search needs
 
--- src/lib.rt:348:1
 same-length-4 : tie.Need-same-length-4
 same-length-4 c = search needs
 
--- src/lib.rt:348:1
 same-length-5 : tie.Need-same-length-5
 same-length-5 c = search needs
 
--- src/lib.rt:348:1
 same-length-6 : tie.Need-same-length-6
 same-length-6 c = search needs
 
--- src/lib.rt:348:1
 same-length-7 : tie.Need-same-length-7
 same-length-7 c = search needs
 
--- src/lib.rt:348:1
 returns : tie.Need-returns
 returns c =
     let a = c .before .before .before .before .before .before .before .before .before .before .before .before .before .before .before .before .before .before .before .before .before .before .before .before .before .before .before .before .before .before .before .before .before .before .before .before .before .before .before .before .before .before in

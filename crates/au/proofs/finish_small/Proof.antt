@@ -5,31 +5,24 @@ use Rattle.au.specs.Tiers.{roomy-arrays, ready-unless}
 use Rattle.au.proofs.finish_small.Statement.{statement}
 use Rattle.au.proofs.finish_small.Tie as tie
 
--- src/lib.rt:337:9
 slice-aggregate-finish : tie.Need-slice-aggregate-finish
 slice-aggregate-finish c = search needs
 
--- src/lib.rt:338:9
 slice-aggregate-finish-2 : tie.Need-slice-aggregate-finish-2
 slice-aggregate-finish-2 c = search needs
 
--- src/lib.rt:339:9
 slice-aggregate-finish-3 : tie.Need-slice-aggregate-finish-3
 slice-aggregate-finish-3 c = search needs
 
--- src/lib.rt:340:9
 slice-aggregate-finish-4 : tie.Need-slice-aggregate-finish-4
 slice-aggregate-finish-4 c = search needs
 
--- src/lib.rt:341:9
 slice-aggregate-finish-5 : tie.Need-slice-aggregate-finish-5
 slice-aggregate-finish-5 c = search needs
 
--- src/lib.rt:342:9
 slice-aggregate-finish-6 : tie.Need-slice-aggregate-finish-6
 slice-aggregate-finish-6 c = search needs
 
--- src/lib.rt:324:5
 finish-requires : tie.Need-finish-requires
 finish-requires c κs =
     let a = c .before .before .before .before .before .before .before .before .before .before .before .before .before .before .before .before .before .before .before .before .before in
@@ -37,35 +30,27 @@ finish-requires c κs =
     let g = a .pre .2 in
     (g .loaded, is-valid (a .args .s .now) (g .read), g .left, g .right, w .lefts, w .rights, a .pre .1, ready-unless _ _ _ _ _ _ _ _ _ _ (g .ready), roomy-arrays 64 (omega arith))
 
--- src/lib.rt:300:1
 same-length : tie.Need-same-length
 same-length c = search needs
 
--- src/lib.rt:300:1
 same-length-2 : tie.Need-same-length-2
 same-length-2 c = search needs
 
--- src/lib.rt:300:1
 same-length-3 : tie.Need-same-length-3
 same-length-3 c = search needs
 
--- src/lib.rt:300:1
 same-length-4 : tie.Need-same-length-4
 same-length-4 c = search needs
 
--- src/lib.rt:300:1
 same-length-5 : tie.Need-same-length-5
 same-length-5 c = search needs
 
--- src/lib.rt:300:1
 same-length-6 : tie.Need-same-length-6
 same-length-6 c = search needs
 
--- src/lib.rt:300:1
 same-length-7 : tie.Need-same-length-7
 same-length-7 c = search needs
 
--- src/lib.rt:300:1
 returns : tie.Need-returns
 returns c = search needs
 

@@ -4,36 +4,28 @@ use Rattle.au.specs.Prepared.{pairsOf}
 use Rattle.au.proofs.pairs_of.Statement.{statement}
 use Rattle.au.proofs.pairs_of.Tie as tie
 
--- src/lib.rt:90:24
 enum-known-p : tie.Need-enum-known-p
 enum-known-p c = search needs
 
--- src/lib.rt:91:22
 enum-known-p-2 : tie.Need-enum-known-p-2
 enum-known-p-2 c = search needs
 
--- src/lib.rt:91:32
 pairs-begun-requires : tie.Need-pairs-begun-requires
 pairs-begun-requires c κs = search needs
 
--- src/lib.rt:92:25
 enum-known-p-3 : tie.Need-enum-known-p-3
 enum-known-p-3 c = search needs
 
--- src/lib.rt:92:35
 pairs-built-requires : tie.Need-pairs-built-requires
 pairs-built-requires c κs = search needs
 
--- src/lib.rt:86:1
 returns : tie.Need-returns
 returns c = search needs
 
--- src/lib.rt:86:1
 returns-2 : tie.Need-returns-2
 returns-2 c =
     sym (ap pairsOf (c .before .before .p2 .given .1) ∙ sym (c .pairs-begun .ensures))
 
--- src/lib.rt:86:1
 returns-3 : tie.Need-returns-3
 returns-3 c =
     sym (ap pairsOf (c .before .before .p3 .given .1) ∙ sym (c .pairs-built .ensures))

@@ -6,31 +6,24 @@ use Rattle.au.specs.PreparedLaws.{stop-refused, stop-doubled}
 use Rattle.au.proofs.prepare.Statement.{statement}
 use Rattle.au.proofs.prepare.Tie as tie
 
--- src/lib.rt:143:9
 judge-requires : tie.Need-judge-requires
 judge-requires c κs = search needs
 
--- src/lib.rt:145:26
 enum-known-v : tie.Need-enum-known-v
 enum-known-v c = search needs
 
--- src/lib.rt:146:26
 enum-known-v-2 : tie.Need-enum-known-v-2
 enum-known-v-2 c = search needs
 
--- src/lib.rt:147:27
 enum-known-v-3 : tie.Need-enum-known-v-3
 enum-known-v-3 c = search needs
 
--- src/lib.rt:147:47
 wide-requires : tie.Need-wide-requires
 wide-requires c κs = search needs
 
--- src/lib.rt:147:59
 wide-requires-2 : tie.Need-wide-requires-2
 wide-requires-2 c κs = search needs
 
--- src/lib.rt:147:34
 start-requires : tie.Need-start-requires
 start-requires c κs =
     let a = c .before .before .before .before .before .before .before .before .before .before .before .before .before .before .before .before .before in
@@ -39,7 +32,6 @@ start-requires c κs =
     let e = c .before .before .before .before .before .before .before .before .v3 .given .1 in
     (subst (λ (z : Verdict). Carries s z) e (j .ensures .1), sym (j .ensures .0) ∙ ap (λ (z : Verdict). resultOf s z) e, a .pre)
 
--- src/lib.rt:129:1
 returns : tie.Need-returns
 returns c =
     let a = c .before .before .before .before .before .before .before .before .before .before in
@@ -48,7 +40,6 @@ returns c =
     let e = c .before .v .given .1 in
     stop-refused s (a .args .left) (a .args .right) (a .args .budget) (c .before .v .given .0 .0) (sym (ap (λ (z : Verdict). resultOf s z) e) ∙ j .ensures .0) (subst (λ (z : Verdict). Carries s z) e (j .ensures .1))
 
--- src/lib.rt:129:1
 returns-2 : tie.Need-returns-2
 returns-2 c =
     let a = c .before .before .before .before .before .before .before .before .before .before in
@@ -57,27 +48,21 @@ returns-2 c =
     let e = c .before .v2 .given .1 in
     stop-doubled s (a .args .left) (a .args .right) (a .args .budget) (c .before .v2 .given .0 .0) (sym (ap (λ (z : Verdict). resultOf s z) e) ∙ j .ensures .0) (subst (λ (z : Verdict). Carries s z) e (j .ensures .1))
 
--- src/lib.rt:129:1
 same-length : tie.Need-same-length
 same-length c = search needs
 
--- src/lib.rt:129:1
 same-length-2 : tie.Need-same-length-2
 same-length-2 c = search needs
 
--- src/lib.rt:129:1
 same-length-3 : tie.Need-same-length-3
 same-length-3 c = search needs
 
--- src/lib.rt:129:1
 same-length-4 : tie.Need-same-length-4
 same-length-4 c = search needs
 
--- src/lib.rt:129:1
 same-length-5 : tie.Need-same-length-5
 same-length-5 c = search needs
 
--- src/lib.rt:129:1
 returns-3 : tie.Need-returns-3
 returns-3 c = rw (c .before .before .before .before .before .before .before .before .before .before .before .before .before .before .before .before .before .wide .ensures .0, c .before .before .before .before .before .before .before .before .before .before .before .before .before .before .before .before .wide2 .ensures .0) at (c .before .before .before .before .before .before .before .before .before .before .start .ensures)
 

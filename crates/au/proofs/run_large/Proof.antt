@@ -6,37 +6,29 @@ use Rattle.au.specs.Tiers.{begun-full, as-long, zeros-long, whole-zeros,
 use Rattle.au.proofs.run_large.Statement.{statement}
 use Rattle.au.proofs.run_large.Tie as tie
 
--- src/lib.rt:422:9
 slice-aggregate-begin : tie.Need-slice-aggregate-begin
 slice-aggregate-begin c = search needs
 
--- src/lib.rt:423:9
 slice-aggregate-begin-2 : tie.Need-slice-aggregate-begin-2
 slice-aggregate-begin-2 c = search needs
 
--- src/lib.rt:424:9
 slice-aggregate-begin-3 : tie.Need-slice-aggregate-begin-3
 slice-aggregate-begin-3 c = search needs
 
--- src/lib.rt:414:9
 begin-requires : tie.Need-begin-requires
 begin-requires c κs =
     let a = c .before .before .before .before .before .before .before .before .before .before in
     (a .pre .0, is-valid (a .args .s .now) (a .pre .1), a .pre .2, a .pre .3, a .pre .4, a .pre .5, omega (arith, zeros-long 69634))
 
--- src/lib.rt:435:9
 slice-aggregate-finish-large : tie.Need-slice-aggregate-finish-large
 slice-aggregate-finish-large c = search needs
 
--- src/lib.rt:437:9
 slice-aggregate-finish-large-2 : tie.Need-slice-aggregate-finish-large-2
 slice-aggregate-finish-large-2 c = search needs
 
--- src/lib.rt:438:9
 slice-aggregate-finish-large-3 : tie.Need-slice-aggregate-finish-large-3
 slice-aggregate-finish-large-3 c = search needs
 
--- src/lib.rt:426:5
 finish-large-requires : tie.Need-finish-large-requires
 finish-large-requires c κs =
     let a = c .before .before .before .before .before .before .before .before .before .before .before .before .before .before .before .before .before .before .before .before .before .before .before .before .before in
@@ -44,23 +36,18 @@ finish-large-requires c κs =
     let B = begun-full (x .result) (replicate 65536 0) (replicate 69634 0) (replicate 65536 0) (zeros-long 65536) whole-zeros (x .ensures) in
     (full-arrays (as-long 4096 (a .pre .4) (x .kept .1 .1 .1 .1 .1 .0)) (as-long 4096 (a .pre .5) (x .kept .1 .1 .1 .1 .1 .1 .0)) (x .kept .1 .1 .1 .1 .1 .1 .1 .0) (x .kept .1 .1 .1 .1 .1 .1 .1 .1 .0) (x .kept .1 .1 .1 .1 .1 .1 .1 .1 .1 .0), a .pre .6, begins-goes _ _ _ _ _ _ _ _ _ _ _ _ _ _ _ _ (a .pre .1) (a .pre .0) (a .pre .2) (a .pre .3) B (x .kept .1 .1 .1 .1 .1 .1 .1 .0))
 
--- src/lib.rt:397:1
 same-length : tie.Need-same-length
 same-length c = search needs
 
--- src/lib.rt:397:1
 same-length-2 : tie.Need-same-length-2
 same-length-2 c = search needs
 
--- src/lib.rt:397:1
 same-length-3 : tie.Need-same-length-3
 same-length-3 c = search needs
 
--- src/lib.rt:397:1
 same-length-4 : tie.Need-same-length-4
 same-length-4 c = search needs
 
--- src/lib.rt:397:1
 returns : tie.Need-returns
 returns c =
     let x = c .before .before .before .before .before .before .before .before .before .before .before .before .before .before .before .before .before .before .before .before .before .before .before .before .before .before .begin in

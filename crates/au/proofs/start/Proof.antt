@@ -6,30 +6,25 @@ use Rattle.au.specs.Tiers.{begun-long, as-long}
 use Rattle.au.proofs.start.Statement.{statement}
 use Rattle.au.proofs.start.Tie as tie
 
--- src/lib.rt:170:9
 returns : tie.Need-returns
 returns c =
     let a = c .before .before .before .before .before .before .before .before in
     stop-left (a .args .s .now) (a .args .left) (a .args .right) (a .args .budget) (a .args .im) (a .pre .0) (a .pre .1) (omega (arith, c .if1 .taken))
 
--- src/lib.rt:173:9
 returns-2 : tie.Need-returns-2
 returns-2 c =
     let a = c .before .before .before .before .before .before .before .before .before .before in
     stop-right (a .args .s .now) (a .args .left) (a .args .right) (a .args .budget) (a .args .im) (a .pre .0) (a .pre .1) (omega (arith, c .before .before .if1 .left)) (omega (arith, c .if2 .taken))
 
--- src/lib.rt:175:9
 begin-requires : tie.Need-begin-requires
 begin-requires c κs =
     let a = c .before .before .before .before .before .before .before .before .before .before .before .before .before .before .before in
     let w = a .pre .2 in
     (a .pre .0, is-valid (a .args .s .now) (a .pre .1), omega (arith, c .before .before .before .before .before .before .before .if1 .left), omega (arith, c .before .before .before .before .before .if2 .left), w .lefts, w .rights, omega (arith, w .terms))
 
--- src/lib.rt:187:8
 begun-short-requires : tie.Need-begun-short-requires
 begun-short-requires c κs = search needs
 
--- src/lib.rt:188:13
 build-again-requires : tie.Need-build-again-requires
 build-again-requires c κs =
     let a = c .before .before .before .before .before .before .before .before .before .before .before .before .before .before .before .before .before .before .before .before .before .before .before .before .before .before .before .before .before .before in
@@ -37,51 +32,39 @@ build-again-requires c κs =
     let w = a .pre .2 in
     (a .pre .0, a .pre .1, omega (arith, c .before .before .before .before .before .before .before .before .before .before .before .before .before .before .before .before .before .before .before .before .before .before .if1 .left), omega (arith, c .before .before .before .before .before .before .before .before .before .before .before .before .before .before .before .before .before .before .before .before .if2 .left), as-long 4096 (w .lefts) (x .kept .1 .1 .1 .1 .1 .0), as-long 4096 (w .rights) (x .kept .1 .1 .1 .1 .1 .1 .0))
 
--- src/lib.rt:189:9
 same-length : tie.Need-same-length
 same-length c = search needs
 
--- src/lib.rt:189:9
 same-length-2 : tie.Need-same-length-2
 same-length-2 c = search needs
 
--- src/lib.rt:189:9
 same-length-3 : tie.Need-same-length-3
 same-length-3 c = search needs
 
--- src/lib.rt:189:9
 same-length-4 : tie.Need-same-length-4
 same-length-4 c = search needs
 
--- src/lib.rt:189:9
 same-length-5 : tie.Need-same-length-5
 same-length-5 c = search needs
 
--- src/lib.rt:189:9
 returns-3 : tie.Need-returns-3
 returns-3 c = search needs
 
--- src/lib.rt:154:1
 same-length-6 : tie.Need-same-length-6
 same-length-6 c = search needs
 
--- src/lib.rt:154:1
 same-length-7 : tie.Need-same-length-7
 same-length-7 c = search needs
 
--- src/lib.rt:154:1
 same-length-8 : tie.Need-same-length-8
 same-length-8 c = search needs
 
--- src/lib.rt:154:1
 same-length-9 : tie.Need-same-length-9
 same-length-9 c = search needs
 
--- src/lib.rt:154:1
 same-length-10 : tie.Need-same-length-10
 same-length-10 c = search needs
 
--- src/lib.rt:154:1
 returns-4 : tie.Need-returns-4
 returns-4 c =
     let a = c .before .before .before .before .before .before .before .before .before .before .before .before .before .before .before .before .before .before .before .before .before .before .before .before .before .before .before .before in

@@ -19,34 +19,27 @@ use Rattle.image.proofs.member_value.Reads as member-value-reads
 use Rattle.best_terms.proofs.lit_term.Reads as lit-term-reads
 use Rattle.best_terms.proofs.op_term.Reads as op-term-reads
 
--- src/lib.rt:136:9
 member-op-requires : tie.Need-member-op-requires
 member-op-requires c κs = search needs
 
--- src/lib.rt:137:9
 kind-requires : tie.Need-kind-requires
 kind-requires c κs = search needs
 
--- src/lib.rt:139:13
 member-value-requires : tie.Need-member-value-requires
 member-value-requires c κs = search needs
 
--- src/lib.rt:140:9
 lit-term-requires : tie.Need-lit-term-requires
 lit-term-requires c κs =
     let b = c .before .before .before .before .before .before .before .before .before .before in
     let a = b .args in
     (b .pre .0, omega (arith, c .before .before .before .before .before .member-op .ensures .0, b .pre .3, b .pre .4), c .before .before .member-value .ensures .1)
 
--- src/lib.rt:140:9
 same-length : tie.Need-same-length
 same-length c = search needs
 
--- src/lib.rt:140:9
 same-length-2 : tie.Need-same-length-2
 same-length-2 c = search needs
 
--- src/lib.rt:140:9
 returns : tie.Need-returns
 returns c =
     let b = c .before .before .before .before .before .before .before .before .before .before .before .before .before .before .before in
@@ -54,22 +47,18 @@ returns c =
     let o = c .before .before .before .before .before .before .before .before .before .before .member-op .ensures .0 in
     rw (← member-literal (tablesOf (a .s .now)) (a .best .now) (theMember (tablesOf (a .s .now)) (a .m)) (c .before .before .before .before .before .before .before .before .before .before .member-op .result) (c .before .before .before .before .before .before .before .member-value .result) o (c .before .before .before .before .before .before .before .member-value .ensures .0) (rw o at (sym (c .before .before .before .before .before .before .before .before .before .kind .ensures .0)) ∙ c .before .before .before .before .before .before .before .before .if1 .taken)) (c .before .before .before .before .lit-term .ensures)
 
--- src/lib.rt:142:5
 op-term-requires : tie.Need-op-term-requires
 op-term-requires c κs =
     let b = c .before .before .before .before .before .before .before .before .before in
     let a = b .args in
     (b .pre .0, b .pre .1, b .pre .2, omega (arith, c .before .before .before .before .member-op .ensures .0, b .pre .3, b .pre .4), b .pre .5)
 
--- src/lib.rt:125:1
 same-length-3 : tie.Need-same-length-3
 same-length-3 c = search needs
 
--- src/lib.rt:125:1
 same-length-4 : tie.Need-same-length-4
 same-length-4 c = search needs
 
--- src/lib.rt:125:1
 returns-2 : tie.Need-returns-2
 returns-2 c =
     let b = c .before .before .before .before .before .before .before .before .before .before .before .before .before .before in

@@ -17,45 +17,36 @@ use Rattle.best_terms.proofs.best_term.Lts as lts
 use Rattle.best_terms.proofs.build_best_term.Reads as build-best-term-reads
 use Rattle.best_terms.proofs.kept.Reads as kept-reads
 
--- src/lib.rt:208:9
 kept-requires : tie.Need-kept-requires
 kept-requires c κs =
     let b = c .before .before .before .before .before in
     let a = b .args in
     omega (arith, b .pre .3, b .pre .4, classes-many (a .s .now) (a .im) (b .pre .1), b .pre .2 .counts .fewClasses)
 
--- src/lib.rt:210:9
 build-best-term-requires : tie.Need-build-best-term-requires
 build-best-term-requires c κs =
     let b = c .before .before .before .before .before .before .before .before .before .before in
     let a = b .args in
     (b .pre .0, b .pre .1, b .pre .2, b .pre .3, b .pre .4, b .pre .5, sym (c .before .before .before .before .kept .ensures .0) ∙ c .before .before .before .if1 .taken)
 
--- src/lib.rt:210:9
 same-length : tie.Need-same-length
 same-length c = search needs
 
--- src/lib.rt:210:9
 same-length-2 : tie.Need-same-length-2
 same-length-2 c = search needs
 
--- src/lib.rt:210:9
 same-length-3 : tie.Need-same-length-3
 same-length-3 c = search needs
 
--- src/lib.rt:210:9
 returns : tie.Need-returns
 returns c = search needs
 
--- src/lib.rt:212:19
 sub-t17 : tie.Need-sub-t17
 sub-t17 c = search needs
 
--- src/lib.rt:197:1
 same-length-4 : tie.Need-same-length-4
 same-length-4 c = search needs
 
--- src/lib.rt:197:1
 returns-2 : tie.Need-returns-2
 returns-2 c =
     let b = c .before .before .before .before .before .before .before in

@@ -35,14 +35,12 @@ Inv-outer s im terms₀ runs₀ best₀ class waiting₀ c₀ terms runs best wa
 abbrev μ-outer : tie.MeasureT-outer
 μ-outer s im terms₀ runs₀ best₀ class waiting₀ c₀ terms runs best waiting c = zeros best * 2147483647 + bestSize (tablesOf s) c
 
--- src/lib.rt:159:5
 outer-holds : tie.Need-outer-holds Inv-inner μ-inner Inv-outer μ-outer
 outer-holds c =
     let b = c .before .before .before .before in
     let a = b .args in
     (walk-start (tablesOf (a .s .now)) (a .class) (a .terms .now) (a .runs .now) (a .best .now) (b .pre .0) (b .pre .5) (omega (arith, b .pre .3, classes-many (a .s .now) (a .im) (b .pre .1))) (b .pre .6) (replicate 256 0) (getD-replicate 256 (a .class) 0 0 (omega (arith, b .pre .3, classes-many (a .s .now) (a .im) (b .pre .1), b .pre .2 .counts .fewClasses))), b .pre .4, length-replicate {A = ℕ} 256 0, refl, refl)
 
--- src/lib.rt:160:13
 best-member-requires : tie.Need-best-member-requires Inv-inner μ-inner Inv-outer μ-outer
 best-member-requires c κs =
     let b = c .before .before .before .before .before in
@@ -50,7 +48,6 @@ best-member-requires c κs =
     let o = c .outer in
     (b .pre .1, turn-class (a .s .now) (a .im) (b .pre .1) (b .pre .2) (a .terms .now) (a .runs .now) (a .best .now) (a .class) (o .terms) (o .runs) (o .best) (o .waiting) (o .c) (o .inv .0) (o .inv .1))
 
--- src/lib.rt:161:13
 first-child-requires : tie.Need-first-child-requires Inv-inner μ-inner Inv-outer μ-outer
 first-child-requires c κs =
     let b = c .before .before .before .before .before .before in
@@ -58,7 +55,6 @@ first-child-requires c κs =
     let o = c .before .outer in
     (b .pre .1, turn-member (a .s .now) (a .im) (b .pre .1) (b .pre .2) (a .terms .now) (a .runs .now) (a .best .now) (a .class) (o .terms) (o .runs) (o .best) (o .waiting) (o .c) (o .inv .0) (o .inv .1) (c .best-member .result) (c .best-member .ensures .0))
 
--- src/lib.rt:162:13
 child-count-requires : tie.Need-child-count-requires Inv-inner μ-inner Inv-outer μ-outer
 child-count-requires c κs =
     let b = c .before .before .before .before .before .before .before in
@@ -66,12 +62,10 @@ child-count-requires c κs =
     let o = c .before .before .outer in
     (b .pre .1, turn-member (a .s .now) (a .im) (b .pre .1) (b .pre .2) (a .terms .now) (a .runs .now) (a .best .now) (a .class) (o .terms) (o .runs) (o .best) (o .waiting) (o .c) (o .inv .0) (o .inv .1) (c .before .best-member .result) (c .before .best-member .ensures .0))
 
--- src/lib.rt:164:13
 inner-holds : tie.Need-inner-holds Inv-inner μ-inner Inv-outer μ-outer
 inner-holds c =
     (omega arith, refl, refl, refl, refl, λ j h. absurd (not-suc-le-zero h))
 
--- src/lib.rt:166:21
 best-of-requires : tie.Need-best-of-requires Inv-inner μ-inner Inv-outer μ-outer
 best-of-requires c κs =
     let b = c .before .before .before .before .before .before .before .before .before .before .before .before .before in
@@ -81,29 +75,24 @@ best-of-requires c κs =
     let r = turn-ready (a .s .now) (a .im) (b .pre .1) (b .pre .2) (a .terms .now) (a .runs .now) (a .best .now) (a .class) (o .terms) (o .runs) (o .best) (o .waiting) (o .c) (o .inv .0) (o .inv .1) (c .before .before .before .before .before .before .before .best-member .result) (c .before .before .before .before .before .before .before .best-member .ensures .0) (c .before .before .before .before .before .before .first-child .result) (c .before .before .before .before .before .child-count .result) (c .before .before .before .before .before .before .first-child .ensures .0) (c .before .before .before .before .before .child-count .ensures .0) (λ j h. l .inv .5 j (omega (arith, c .before .before .before .if1 .taken))) in
     rw (l .inv .1, l .inv .2) (o .inv .0 .holds, b .pre .1, turn-member (a .s .now) (a .im) (b .pre .1) (b .pre .2) (a .terms .now) (a .runs .now) (a .best .now) (a .class) (o .terms) (o .runs) (o .best) (o .waiting) (o .c) (o .inv .0) (o .inv .1) (c .before .before .before .before .before .before .before .best-member .result) (c .before .before .before .before .before .before .before .best-member .ensures .0), r .0, r .1, r .2)
 
--- src/lib.rt:169:25
 enum-told : tie.Need-enum-told Inv-inner μ-inner Inv-outer μ-outer
 enum-told c = search needs
 
--- src/lib.rt:169:25
 same-length : tie.Need-same-length Inv-inner μ-inner Inv-outer μ-outer
 same-length c =
     let o = c .before .before .before .before .before .before .before .before .before .before .before .before .before .before .before .outer in
     let l = c .before .before .before .before .before .before .before .before .before .before .before .inner in
     omega (arith, ap length (l .inv .1), o .inv .3, c .before .before .before .before .before .before .best-of .kept)
 
--- src/lib.rt:169:25
 same-length-2 : tie.Need-same-length-2 Inv-inner μ-inner Inv-outer μ-outer
 same-length-2 c =
     let o = c .before .before .before .before .before .before .before .before .before .before .before .before .before .before .before .outer in
     let l = c .before .before .before .before .before .before .before .before .before .before .before .inner in
     omega (arith, ap length (l .inv .2), o .inv .4, c .before .before .before .before .before .before .best-of .kept)
 
--- src/lib.rt:169:25
 same-length-3 : tie.Need-same-length-3 Inv-inner μ-inner Inv-outer μ-outer
 same-length-3 c = search needs
 
--- src/lib.rt:169:25
 returns : tie.Need-returns Inv-inner μ-inner Inv-outer μ-outer
 returns c =
     let b = c .before .before .before .before .before .before .before .before .before .before .before .before .before .before .before .before .before .before .before .before in
@@ -112,29 +101,24 @@ returns c =
     let l = c .before .before .before .before .before .before .before .before .before .before .before .inner in
     turn-full (a .s .now) (a .im) (b .pre .1) (b .pre .2) (a .terms .now) (a .runs .now) (a .best .now) (a .class) (o .terms) (o .runs) (o .best) (o .waiting) (o .c) (o .inv .0) (o .inv .1) (c .before .before .before .before .before .before .before .before .before .before .before .before .before .before .best-member .result) (c .before .before .before .before .before .before .before .before .before .before .before .before .before .before .best-member .ensures .0) (c .before .before .before .before .before .before .before .before .before .before .before .before .before .first-child .result) (c .before .before .before .before .before .before .before .before .before .before .before .before .child-count .result) (c .before .before .before .before .before .before .before .before .before .before .before .before .before .first-child .ensures .0) (c .before .before .before .before .before .before .before .before .before .before .before .before .child-count .ensures .0) (λ j h. l .inv .5 j (omega (arith, c .before .before .before .before .before .before .before .before .before .before .if1 .taken))) _ _ (rw (l .inv .1, l .inv .2, c .enum-told .given .1) at (c .before .before .before .before .before .before .best-of .ensures))
 
--- src/lib.rt:172:25
 enum-told-2 : tie.Need-enum-told-2 Inv-inner μ-inner Inv-outer μ-outer
 enum-told-2 c = search needs
 
--- src/lib.rt:172:25
 same-length-4 : tie.Need-same-length-4 Inv-inner μ-inner Inv-outer μ-outer
 same-length-4 c =
     let o = c .before .before .before .before .before .before .before .before .before .before .before .before .before .before .before .outer in
     let l = c .before .before .before .before .before .before .before .before .before .before .before .inner in
     omega (arith, ap length (l .inv .1), o .inv .3, c .before .before .before .before .before .before .best-of .kept)
 
--- src/lib.rt:172:25
 same-length-5 : tie.Need-same-length-5 Inv-inner μ-inner Inv-outer μ-outer
 same-length-5 c =
     let o = c .before .before .before .before .before .before .before .before .before .before .before .before .before .before .before .outer in
     let l = c .before .before .before .before .before .before .before .before .before .before .before .inner in
     omega (arith, ap length (l .inv .2), o .inv .4, c .before .before .before .before .before .before .best-of .kept)
 
--- src/lib.rt:172:25
 same-length-6 : tie.Need-same-length-6 Inv-inner μ-inner Inv-outer μ-outer
 same-length-6 c = search needs
 
--- src/lib.rt:172:25
 returns-2 : tie.Need-returns-2 Inv-inner μ-inner Inv-outer μ-outer
 returns-2 c =
     let a = c .before .before .before .before .before .before .before .before .before .before .before .before .before .before .before .before .before .before .before .before .args in
@@ -143,11 +127,9 @@ returns-2 c =
     let u = rw (l .inv .1, l .inv .2, c .enum-told2 .given .1) at (c .before .before .before .before .before .before .best-of .ensures) in
     (as-short (a .terms .now) (a .runs .now) (o .terms) (o .runs) (o .inv .3) (o .inv .4) (u .0), walk-short (o .inv .0) (u .1))
 
--- src/lib.rt:174:35
 enum-known-e : tie.Need-enum-known-e Inv-inner μ-inner Inv-outer μ-outer
 enum-known-e c = search needs
 
--- src/lib.rt:179:47
 add-child-class : tie.Need-add-child-class Inv-inner μ-inner Inv-outer μ-outer
 add-child-class c =
     let b = c .before .before .before .before .before .before .before .before .before .before in
@@ -156,7 +138,6 @@ add-child-class c =
     let l = c .before .inner in
     omega (arith, turn-child (a .s .now) (a .im) (b .pre .1) (b .pre .2) (a .terms .now) (a .runs .now) (a .best .now) (a .class) (o .terms) (o .runs) (o .best) (o .waiting) (o .c) (o .inv .0) (o .inv .1) (c .before .before .before .before .best-member .result) (c .before .before .before .before .best-member .ensures .0) (c .before .before .before .first-child .result) (c .before .before .child-count .result) (c .before .before .before .first-child .ensures .0) (c .before .before .child-count .ensures .0) (l .i) (omega arith), c .before .before .before .first-child .ensures .1)
 
--- src/lib.rt:179:17
 child-class-requires : tie.Need-child-class-requires Inv-inner μ-inner Inv-outer μ-outer
 child-class-requires c κs =
     let b = c .before .before .before .before .before .before .before .before .before .before in
@@ -165,7 +146,6 @@ child-class-requires c κs =
     let l = c .before .inner in
     (b .pre .1, turn-child (a .s .now) (a .im) (b .pre .1) (b .pre .2) (a .terms .now) (a .runs .now) (a .best .now) (a .class) (o .terms) (o .runs) (o .best) (o .waiting) (o .c) (o .inv .0) (o .inv .1) (c .before .before .before .before .best-member .result) (c .before .before .before .before .best-member .ensures .0) (c .before .before .before .first-child .result) (c .before .before .child-count .result) (c .before .before .before .first-child .ensures .0) (c .before .before .child-count .ensures .0) (l .i) (omega arith))
 
--- src/lib.rt:180:16
 kept-requires : tie.Need-kept-requires Inv-inner μ-inner Inv-outer μ-outer
 kept-requires c κs =
     let b = c .before .before .before .before .before .before .before .before .before .before .before .before in
@@ -174,11 +154,9 @@ kept-requires c κs =
     let l = c .before .before .before .inner in
     omega (arith, turn-inside (a .s .now) (a .im) (b .pre .1) (b .pre .2) (a .terms .now) (a .runs .now) (a .best .now) (a .class) (o .terms) (o .runs) (o .best) (o .waiting) (o .c) (o .inv .0) (o .inv .1) (c .before .before .before .before .before .before .best-member .result) (c .before .before .before .before .before .before .best-member .ensures .0) (c .before .before .before .before .before .first-child .result) (c .before .before .before .before .child-count .result) (c .before .before .before .before .before .first-child .ensures .0) (c .before .before .before .before .child-count .ensures .0) (l .i) (omega arith), c .before .child-class .ensures .0, o .inv .1)
 
--- src/lib.rt:181:22
 slice-aggregate-put2 : tie.Need-slice-aggregate-put2 Inv-inner μ-inner Inv-outer μ-outer
 slice-aggregate-put2 c = search needs
 
--- src/lib.rt:181:39
 add-put2 : tie.Need-add-put2 Inv-inner μ-inner Inv-outer μ-outer
 add-put2 c =
     let b = c .before .before .before .before .before .before .before .before .before .before .before .before .before .before .before in
@@ -187,7 +165,6 @@ add-put2 c =
     let l = c .before .before .before .before .before .before .inner in
     omega (arith, turn-fits (a .s .now) (a .im) (b .pre .1) (b .pre .2) (a .terms .now) (a .runs .now) (a .best .now) (a .class) (o .terms) (o .runs) (o .best) (o .waiting) (o .c) (o .inv .0) (o .inv .1), l .inv .4)
 
--- src/lib.rt:181:17
 put2-requires : tie.Need-put2-requires Inv-inner μ-inner Inv-outer μ-outer
 put2-requires c κs =
     let b = c .before .before .before .before .before .before .before .before .before .before .before .before .before .before .before in
@@ -196,7 +173,6 @@ put2-requires c κs =
     let l = c .before .before .before .before .before .before .inner in
     (omega (arith, turn-inside (a .s .now) (a .im) (b .pre .1) (b .pre .2) (a .terms .now) (a .runs .now) (a .best .now) (a .class) (o .terms) (o .runs) (o .best) (o .waiting) (o .c) (o .inv .0) (o .inv .1) (c .before .before .before .before .before .before .before .before .before .best-member .result) (c .before .before .before .before .before .before .before .before .before .best-member .ensures .0) (c .before .before .before .before .before .before .before .before .first-child .result) (c .before .before .before .before .before .before .before .child-count .result) (c .before .before .before .before .before .before .before .before .first-child .ensures .0) (c .before .before .before .before .before .before .before .child-count .ensures .0) (l .i) (omega arith), c .before .before .before .before .child-class .ensures .0, o .inv .2, ap length (l .inv .3)), omega (arith, turn-fits (a .s .now) (a .im) (b .pre .1) (b .pre .2) (a .terms .now) (a .runs .now) (a .best .now) (a .class) (o .terms) (o .runs) (o .best) (o .waiting) (o .c) (o .inv .0) (o .inv .1), l .inv .4))
 
--- src/lib.rt:159:5
 outer-less : tie.Need-outer-less Inv-inner μ-inner Inv-outer μ-outer
 outer-less c =
     let b = c .before .before .before .before .before .before .before .before .before .before .before .before .before .before .before .before .before in
@@ -205,7 +181,6 @@ outer-less c =
     let l = c .before .before .before .before .before .before .before .before .inner in
     omega (arith, turn-falls (a .s .now) (a .im) (b .pre .1) (b .pre .2) (a .terms .now) (a .runs .now) (a .best .now) (a .class) (o .terms) (o .runs) (o .best) (o .waiting) (o .c) (o .inv .0) (o .inv .1) (c .before .before .before .before .before .before .before .before .before .before .before .best-member .result) (c .before .before .before .before .before .before .before .before .before .before .before .best-member .ensures .0) (c .before .before .before .before .before .before .before .before .before .before .first-child .result) (c .before .before .before .before .before .before .before .before .before .child-count .result) (c .before .before .before .before .before .before .before .before .before .before .first-child .ensures .0) (c .before .before .before .before .before .before .before .before .before .child-count .ensures .0) (l .i) (c .before .before .before .before .before .before .child-class .result) (omega arith) (c .before .before .before .before .before .before .child-class .ensures .0))
 
--- src/lib.rt:159:5
 outer-again : tie.Need-outer-again Inv-inner μ-inner Inv-outer μ-outer
 outer-again c =
     let b = c .before .before .before .before .before .before .before .before .before .before .before .before .before .before .before .before .before in
@@ -215,15 +190,12 @@ outer-again c =
     let w = turn-down (a .s .now) (a .im) (b .pre .1) (b .pre .2) (a .terms .now) (a .runs .now) (a .best .now) (a .class) (o .terms) (o .runs) (o .best) (o .waiting) (o .c) (o .inv .0) (o .inv .1) (c .before .before .before .before .before .before .before .before .before .before .before .best-member .result) (c .before .before .before .before .before .before .before .before .before .before .before .best-member .ensures .0) (c .before .before .before .before .before .before .before .before .before .before .first-child .result) (c .before .before .before .before .before .before .before .before .before .child-count .result) (c .before .before .before .before .before .before .before .before .before .before .first-child .ensures .0) (c .before .before .before .before .before .before .before .before .before .child-count .ensures .0) (l .i) (c .before .before .before .before .before .before .child-class .result) (omega arith) (c .before .before .before .before .before .before .child-class .ensures .0) (l .inv .5) (sym (c .before .before .before .before .kept .ensures .0) ∙ c .before .before .before .if2 .taken) (omega (arith, turn-inside (a .s .now) (a .im) (b .pre .1) (b .pre .2) (a .terms .now) (a .runs .now) (a .best .now) (a .class) (o .terms) (o .runs) (o .best) (o .waiting) (o .c) (o .inv .0) (o .inv .1) (c .before .before .before .before .before .before .before .before .before .before .before .best-member .result) (c .before .before .before .before .before .before .before .before .before .before .before .best-member .ensures .0) (c .before .before .before .before .before .before .before .before .before .before .first-child .result) (c .before .before .before .before .before .before .before .before .before .child-count .result) (c .before .before .before .before .before .before .before .before .before .before .first-child .ensures .0) (c .before .before .before .before .before .before .before .before .before .child-count .ensures .0) (l .i) (omega arith), c .before .before .before .before .before .before .child-class .ensures .0, o .inv .2)) in
     (rw (c .before .put2 .ensures, l .inv .1, l .inv .2, l .inv .3, l .inv .4) w, o .inv .1, rw (c .before .put2 .ensures, l .inv .3) (length-set (o .waiting) _ _ ∙ o .inv .2), rw (l .inv .1) (o .inv .3), rw (l .inv .2) (o .inv .4))
 
--- src/lib.rt:185:13
 add-i : tie.Need-add-i Inv-inner μ-inner Inv-outer μ-outer
 add-i c = search needs
 
--- src/lib.rt:164:13
 inner-less : tie.Need-inner-less Inv-inner μ-inner Inv-outer μ-outer
 inner-less c = search needs
 
--- src/lib.rt:164:13
 inner-again : tie.Need-inner-again Inv-inner μ-inner Inv-outer μ-outer
 inner-again c =
     let b = c .before .before .before .before .before .before .before .before .before .before .before .before .before .before in
@@ -232,7 +204,6 @@ inner-again c =
     let l = c .before .before .before .before .before .inner in
     (omega arith, l .inv .1, l .inv .2, l .inv .3, l .inv .4, more-built (o .best) (tablesOf (a .s .now)) (c .before .before .before .before .before .before .before .first-child .result) (l .i) (c .before .before .before .child-class .result) (c .before .before .before .child-class .ensures .0) (omega (arith, c .before .kept .ensures .0, c .if2 .left)) (l .inv .5))
 
--- src/lib.rt:187:23
 add-put2-2 : tie.Need-add-put2-2 Inv-inner μ-inner Inv-outer μ-outer
 add-put2-2 c =
     let b = c .before .before .before .before .before .before .before .before .before .before .before .before .before .before .before .before .before .before .before .before .before .before in
@@ -241,7 +212,6 @@ add-put2-2 c =
     let l = c .before .before .before .before .before .before .before .before .before .before .before .before .before .inner in
     omega (arith, turn-small (a .s .now) (a .im) (b .pre .1) (b .pre .2) (a .terms .now) (a .runs .now) (a .best .now) (a .class) (o .terms) (o .runs) (o .best) (o .waiting) (o .c) (o .inv .0) (o .inv .1) (c .before .before .before .before .before .before .before .before .before .before .before .before .before .before .before .before .best-member .result) (c .before .before .before .before .before .before .before .before .before .before .before .before .before .before .before .before .best-member .ensures .0) (c .before .before .before .before .before .before .before .before .before .before .before .before .before .before .before .first-child .result) (c .before .before .before .before .before .before .before .before .before .before .before .before .before .before .child-count .result) (c .before .before .before .before .before .before .before .before .before .before .before .before .before .before .before .first-child .ensures .0) (c .before .before .before .before .before .before .before .before .before .before .before .before .before .before .child-count .ensures .0) (λ j h. l .inv .5 j (omega (arith, c .before .before .before .before .before .before .before .before .before .before .before .before .if1 .taken))) _ _ _ (rw (l .inv .1, l .inv .2, c .before .before .e .given .1) at (c .before .before .before .before .before .before .before .before .best-of .ensures)))
 
--- src/lib.rt:187:9
 put2-requires-2 : tie.Need-put2-requires-2 Inv-inner μ-inner Inv-outer μ-outer
 put2-requires-2 c κs =
     let b = c .before .before .before .before .before .before .before .before .before .before .before .before .before .before .before .before .before .before .before .before .before .before in
@@ -250,14 +220,12 @@ put2-requires-2 c κs =
     let l = c .before .before .before .before .before .before .before .before .before .before .before .before .before .inner in
     (omega (arith, turn-fits (a .s .now) (a .im) (b .pre .1) (b .pre .2) (a .terms .now) (a .runs .now) (a .best .now) (a .class) (o .terms) (o .runs) (o .best) (o .waiting) (o .c) (o .inv .0) (o .inv .1), l .inv .4, o .inv .1), omega (arith, turn-small (a .s .now) (a .im) (b .pre .1) (b .pre .2) (a .terms .now) (a .runs .now) (a .best .now) (a .class) (o .terms) (o .runs) (o .best) (o .waiting) (o .c) (o .inv .0) (o .inv .1) (c .before .before .before .before .before .before .before .before .before .before .before .before .before .before .before .before .best-member .result) (c .before .before .before .before .before .before .before .before .before .before .before .before .before .before .before .before .best-member .ensures .0) (c .before .before .before .before .before .before .before .before .before .before .before .before .before .before .before .first-child .result) (c .before .before .before .before .before .before .before .before .before .before .before .before .before .before .child-count .result) (c .before .before .before .before .before .before .before .before .before .before .before .before .before .before .before .first-child .ensures .0) (c .before .before .before .before .before .before .before .before .before .before .before .before .before .before .child-count .ensures .0) (λ j h. l .inv .5 j (omega (arith, c .before .before .before .before .before .before .before .before .before .before .before .before .if1 .taken))) _ _ _ (rw (l .inv .1, l .inv .2, c .before .before .e .given .1) at (c .before .before .before .before .before .before .before .before .best-of .ensures))))
 
--- src/lib.rt:188:22
 slice-aggregate-kept : tie.Need-slice-aggregate-kept Inv-inner μ-inner Inv-outer μ-outer
 slice-aggregate-kept c =
     let o = c .before .before .before .before .before .before .before .before .before .before .before .before .before .before .before .before .before .before .before .before .before .outer in
     let l = c .before .before .before .before .before .before .before .before .before .before .before .before .before .before .before .before .before .inner in
     omega (arith, ap length (l .inv .3), o .inv .2)
 
--- src/lib.rt:188:13
 kept-requires-2 : tie.Need-kept-requires-2 Inv-inner μ-inner Inv-outer μ-outer
 kept-requires-2 c κs =
     let b = c .before .before .before .before .before .before .before .before .before .before .before .before .before .before .before .before .before .before .before .before .before .before .before .before .before .before in
@@ -266,21 +234,18 @@ kept-requires-2 c κs =
     let l = c .before .before .before .before .before .before .before .before .before .before .before .before .before .before .before .before .before .inner in
     omega (arith, turn-fits (a .s .now) (a .im) (b .pre .1) (b .pre .2) (a .terms .now) (a .runs .now) (a .best .now) (a .class) (o .terms) (o .runs) (o .best) (o .waiting) (o .c) (o .inv .0) (o .inv .1), l .inv .4, ap length (l .inv .3), o .inv .2)
 
--- src/lib.rt:190:13
 same-length-7 : tie.Need-same-length-7 Inv-inner μ-inner Inv-outer μ-outer
 same-length-7 c =
     let o = c .before .before .before .before .before .before .before .before .before .before .before .before .before .before .before .before .before .before .before .before .before .before .before .outer in
     let l = c .before .before .before .before .before .before .before .before .before .before .before .before .before .before .before .before .before .before .before .inner in
     omega (arith, ap length (l .inv .1), o .inv .3, c .before .before .before .before .before .before .before .before .before .before .before .before .before .before .best-of .kept)
 
--- src/lib.rt:190:13
 same-length-8 : tie.Need-same-length-8 Inv-inner μ-inner Inv-outer μ-outer
 same-length-8 c =
     let o = c .before .before .before .before .before .before .before .before .before .before .before .before .before .before .before .before .before .before .before .before .before .before .before .outer in
     let l = c .before .before .before .before .before .before .before .before .before .before .before .before .before .before .before .before .before .before .before .inner in
     omega (arith, ap length (l .inv .2), o .inv .4, c .before .before .before .before .before .before .before .before .before .before .before .before .before .before .best-of .kept)
 
--- src/lib.rt:190:13
 same-length-9 : tie.Need-same-length-9 Inv-inner μ-inner Inv-outer μ-outer
 same-length-9 c =
     let b = c .before .before .before .before .before .before .before .before .before .before .before .before .before .before .before .before .before .before .before .before .before .before .before .before .before .before .before .before in
@@ -288,7 +253,6 @@ same-length-9 c =
     let o = c .before .before .before .before .before .before .before .before .before .before .before .before .before .before .before .before .before .before .before .before .before .before .before .outer in
     omega (arith, o .inv .1, b .pre .4, c .before .before .before .before .before .put22 .kept)
 
--- src/lib.rt:190:13
 returns-3 : tie.Need-returns-3 Inv-inner μ-inner Inv-outer μ-outer
 returns-3 c =
     let b = c .before .before .before .before .before .before .before .before .before .before .before .before .before .before .before .before .before .before .before .before .before .before .before .before .before .before .before .before in
@@ -298,11 +262,9 @@ returns-3 c =
     let z = rw (l .inv .3, l .inv .4) at (sym (c .before .kept2 .ensures .0) ∙ c .if3 .taken) in
     rw (c .before .before .before .before .before .put22 .ensures, l .inv .4) (turn-end (a .s .now) (a .im) (b .pre .1) (b .pre .2) (a .terms .now) (a .runs .now) (a .best .now) (a .class) (o .terms) (o .runs) (o .best) (o .waiting) (o .c) (o .inv .0) (o .inv .1) (c .before .before .before .before .before .before .before .before .before .before .before .before .before .before .before .before .before .before .before .before .before .before .best-member .result) (c .before .before .before .before .before .before .before .before .before .before .before .before .before .before .before .before .before .before .before .before .before .before .best-member .ensures .0) (c .before .before .before .before .before .before .before .before .before .before .before .before .before .before .before .before .before .before .before .before .before .first-child .result) (c .before .before .before .before .before .before .before .before .before .before .before .before .before .before .before .before .before .before .before .before .child-count .result) (c .before .before .before .before .before .before .before .before .before .before .before .before .before .before .before .before .before .before .before .before .before .first-child .ensures .0) (c .before .before .before .before .before .before .before .before .before .before .before .before .before .before .before .before .before .before .before .before .child-count .ensures .0) (λ j h. l .inv .5 j (omega (arith, c .before .before .before .before .before .before .before .before .before .before .before .before .before .before .before .before .before .before .if1 .taken))) _ _ _ (rw (l .inv .1, l .inv .2, c .before .before .before .before .before .before .before .before .e .given .1) at (c .before .before .before .before .before .before .before .before .before .before .before .before .before .before .best-of .ensures)) z)
 
--- src/lib.rt:192:13
 sub-c : tie.Need-sub-c Inv-inner μ-inner Inv-outer μ-outer
 sub-c c = search needs
 
--- src/lib.rt:159:5
 outer-less-2 : tie.Need-outer-less-2 Inv-inner μ-inner Inv-outer μ-outer
 outer-less-2 c =
     let b = c .before .before .before .before .before .before .before .before .before .before .before .before .before .before .before .before .before .before .before .before .before .before .before .before .before .before .before .before in
@@ -314,7 +276,6 @@ outer-less-2 c =
     let z = rw (l .inv .3, l .inv .4) at (sym (c .before .kept2 .ensures .0)) ∙ e in
     rw (c .before .before .before .before .before .put22 .ensures, l .inv .4) (turn-less (a .s .now) (a .im) (b .pre .1) (b .pre .2) (a .terms .now) (a .runs .now) (a .best .now) (a .class) (o .terms) (o .runs) (o .best) (o .waiting) (o .c) (o .inv .0) (o .inv .1) (c .before .before .before .before .before .before .before .before .before .before .before .before .before .before .before .before .before .before .before .before .before .before .best-member .result) (c .before .before .before .before .before .before .before .before .before .before .before .before .before .before .before .before .before .before .before .before .before .before .best-member .ensures .0) (c .before .before .before .before .before .before .before .before .before .before .before .before .before .before .before .before .before .before .before .before .before .first-child .result) (c .before .before .before .before .before .before .before .before .before .before .before .before .before .before .before .before .before .before .before .before .child-count .result) (c .before .before .before .before .before .before .before .before .before .before .before .before .before .before .before .before .before .before .before .before .before .first-child .ensures .0) (c .before .before .before .before .before .before .before .before .before .before .before .before .before .before .before .before .before .before .before .before .child-count .ensures .0) (λ j h. l .inv .5 j (omega (arith, c .before .before .before .before .before .before .before .before .before .before .before .before .before .before .before .before .before .before .if1 .taken))) _ _ _ (rw (l .inv .1, l .inv .2, c .before .before .before .before .before .before .before .before .e .given .1) at (c .before .before .before .before .before .before .before .before .before .before .before .before .before .before .best-of .ensures)) (q - 1) (turn-up (a .s .now) (a .im) (b .pre .1) (b .pre .2) (a .terms .now) (a .runs .now) (a .best .now) (a .class) (o .terms) (o .runs) (o .best) (o .waiting) (o .c) (o .inv .0) (o .inv .1) (c .before .before .before .before .before .before .before .before .before .before .before .before .before .before .before .before .before .before .before .before .before .before .best-member .result) (c .before .before .before .before .before .before .before .before .before .before .before .before .before .before .before .before .before .before .before .before .before .before .best-member .ensures .0) (c .before .before .before .before .before .before .before .before .before .before .before .before .before .before .before .before .before .before .before .before .before .first-child .result) (c .before .before .before .before .before .before .before .before .before .before .before .before .before .before .before .before .before .before .before .before .child-count .result) (c .before .before .before .before .before .before .before .before .before .before .before .before .before .before .before .before .before .before .before .before .before .first-child .ensures .0) (c .before .before .before .before .before .before .before .before .before .before .before .before .before .before .before .before .before .before .before .before .child-count .ensures .0) (λ j h. l .inv .5 j (omega (arith, c .before .before .before .before .before .before .before .before .before .before .before .before .before .before .before .before .before .before .if1 .taken))) _ _ _ (rw (l .inv .1, l .inv .2, c .before .before .before .before .before .before .before .before .e .given .1) at (c .before .before .before .before .before .before .before .before .before .before .before .before .before .before .best-of .ensures)) (q - 1) z .within))
 
--- src/lib.rt:159:5
 outer-again-2 : tie.Need-outer-again-2 Inv-inner μ-inner Inv-outer μ-outer
 outer-again-2 c =
     let b = c .before .before .before .before .before .before .before .before .before .before .before .before .before .before .before .before .before .before .before .before .before .before .before .before .before .before .before .before in

@@ -9,31 +9,24 @@ use Rattle.best_terms.proofs.evaluate_generalize_action.Lts as lts
 use Rattle.best_terms.proofs.clear.Reads as clear-reads
 use Rattle.best_terms.proofs.starting_term.Reads as starting-term-reads
 
--- src/lib.rt:320:9
 starting-term-requires : tie.Need-starting-term-requires
 starting-term-requires c κs = search needs
 
--- src/lib.rt:323:19
 enum-told : tie.Need-enum-told
 enum-told c = search needs
 
--- src/lib.rt:323:13
 clear-requires : tie.Need-clear-requires
 clear-requires c κs = search needs
 
--- src/lib.rt:324:13
 same-length : tie.Need-same-length
 same-length c = search needs
 
--- src/lib.rt:324:13
 same-length-2 : tie.Need-same-length-2
 same-length-2 c = search needs
 
--- src/lib.rt:324:13
 same-length-3 : tie.Need-same-length-3
 same-length-3 c = search needs
 
--- src/lib.rt:324:13
 returns : tie.Need-returns
 returns c =
     let a = c .before .before .before .before .before .before .before .before .before .before .before .before .before .before .before .before .before .before .before .before .before .before .before .before .before .before .args in
@@ -43,27 +36,21 @@ returns c =
     let z = k .last .1 .1 .1 .1 .0 in
     starts-full (tablesOf (a .s .now)) (a .l, a .r) (a .terms .now) (a .runs .now) (a .best .now) x y z (omega (arith, k .kept)) (omega (arith, k .kept)) (omega (arith, k .kept)) (rw (c .before .before .before .before .before .before .before .before .before .before .enum-told .given .1) at (k .ensures)) _ _ _ (c .before .before .before .before .before .before .clear .ensures)
 
--- src/lib.rt:327:19
 enum-told-2 : tie.Need-enum-told-2
 enum-told-2 c = search needs
 
--- src/lib.rt:327:13
 clear-requires-2 : tie.Need-clear-requires-2
 clear-requires-2 c κs = search needs
 
--- src/lib.rt:328:13
 same-length-4 : tie.Need-same-length-4
 same-length-4 c = search needs
 
--- src/lib.rt:328:13
 same-length-5 : tie.Need-same-length-5
 same-length-5 c = search needs
 
--- src/lib.rt:328:13
 same-length-6 : tie.Need-same-length-6
 same-length-6 c = search needs
 
--- src/lib.rt:328:13
 returns-2 : tie.Need-returns-2
 returns-2 c =
     let a = c .before .before .before .before .before .before .before .before .before .before .before .before .before .before .before .before .before .before .before .before .before .before .before .before .before .before .args in
@@ -74,23 +61,18 @@ returns-2 c =
     let u = rw (c .before .before .before .before .before .before .before .before .before .before .enum-told2 .given .1) at (k .ensures) in
     (u .0, starts-cleared (a .terms .now) (a .runs .now) (a .best .now) x y z (omega (arith, k .kept)) (omega (arith, k .kept)) (omega (arith, k .kept)) _ _ _ (c .before .before .before .before .before .before .clear2 .ensures))
 
--- src/lib.rt:330:23
 enum-known-e : tie.Need-enum-known-e
 enum-known-e c = search needs
 
--- src/lib.rt:331:13
 same-length-7 : tie.Need-same-length-7
 same-length-7 c = search needs
 
--- src/lib.rt:331:13
 same-length-8 : tie.Need-same-length-8
 same-length-8 c = search needs
 
--- src/lib.rt:331:13
 same-length-9 : tie.Need-same-length-9
 same-length-9 c = search needs
 
--- src/lib.rt:331:13
 returns-3 : tie.Need-returns-3
 returns-3 c =
     let a = c .before .before .before .before .before .before .before .before .before .before .before .before .before .before .before .before .before .args in

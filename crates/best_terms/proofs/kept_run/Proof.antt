@@ -16,23 +16,18 @@ use Rattle.image.proofs.child_times.Reads as child-times-reads
 use Rattle.best_terms.proofs.kept.Reads as kept-reads
 use Rattle.best_terms.proofs.long.Reads as long-reads
 
--- src/lib.rt:79:9
 child-class-requires : tie.Need-child-class-requires
 child-class-requires c κs = search needs
 
--- src/lib.rt:80:9
 child-times-requires : tie.Need-child-times-requires
 child-times-requires c κs = search needs
 
--- src/lib.rt:81:5
 mul-result : tie.Need-mul-result
 mul-result c = search needs
 
--- src/lib.rt:81:22
 kept-requires : tie.Need-kept-requires
 kept-requires c κs = search needs
 
--- src/lib.rt:81:22
 sub-long : tie.Need-sub-long
 sub-long c =
     let b = c .before .before .before .before .before in
@@ -40,15 +35,12 @@ sub-long c =
     let k = rw (c .before .before .child-class .ensures .0) at (c .kept .ensures .0) in
     omega (arith, b .pre .3)
 
--- src/lib.rt:81:17
 long-requires : tie.Need-long-requires
 long-requires c κs = search needs
 
--- src/lib.rt:81:5
 add-result : tie.Need-add-result
 add-result c = search needs
 
--- src/lib.rt:75:1
 returns : tie.Need-returns
 returns c =
     let b = c .before .before .before .before .before .before in

@@ -25,15 +25,12 @@ Inv-loop s im best list₀ k n i₀ list i = (i ≤ n) × (length list ≡ lengt
 abbrev μ-loop : tie.MeasureT-loop
 μ-loop s im best list₀ k n i₀ list i = n - i
 
--- src/lib.rt:90:5
 loop-holds : tie.Need-loop-holds Inv-loop μ-loop
 loop-holds c = (omega arith, refl, λ j h. absurd (not-suc-le-zero h))
 
--- src/lib.rt:91:45
 add-kept-run : tie.Need-add-kept-run Inv-loop μ-loop
 add-kept-run c = search needs
 
--- src/lib.rt:91:23
 kept-run-requires : tie.Need-kept-run-requires Inv-loop μ-loop
 kept-run-requires c κs =
     let b = c .before .before .before .before .before .before in
@@ -42,19 +39,15 @@ kept-run-requires c κs =
     let r = b .pre .3 (l .loop .i) (omega arith) in
     (b .pre .0, r .0, r .1, r .2, r .3)
 
--- src/lib.rt:91:9
 put8-requires : tie.Need-put8-requires Inv-loop μ-loop
 put8-requires c κs = search needs
 
--- src/lib.rt:92:9
 add-i : tie.Need-add-i Inv-loop μ-loop
 add-i c = search needs
 
--- src/lib.rt:90:5
 loop-less : tie.Need-loop-less Inv-loop μ-loop
 loop-less c = search needs
 
--- src/lib.rt:90:5
 loop-again : tie.Need-loop-again Inv-loop μ-loop
 loop-again c =
     let b = c .before .before .before .before .before .before .before .before .before .before in
@@ -63,11 +56,9 @@ loop-again c =
     let r = c .before .before .before .kept-run in
     (omega arith, omega arith, rw (c .before .before .put8 .ensures) (fill-turn (λ (j x : ℕ). (x ≡ keptNumber (a .best .now) (theChild (tablesOf (a .s .now)) (a .k + j))) × (x < 2 ^ 47)) (l .loop .list) (l .loop .i) (r .result) (omega arith) (l .loop .inv .2) (r .ensures .0, r .ensures .1)))
 
--- src/lib.rt:85:1
 same-length : tie.Need-same-length Inv-loop μ-loop
 same-length c = search needs
 
--- src/lib.rt:85:1
 returns : tie.Need-returns Inv-loop μ-loop
 returns c =
     let l = c .before in

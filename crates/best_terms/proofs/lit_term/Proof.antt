@@ -11,38 +11,30 @@ use Rattle.best_terms.proofs.lit_term.Lts as lts
 use Rattle.terms.proofs.intern.Reads as intern-reads
 use Rattle.best_terms.proofs.short.Reads as short-reads
 
--- src/lib.rt:101:32
 slice-aggregate-intern : tie.Need-slice-aggregate-intern
 slice-aggregate-intern c = search needs
 
--- src/lib.rt:101:48
 add-short : tie.Need-add-short
 add-short c = search needs
 
--- src/lib.rt:101:42
 short-requires : tie.Need-short-requires
 short-requires c κs = search needs
 
--- src/lib.rt:101:58
 cast-intern : tie.Need-cast-intern
 cast-intern c = search needs
 
--- src/lib.rt:101:5
 intern-requires : tie.Need-intern-requires
 intern-requires c κs =
     let b = c .before .before .before .before .before .before in
     let a = b .args in
     (b .pre .0, lit-node-valid (countIn (a .terms .now)) (c .short .result) (a .op) (a .v) _ (c .short .ensures) (b .pre .1), omega arith, sum-none _)
 
--- src/lib.rt:96:1
 same-length : tie.Need-same-length
 same-length c = search needs
 
--- src/lib.rt:96:1
 same-length-2 : tie.Need-same-length-2
 same-length-2 c = search needs
 
--- src/lib.rt:96:1
 returns : tie.Need-returns
 returns c =
     let b = c .before .before .before .before .before .before .before .before .before .before .before in

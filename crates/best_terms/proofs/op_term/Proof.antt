@@ -20,19 +20,15 @@ use Rattle.terms.proofs.join_runs.Reads as join-runs-reads
 use Rattle.best_terms.proofs.kept_runs.Reads as kept-runs-reads
 use Rattle.best_terms.proofs.short.Reads as short-reads
 
--- src/lib.rt:117:9
 first-child-requires : tie.Need-first-child-requires
 first-child-requires c κs = search needs
 
--- src/lib.rt:118:9
 child-count-requires : tie.Need-child-count-requires
 child-count-requires c κs = search needs
 
--- src/lib.rt:119:28
 slice-aggregate-kept-runs : tie.Need-slice-aggregate-kept-runs
 slice-aggregate-kept-runs c = search needs
 
--- src/lib.rt:119:5
 kept-runs-requires : tie.Need-kept-runs-requires
 kept-runs-requires c κs =
     let b = c .before .before .before .before .before .before .before in
@@ -41,11 +37,9 @@ kept-runs-requires c κs =
     let n = c .before .child-count .ensures .0 in
     (b .pre .1, c .before .before .first-child .ensures .1, omega (arith, b .pre .4 .few), rw (k, n) (ready (tablesOf (a .s .now)) (a .best .now) (countIn (a .terms .now)) (a .m) (b .pre .4) (b .pre .0 .few) (a .im) (children-many (a .s .now) (a .im) (b .pre .1))))
 
--- src/lib.rt:120:30
 slice-aggregate-join-runs : tie.Need-slice-aggregate-join-runs
 slice-aggregate-join-runs c = search needs
 
--- src/lib.rt:120:9
 join-runs-requires : tie.Need-join-runs-requires
 join-runs-requires c κs =
     let b = c .before .before .before .before .before .before .before .before .before .before in
@@ -54,15 +48,12 @@ join-runs-requires c κs =
     let n = c .before .before .before .before .child-count .ensures .0 in
     (omega (arith, b .pre .4 .few), rw n (kept-light (tablesOf (a .s .now)) (a .best .now) (countIn (a .terms .now)) (a .m) (b .pre .4) (b .pre .0 .few) _ (rw (k, n) at (c .before .before .kept-runs .ensures))))
 
--- src/lib.rt:121:32
 slice-aggregate-intern : tie.Need-slice-aggregate-intern
 slice-aggregate-intern c = search needs
 
--- src/lib.rt:121:42
 short-requires : tie.Need-short-requires
 short-requires c κs = search needs
 
--- src/lib.rt:121:5
 intern-requires : tie.Need-intern-requires
 intern-requires c κs =
     let b = c .before .before .before .before .before .before .before .before .before .before .before .before .before .before .before .before in
@@ -71,15 +62,12 @@ intern-requires c κs =
     let n = c .before .before .before .before .before .before .before .before .before .before .child-count .ensures .0 in
     (b .pre .0, rw (c .short .ensures) (kept-valid (tablesOf (a .s .now)) (a .best .now) (countIn (a .terms .now)) (a .m) (b .pre .4) (b .pre .0 .few) _ (rw (k, n) at (c .before .before .before .before .before .before .before .before .kept-runs .ensures)) _ (c .before .before .before .before .before .join-runs .result) (rw n at (c .before .before .before .before .before .join-runs .ensures)) (a .op) (b .pre .3)), begins-fits (c .before .before .before .before .before .join-runs .ensures), joined-light (tablesOf (a .s .now)) (a .best .now) (countIn (a .terms .now)) (a .m) (b .pre .4) (b .pre .0 .few) _ (rw (k, n) at (c .before .before .before .before .before .before .before .before .kept-runs .ensures)) _ (c .before .before .before .before .before .join-runs .result) (rw n at (c .before .before .before .before .before .join-runs .ensures)))
 
--- src/lib.rt:104:1
 same-length : tie.Need-same-length
 same-length c = search needs
 
--- src/lib.rt:104:1
 same-length-2 : tie.Need-same-length-2
 same-length-2 c = search needs
 
--- src/lib.rt:104:1
 returns : tie.Need-returns
 returns c =
     let b = c .before .before .before .before .before .before .before .before .before .before .before .before .before .before .before .before .before .before .before .before .before in

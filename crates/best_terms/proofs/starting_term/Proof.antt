@@ -10,77 +10,60 @@ use Rattle.best_terms.proofs.starting_term.Lts as lts
 use Rattle.best_terms.proofs.best_term.Reads as best-term-reads
 use Rattle.best_terms.proofs.variants.Reads as variants-reads
 
--- src/lib.rt:240:9
 best-term-requires : tie.Need-best-term-requires
 best-term-requires c κs = search needs
 
--- src/lib.rt:243:13
 enum-told : tie.Need-enum-told
 enum-told c = search needs
 
--- src/lib.rt:243:13
 same-length : tie.Need-same-length
 same-length c = search needs
 
--- src/lib.rt:243:13
 same-length-2 : tie.Need-same-length-2
 same-length-2 c = search needs
 
--- src/lib.rt:243:13
 same-length-3 : tie.Need-same-length-3
 same-length-3 c = search needs
 
--- src/lib.rt:243:13
 returns : tie.Need-returns
 returns c =
     let b = c .before .before .before .before .before .before .before .before .before .before .before .before .before .before .before .before in
     let a = b .args in
     start-full (tablesOf (a .s .now)) (a .terms .now) (a .runs .now) (a .best .now) (a .l) (a .r) _ _ _ (rw (c .enum-told .given .1) at (c .before .before .before .before .before .before .before .before .best-term .ensures))
 
--- src/lib.rt:246:13
 enum-told-2 : tie.Need-enum-told-2
 enum-told-2 c = search needs
 
--- src/lib.rt:246:13
 same-length-4 : tie.Need-same-length-4
 same-length-4 c = search needs
 
--- src/lib.rt:246:13
 same-length-5 : tie.Need-same-length-5
 same-length-5 c = search needs
 
--- src/lib.rt:246:13
 same-length-6 : tie.Need-same-length-6
 same-length-6 c = search needs
 
--- src/lib.rt:246:13
 returns-2 : tie.Need-returns-2
 returns-2 c = rw (c .enum-told2 .given .1) at (c .before .before .before .before .before .before .before .before .best-term .ensures)
 
--- src/lib.rt:248:23
 enum-known-x : tie.Need-enum-known-x
 enum-known-x c = search needs
 
--- src/lib.rt:250:17
 same-length-7 : tie.Need-same-length-7
 same-length-7 c = search needs
 
--- src/lib.rt:250:17
 same-length-8 : tie.Need-same-length-8
 same-length-8 c = search needs
 
--- src/lib.rt:250:17
 same-length-9 : tie.Need-same-length-9
 same-length-9 c = search needs
 
--- src/lib.rt:250:17
 returns-3 : tie.Need-returns-3
 returns-3 c =
     let b = c .before .before .before .before .before .before .before .before .before .before .before .before .before .before .before .before .before .before in
     let a = b .args in
     start-same (tablesOf (a .s .now)) (a .terms .now) (a .runs .now) (a .best .now) (a .l) (a .r) _ _ _ _ (rw (c .before .before .x .given .1) at (c .before .before .before .before .before .before .before .before .before .before .best-term .ensures)) (b .pre .2) (omega (arith, b .pre .3, classes-many (a .s .now) (a .im) (b .pre .1))) (omega (arith, b .pre .3, b .pre .5, b .pre .2 .counts .fewClasses, classes-many (a .s .now) (a .im) (b .pre .1))) (c .if1 .taken)
 
--- src/lib.rt:252:17
 best-term-requires-2 : tie.Need-best-term-requires-2
 best-term-requires-2 c κs =
     let b = c .before .before .before .before .before .before .before .before .before .before .before .before .before .before .before .before .before .before .before .before .before in
@@ -89,57 +72,45 @@ best-term-requires-2 c κs =
     let x = rw (c .before .before .before .before .before .x .given .1) at (k .ensures) in
     (x .holds, b .pre .1, b .pre .2, b .pre .4, omega (arith, b .pre .5, k .kept), x .kept)
 
--- src/lib.rt:255:21
 enum-told-3 : tie.Need-enum-told-3
 enum-told-3 c = search needs
 
--- src/lib.rt:255:21
 same-length-10 : tie.Need-same-length-10
 same-length-10 c = search needs
 
--- src/lib.rt:255:21
 same-length-11 : tie.Need-same-length-11
 same-length-11 c = search needs
 
--- src/lib.rt:255:21
 same-length-12 : tie.Need-same-length-12
 same-length-12 c = search needs
 
--- src/lib.rt:255:21
 returns-4 : tie.Need-returns-4
 returns-4 c =
     let b = c .before .before .before .before .before .before .before .before .before .before .before .before .before .before .before .before .before .before .before .before .before .before .before .before .before .before .before .before .before .before in
     let a = b .args in
     start-full-second (tablesOf (a .s .now)) (a .terms .now) (a .runs .now) (a .best .now) (a .l) (a .r) _ _ _ _ (rw (c .before .before .before .before .before .before .before .before .before .before .before .before .before .before .x .given .1) at (c .before .before .before .before .before .before .before .before .before .before .before .before .before .before .before .before .before .before .before .before .before .before .best-term .ensures)) (c .before .before .before .before .before .before .before .before .before .before .before .before .if1 .left) _ _ _ (rw (c .enum-told3 .given .1) at (c .before .before .before .before .before .before .before .before .best-term2 .ensures))
 
--- src/lib.rt:258:21
 enum-told-4 : tie.Need-enum-told-4
 enum-told-4 c = search needs
 
--- src/lib.rt:258:21
 same-length-13 : tie.Need-same-length-13
 same-length-13 c = search needs
 
--- src/lib.rt:258:21
 same-length-14 : tie.Need-same-length-14
 same-length-14 c = search needs
 
--- src/lib.rt:258:21
 same-length-15 : tie.Need-same-length-15
 same-length-15 c = search needs
 
--- src/lib.rt:258:21
 returns-5 : tie.Need-returns-5
 returns-5 c =
     let a = c .before .before .before .before .before .before .before .before .before .before .before .before .before .before .before .before .before .before .before .before .before .before .before .before .before .before .before .before .before .before .args in
     let k = c .before .before .before .before .before .before .before .before .before .before .before .before .before .before .before .before .before .before .before .before .before .before .best-term in
     start-short-second (tablesOf (a .s .now)) (a .terms .now) (a .runs .now) (a .best .now) (a .l) (a .r) _ _ _ _ (rw (c .before .before .before .before .before .before .before .before .before .before .before .before .before .before .x .given .1) at (k .ensures)) (omega (arith, k .kept)) (omega (arith, k .kept)) _ _ _ (rw (c .enum-told4 .given .1) at (c .before .before .before .before .before .before .before .before .best-term2 .ensures))
 
--- src/lib.rt:260:31
 enum-known-y : tie.Need-enum-known-y
 enum-known-y c = search needs
 
--- src/lib.rt:261:21
 variants-requires : tie.Need-variants-requires
 variants-requires c κs =
     let b = c .before .before .before .before .before .before .before .before .before .before .before .before .before .before .before .before .before .before .before .before .before .before .before .before .before .before .before .before .before .before .before .before .before in
@@ -148,19 +119,15 @@ variants-requires c κs =
     let w = start-within (tablesOf (a .s .now)) (a .terms .now) (a .runs .now) (a .best .now) (a .l) (a .r) _ _ _ _ (rw (c .before .before .before .before .before .before .before .before .before .before .before .before .before .before .before .before .before .x .given .1) at (c .before .before .before .before .before .before .before .before .before .before .before .before .before .before .before .before .before .before .before .before .before .before .before .before .before .best-term .ensures)) (c .before .before .before .before .before .before .before .before .before .before .before .before .before .before .before .if1 .left) _ _ _ (b .pre .2) (b .pre .0 .valid) (omega (arith, b .pre .3, classes-many (a .s .now) (a .im) (b .pre .1))) (omega (arith, b .pre .4, classes-many (a .s .now) (a .im) (b .pre .1))) _ y in
     (y .holds, w .0, w .1)
 
--- src/lib.rt:261:21
 same-length-16 : tie.Need-same-length-16
 same-length-16 c = search needs
 
--- src/lib.rt:261:21
 same-length-17 : tie.Need-same-length-17
 same-length-17 c = search needs
 
--- src/lib.rt:261:21
 same-length-18 : tie.Need-same-length-18
 same-length-18 c = search needs
 
--- src/lib.rt:261:21
 returns-6 : tie.Need-returns-6
 returns-6 c =
     let b = c .before .before .before .before .before .before .before .before .before .before .before .before .before .before .before .before .before .before .before .before .before .before .before .before .before .before .before .before .before .before .before .before .before .before .before .before .before .before in

@@ -19,54 +19,42 @@ use Rattle.terms.proofs.join_runs.Reads as join-runs-reads
 use Rattle.best_terms.proofs.long.Reads as long-reads
 use Rattle.best_terms.proofs.put8.Reads as put8-reads
 
--- src/lib.rt:221:10
 slice-aggregate-put8 : tie.Need-slice-aggregate-put8
 slice-aggregate-put8 c = search needs
 
--- src/lib.rt:221:32
 long-requires : tie.Need-long-requires
 long-requires c κs = search needs
 
--- src/lib.rt:221:24
 add-put8 : tie.Need-add-put8
 add-put8 c = search needs
 
--- src/lib.rt:221:5
 put8-requires : tie.Need-put8-requires
 put8-requires c κs = search needs
 
--- src/lib.rt:222:10
 slice-aggregate-put8-2 : tie.Need-slice-aggregate-put8-2
 slice-aggregate-put8-2 c = search needs
 
--- src/lib.rt:222:32
 long-requires-2 : tie.Need-long-requires-2
 long-requires-2 c κs = search needs
 
--- src/lib.rt:222:24
 add-put8-2 : tie.Need-add-put8-2
 add-put8-2 c = search needs
 
--- src/lib.rt:222:5
 put8-requires-2 : tie.Need-put8-requires-2
 put8-requires-2 c κs = search needs
 
--- src/lib.rt:223:30
 slice-aggregate-join-runs : tie.Need-slice-aggregate-join-runs
 slice-aggregate-join-runs c = search needs
 
--- src/lib.rt:223:9
 join-runs-requires : tie.Need-join-runs-requires
 join-runs-requires c κs =
     let b = c .before .before .before .before .before .before .before .before .before .before .before in
     let a = b .args in
     (search needs, pair-light (a .a) (a .b) (omega (arith, b .pre .1, b .pre .0 .few)) (omega (arith, b .pre .2, b .pre .0 .few)) (replicate 2 0) _ (length-replicate {A = ℕ} 2 0) (c .before .before .before .before .before .before .before .long .result) (c .before .before .before .long2 .result) (c .before .before .before .before .before .before .before .long .ensures) (c .before .before .before .long2 .ensures) (c .before .before .put82 .ensures ∙ ap (λ (z : List ℕ). set z 1 (16384 + c .before .before .before .long2 .result)) (c .before .before .before .before .before .before .put8 .ensures)))
 
--- src/lib.rt:224:32
 slice-aggregate-intern : tie.Need-slice-aggregate-intern
 slice-aggregate-intern c = search needs
 
--- src/lib.rt:224:5
 intern-requires : tie.Need-intern-requires
 intern-requires c κs =
     let b = c .before .before .before .before .before .before .before .before .before .before .before .before .before .before .before .before in
@@ -74,15 +62,12 @@ intern-requires c κs =
     let v = c .before .before .before .before .join-runs in
     (b .pre .0, pair-valid (a .a) (a .b) (omega (arith, b .pre .1, b .pre .0 .few)) (omega (arith, b .pre .2, b .pre .0 .few)) (replicate 2 0) _ (length-replicate {A = ℕ} 2 0) (c .before .before .before .before .before .before .before .before .before .before .before .before .long .result) (c .before .before .before .before .before .before .before .before .long2 .result) (c .before .before .before .before .before .before .before .before .before .before .before .before .long .ensures) (c .before .before .before .before .before .before .before .before .long2 .ensures) (c .before .before .before .before .before .before .before .put82 .ensures ∙ ap (λ (z : List ℕ). set z 1 (16384 + c .before .before .before .before .before .before .before .before .long2 .result)) (c .before .before .before .before .before .before .before .before .before .before .before .put8 .ensures)) _ (v .result) (v .ensures) (countIn (a .terms .now)) (b .pre .1) (b .pre .2), begins-fits (v .ensures), pair-most (a .a) (a .b) (omega (arith, b .pre .1, b .pre .0 .few)) (omega (arith, b .pre .2, b .pre .0 .few)) (replicate 2 0) _ (length-replicate {A = ℕ} 2 0) (c .before .before .before .before .before .before .before .before .before .before .before .before .long .result) (c .before .before .before .before .before .before .before .before .long2 .result) (c .before .before .before .before .before .before .before .before .before .before .before .before .long .ensures) (c .before .before .before .before .before .before .before .before .long2 .ensures) (c .before .before .before .before .before .before .before .put82 .ensures ∙ ap (λ (z : List ℕ). set z 1 (16384 + c .before .before .before .before .before .before .before .before .long2 .result)) (c .before .before .before .before .before .before .before .before .before .before .before .put8 .ensures)) _ (v .result) (v .ensures))
 
--- src/lib.rt:216:1
 same-length : tie.Need-same-length
 same-length c = search needs
 
--- src/lib.rt:216:1
 same-length-2 : tie.Need-same-length-2
 same-length-2 c = search needs
 
--- src/lib.rt:216:1
 returns : tie.Need-returns
 returns c =
     let b = c .before .before .before .before .before .before .before .before .before .before .before .before .before .before .before .before .before .before .before .before .before in

@@ -17,29 +17,24 @@ Inv-loop s im m marks to k₀ k = Scanned (markedChild marks) (tablesOf s .child
 abbrev μ-loop : tie.MeasureT-loop
 μ-loop s im m marks to k₀ k = to - k
 
--- src/lib.rt:41:9
 children-of-requires : tie.Need-children-of-requires Inv-loop μ-loop
 children-of-requires c κs = search needs
 
--- src/lib.rt:44:5
 loop-holds : tie.Need-loop-holds Inv-loop μ-loop
 loop-holds c =
     let a = c .before .before .before in let x = c .children-of .result in
     scan-none (markedChild (a .args .marks .now)) (tablesOf (a .args .s .now) .children) (x .from) (x .to)
 
--- src/lib.rt:45:26
 child-class-requires : tie.Need-child-class-requires Inv-loop μ-loop
 child-class-requires c κs =
     let l = c .before in let a = l .before .before .before .before in
     (a .pre .0, omega (arith, c .loop-test, children-end (a .args .s .now) (a .args .im) (a .pre .0) (a .pre .1) (l .before .children-of .result) (a .args .m) (a .pre .2) (l .before .children-of .ensures .0), children-many (a .args .s .now) (a .args .im) (a .pre .0)))
 
--- src/lib.rt:45:12
 marked-requires : tie.Need-marked-requires Inv-loop μ-loop
 marked-requires c κs =
     let l = c .before .before in let a = l .before .before .before .before in
     omega (arith, a .pre .3, child-few (a .args .s .now) (a .args .im) (a .pre .0) (a .pre .1) (l .before .children-of .result) (a .args .m) (a .pre .2) (l .before .children-of .ensures .0) (l .loop .k) (l .loop .inv .from) (omega (arith, c .before .loop-test)) (c .child-class .ensures .0))
 
--- src/lib.rt:46:13
 returns : tie.Need-returns Inv-loop μ-loop
 returns c =
     let l = c .before .before .before .before in let a = l .before .before .before .before in let t = tablesOf (a .args .s .now) in let x = l .before .children-of .result in
@@ -47,22 +42,18 @@ returns c =
     ∙ scan-found (markedChild (a .args .marks .now)) (t .children) (x .from) (x .to) (children-end (a .args .s .now) (a .args .im) (a .pre .0) (a .pre .1) x (a .args .m) (a .pre .2) (l .before .children-of .ensures .0)) (l .loop .k) (l .loop .inv) (0, 0) (omega (arith, c .before .before .before .loop-test))
     (ap (markedIn (a .args .marks .now)) (sym (c .before .before .child-class .ensures .0)) ∙ sym (c .before .marked .ensures) ∙ c .if1 .taken))
 
--- src/lib.rt:48:9
 add-k : tie.Need-add-k Inv-loop μ-loop
 add-k c = search needs
 
--- src/lib.rt:44:5
 loop-less : tie.Need-loop-less Inv-loop μ-loop
 loop-less c = search needs
 
--- src/lib.rt:44:5
 loop-again : tie.Need-loop-again Inv-loop μ-loop
 loop-again c =
     let l = c .before .before .before .before in let a = l .before .before .before .before in let x = l .before .children-of .result in
     scan-more (markedChild (a .args .marks .now)) (tablesOf (a .args .s .now) .children) (x .from) (x .to) (children-end (a .args .s .now) (a .args .im) (a .pre .0) (a .pre .1) x (a .args .m) (a .pre .2) (l .before .children-of .ensures .0)) (l .loop .k) (l .loop .inv) (0, 0) (omega (arith, c .before .before .before .loop-test))
     (ap (markedIn (a .args .marks .now)) (sym (c .before .before .child-class .ensures .0)) ∙ sym (c .before .marked .ensures) ∙ c .if1 .left)
 
--- src/lib.rt:37:1
 returns-2 : tie.Need-returns-2 Inv-loop μ-loop
 returns-2 c =
     let l = c .before in let a = l .before .before .before .before in let t = tablesOf (a .args .s .now) in let x = l .before .children-of .result in

@@ -16,16 +16,13 @@ Inv-loop s im marks n o₀ o = Scanned (withIdentity (markedIn marks)) (tablesOf
 abbrev μ-loop : tie.MeasureT-loop
 μ-loop s im marks n o₀ o = n - o
 
--- src/lib.rt:90:5
 loop-holds : tie.Need-loop-holds Inv-loop μ-loop
 loop-holds c =
     let a = c .before .before in scan-none (withIdentity (markedIn (a .args .marks .now))) (tablesOf (a .args .s .now) .operations) 0 (a .args .im .operations)
 
--- src/lib.rt:91:12
 marked-identity-requires : tie.Need-marked-identity-requires Inv-loop μ-loop
 marked-identity-requires c κs = search needs
 
--- src/lib.rt:92:13
 returns : tie.Need-returns Inv-loop μ-loop
 returns c =
     let l = c .before .before .before in let a = l .before .before .before in let t = tablesOf (a .args .s .now) in let n = operations-many (a .args .s .now) (a .args .im) (a .pre .0) in
@@ -33,22 +30,18 @@ returns c =
     ∙ scan-found (withIdentity (markedIn (a .args .marks .now))) (t .operations) 0 (a .args .im .operations) (omega (arith, n)) (l .loop .o) (l .loop .inv) (record { kind = 0; flag = 0; identity = NO-IDENTITY }) (omega (arith, c .before .before .loop-test))
     (sym (c .before .marked-identity .ensures) ∙ c .if1 .taken))
 
--- src/lib.rt:94:9
 add-o : tie.Need-add-o Inv-loop μ-loop
 add-o c = search needs
 
--- src/lib.rt:90:5
 loop-less : tie.Need-loop-less Inv-loop μ-loop
 loop-less c = search needs
 
--- src/lib.rt:90:5
 loop-again : tie.Need-loop-again Inv-loop μ-loop
 loop-again c =
     let l = c .before .before .before in let a = l .before .before .before in let n = operations-many (a .args .s .now) (a .args .im) (a .pre .0) in
     scan-more (withIdentity (markedIn (a .args .marks .now))) (tablesOf (a .args .s .now) .operations) 0 (a .args .im .operations) (omega (arith, n)) (l .loop .o) (l .loop .inv) (record { kind = 0; flag = 0; identity = NO-IDENTITY }) (omega (arith, c .before .before .loop-test))
     (sym (c .before .marked-identity .ensures) ∙ c .if1 .left)
 
--- src/lib.rt:84:1
 returns-2 : tie.Need-returns-2 Inv-loop μ-loop
 returns-2 c =
     let l = c .before in let a = l .before .before .before in let t = tablesOf (a .args .s .now) in let n = operations-many (a .args .s .now) (a .args .im) (a .pre .0) in

@@ -16,43 +16,35 @@ Inv-loop s im c marks to m₀ m = Scanned (markedMember (tablesOf s) marks) (tab
 abbrev μ-loop : tie.MeasureT-loop
 μ-loop s im c marks to m₀ m = to - m
 
--- src/lib.rt:58:9
 members-of-requires : tie.Need-members-of-requires Inv-loop μ-loop
 members-of-requires c κs = search needs
 
--- src/lib.rt:61:5
 loop-holds : tie.Need-loop-holds Inv-loop μ-loop
 loop-holds c =
     let a = c .before .before .before in let t = tablesOf (a .args .s .now) in let x = c .members-of .result in scan-none (markedMember t (a .args .marks .now)) (t .members) (x .from) (x .to)
 
--- src/lib.rt:62:12
 any-child-requires : tie.Need-any-child-requires Inv-loop μ-loop
 any-child-requires c κs =
     let l = c .before in let a = l .before .before .before .before in let t = tablesOf (a .args .s .now) in let x = l .before .members-of .result in
     (a .pre .0, a .pre .1, omega (arith, c .loop-test, members-end (a .args .s .now) (a .args .im) (a .pre .0) (a .pre .1) x (a .args .c) (a .pre .2) (l .before .members-of .ensures .0), members-many (a .args .s .now) (a .args .im) (a .pre .0)), a .pre .3)
 
--- src/lib.rt:63:13
 returns : tie.Need-returns Inv-loop μ-loop
 returns c =
     let l = c .before .before .before in let a = l .before .before .before .before in let t = tablesOf (a .args .s .now) in let x = l .before .members-of .result in
     sym (sym (members-scanned t (a .pre .1) (a .args .marks .now) x (a .args .c) (omega (arith, a .pre .2, classes-many (a .args .s .now) (a .args .im) (a .pre .0))) (l .before .members-of .ensures .0))
     ∙ scan-found (markedMember t (a .args .marks .now)) (t .members) (x .from) (x .to) (members-end (a .args .s .now) (a .args .im) (a .pre .0) (a .pre .1) x (a .args .c) (a .pre .2) (l .before .members-of .ensures .0)) (l .loop .m) (l .loop .inv) (record { op = 0; value = 0; first = 0; count = 0 }) (omega (arith, c .before .before .loop-test)) (sym (c .before .any-child .ensures) ∙ c .if1 .taken))
 
--- src/lib.rt:65:9
 add-m : tie.Need-add-m Inv-loop μ-loop
 add-m c = search needs
 
--- src/lib.rt:61:5
 loop-less : tie.Need-loop-less Inv-loop μ-loop
 loop-less c = search needs
 
--- src/lib.rt:61:5
 loop-again : tie.Need-loop-again Inv-loop μ-loop
 loop-again c =
     let l = c .before .before .before in let a = l .before .before .before .before in let t = tablesOf (a .args .s .now) in let x = l .before .members-of .result in
     scan-more (markedMember t (a .args .marks .now)) (t .members) (x .from) (x .to) (members-end (a .args .s .now) (a .args .im) (a .pre .0) (a .pre .1) x (a .args .c) (a .pre .2) (l .before .members-of .ensures .0)) (l .loop .m) (l .loop .inv) (record { op = 0; value = 0; first = 0; count = 0 }) (omega (arith, c .before .before .loop-test)) (sym (c .before .any-child .ensures) ∙ c .if1 .left)
 
--- src/lib.rt:54:1
 returns-2 : tie.Need-returns-2 Inv-loop μ-loop
 returns-2 c =
     let l = c .before in let a = l .before .before .before .before in let t = tablesOf (a .args .s .now) in let x = l .before .members-of .result in

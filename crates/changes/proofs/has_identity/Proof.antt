@@ -16,16 +16,13 @@ Inv-loop s im n o₀ o = Scanned (withIdentity (λ e. true)) (tablesOf s .operat
 abbrev μ-loop : tie.MeasureT-loop
 μ-loop s im n o₀ o = n - o
 
--- src/lib.rt:106:5
 loop-holds : tie.Need-loop-holds Inv-loop μ-loop
 loop-holds c =
     let a = c .before in scan-none (withIdentity (λ e. true)) (tablesOf (a .args .s .now) .operations) 0 (a .args .im .operations)
 
--- src/lib.rt:107:12
 identity-requires : tie.Need-identity-requires Inv-loop μ-loop
 identity-requires c κs = search needs
 
--- src/lib.rt:108:13
 returns : tie.Need-returns Inv-loop μ-loop
 returns c =
     let l = c .before .before .before in let a = l .before .before in let t = tablesOf (a .args .s .now) in let n = operations-many (a .args .s .now) (a .args .im) (a .pre) in
@@ -33,22 +30,18 @@ returns c =
     ∙ scan-found (withIdentity (λ e. true)) (t .operations) 0 (a .args .im .operations) (omega (arith, n)) (l .loop .o) (l .loop .inv) (record { kind = 0; flag = 0; identity = NO-IDENTITY }) (omega (arith, c .before .before .loop-test))
     (identity-some (λ e. true) (theOperation t (l .loop .o)) (c .before .identity .ensures .0) (c .if1 .taken)))
 
--- src/lib.rt:110:9
 add-o : tie.Need-add-o Inv-loop μ-loop
 add-o c = search needs
 
--- src/lib.rt:106:5
 loop-less : tie.Need-loop-less Inv-loop μ-loop
 loop-less c = search needs
 
--- src/lib.rt:106:5
 loop-again : tie.Need-loop-again Inv-loop μ-loop
 loop-again c =
     let l = c .before .before .before in let a = l .before .before in let t = tablesOf (a .args .s .now) in let n = operations-many (a .args .s .now) (a .args .im) (a .pre) in
     scan-more (withIdentity (λ e. true)) (t .operations) 0 (a .args .im .operations) (omega (arith, n)) (l .loop .o) (l .loop .inv) (record { kind = 0; flag = 0; identity = NO-IDENTITY }) (omega (arith, c .before .before .loop-test))
     (identity-none (λ e. true) (theOperation t (l .loop .o)) (c .before .identity .ensures .0) (c .if1 .left))
 
--- src/lib.rt:100:1
 returns-2 : tie.Need-returns-2 Inv-loop μ-loop
 returns-2 c =
     let l = c .before in let a = l .before .before in let t = tablesOf (a .args .s .now) in let n = operations-many (a .args .s .now) (a .args .im) (a .pre) in

@@ -8,23 +8,19 @@ use borrow.Author.Needs.{needs}
 use Rattle.changes.proofs.marked_identity.Statement.{statement}
 use Rattle.changes.proofs.marked_identity.Tie as tie
 
--- src/lib.rt:76:9
 identity-requires : tie.Need-identity-requires
 identity-requires c κs = search needs
 
--- src/lib.rt:78:9
 returns : tie.Need-returns
 returns c =
     let a = c .before .before .before .before in
     sym (identity-none (markedIn (a .args .marks .now)) (theOperation (tablesOf (a .args .s .now)) (a .args .o)) (c .before .identity .ensures .0) (c .if1 .taken))
 
--- src/lib.rt:80:5
 marked-requires : tie.Need-marked-requires
 marked-requires c κs =
     let a = c .before .before .before .before in
     omega (arith, a .pre .3, identity-few (a .args .s .now) (a .args .im) (a .pre .0) (a .pre .1) (a .args .o) (a .pre .2) (c .before .identity .ensures .0) (c .if1 .left))
 
--- src/lib.rt:72:1
 returns-2 : tie.Need-returns-2
 returns-2 c =
     let a = c .before .before .before .before .before in

@@ -6,16 +6,13 @@ use borrow.Author.Needs.{needs}
 use Rattle.changes.proofs.marked_itself.Statement.{statement}
 use Rattle.changes.proofs.marked_itself.Tie as tie
 
--- src/lib.rt:122:9
 marked-requires : tie.Need-marked-requires
 marked-requires c κs = search needs
 
--- src/lib.rt:122:9
 returns : tie.Need-returns
 returns c =
     let a = c .before .before .before .args in c .marked .ensures ∙ sym (ap (λ (b : Bool). both b (markedIn (a .marks .now) (a .c))) (c .before .if1 .taken))
 
--- src/lib.rt:117:1
 returns-2 : tie.Need-returns-2
 returns-2 c =
     let a = c .before .before .args in sym (ap (λ (b : Bool). both b (markedIn (a .marks .now) (a .c))) (c .if1 .left))

@@ -19,44 +19,35 @@ Inv-loop s im marks live₀ through itself n c₀ live c = Filled (liveOf (table
 abbrev μ-loop : tie.MeasureT-loop
 μ-loop s im marks live₀ through itself n c₀ live c = n - c
 
--- src/lib.rt:146:9
 any-identity-requires : tie.Need-any-identity-requires Inv-loop μ-loop
 any-identity-requires c κs = search needs
 
--- src/lib.rt:147:9
 has-identity-requires : tie.Need-has-identity-requires Inv-loop μ-loop
 has-identity-requires c κs = search needs
 
--- src/lib.rt:150:5
 loop-holds : tie.Need-loop-holds Inv-loop μ-loop
 loop-holds c =
     let a = c .before .before .before .before .before in filled-none (liveOf (tablesOf (a .args .s .now)) (a .args .marks .now)) (a .args .live .now)
 
--- src/lib.rt:151:23
 touched-requires : tie.Need-touched-requires Inv-loop μ-loop
 touched-requires c κs =
     let l = c .before in let a = l .before .before .before .before .before .before in let t = tablesOf (a .args .s .now) in let many = classes-many (a .args .s .now) (a .args .im) (a .pre .0) in
     (a .pre .0, a .pre .1, omega (arith, c .loop-test), a .pre .2, l .before .before .any-identity .ensures, l .before .has-identity .ensures)
 
--- src/lib.rt:151:19
 bit-requires : tie.Need-bit-requires Inv-loop μ-loop
 bit-requires c κs = search needs
 
--- src/lib.rt:151:9
 slice-write-live : tie.Need-slice-write-live Inv-loop μ-loop
 slice-write-live c =
     let l = c .before .before .before in let a = l .before .before .before .before .before .before in let t = tablesOf (a .args .s .now) in let many = classes-many (a .args .s .now) (a .args .im) (a .pre .0) in
     omega (arith, c .before .before .loop-test, class-few (a .args .s .now) (a .args .im) (a .pre .0) (a .pre .1) {c = l .loop .c} (omega (arith, c .before .before .loop-test)), l .loop .inv .same, a .pre .3)
 
--- src/lib.rt:152:9
 add-c : tie.Need-add-c Inv-loop μ-loop
 add-c c = search needs
 
--- src/lib.rt:150:5
 loop-less : tie.Need-loop-less Inv-loop μ-loop
 loop-less c = search needs
 
--- src/lib.rt:150:5
 loop-again : tie.Need-loop-again Inv-loop μ-loop
 loop-again c =
     let l = c .before .before .before in let a = l .before .before .before .before .before .before in let t = tablesOf (a .args .s .now) in let many = classes-many (a .args .s .now) (a .args .im) (a .pre .0) in
@@ -64,11 +55,9 @@ loop-again c =
     (omega (arith, class-few (a .args .s .now) (a .args .im) (a .pre .0) (a .pre .1) {c = l .loop .c} (omega (arith, c .before .before .loop-test)), l .loop .inv .same, a .pre .3))
     (c .bit .ensures ∙ ap (λ (b : Bool). pick {A = ℕ} b 1 0) (c .before .touched .ensures) ∙ sym (live-entry t (a .args .marks .now) (l .loop .c) (omega (arith, c .before .before .loop-test, many))))
 
--- src/lib.rt:142:1
 same-length : tie.Need-same-length Inv-loop μ-loop
 same-length c = search needs
 
--- src/lib.rt:142:1
 returns : tie.Need-returns Inv-loop μ-loop
 returns c =
     let l = c .before in let a = l .before .before .before .before .before .before in let t = tablesOf (a .args .s .now) in let many = classes-many (a .args .s .now) (a .args .im) (a .pre .0) in

@@ -10,27 +10,22 @@ use borrow.Author.Needs.{needs}
 use Rattle.changes.proofs.touched.Statement.{statement}
 use Rattle.changes.proofs.touched.Tie as tie
 
--- src/lib.rt:133:9
 returns : tie.Need-returns
 returns c =
     let a = c .before .before .before in sym (parts-identity (markedIn (a .args .marks .now)) (tablesOf (a .args .s .now)) (a .args .c) (sym (a .pre .4) ∙ c .if1 .taken))
 
--- src/lib.rt:135:8
 marked-itself-requires : tie.Need-marked-itself-requires
 marked-itself-requires c κs =
     let a = c .before .before .before in omega (arith, a .pre .3, class-few (a .args .s .now) (a .args .im) (a .pre .0) (a .pre .1) (a .pre .2))
 
--- src/lib.rt:136:9
 returns-2 : tie.Need-returns-2
 returns-2 c =
     let a = c .before .before .before .before .before in
     sym (parts-itself (markedIn (a .args .marks .now)) (tablesOf (a .args .s .now)) (a .args .c) (sym (a .pre .4) ∙ c .before .before .if1 .left) (ap (λ (b : Bool). both b (markedIn (a .args .marks .now) (a .args .c))) (sym (a .pre .5)) ∙ sym (c .before .marked-itself .ensures) ∙ c .if2 .taken))
 
--- src/lib.rt:138:5
 any-member-requires : tie.Need-any-member-requires
 any-member-requires c κs = search needs
 
--- src/lib.rt:128:1
 returns-3 : tie.Need-returns-3
 returns-3 c =
     let a = c .before .before .before .before .before .before in

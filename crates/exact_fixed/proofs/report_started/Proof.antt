@@ -9,15 +9,12 @@ use Rattle.exact_fixed.proofs.report_started.Lts as lts
 use Rattle.exact_fixed.proofs.start_mass.Reads as start-mass-reads
 use Rattle.exact_fixed.proofs.start_size.Reads as start-size-reads
 
--- src/lib.rt:498:15
 start-size-requires : tie.Need-start-size-requires
 start-size-requires c κs = search needs
 
--- src/lib.rt:499:15
 start-mass-requires : tie.Need-start-mass-requires
 start-mass-requires c κs = search needs
 
--- src/lib.rt:490:1
 returns : tie.Need-returns
 returns c = let a = c .before .before .before .args in ap₂ (λ (x y : ℕ). record { complete = false; pairs = a .n; rounds = 0; size = x; mass = y; root = a .root }) (c .before .start-size .ensures) (c .start-mass .ensures)
 

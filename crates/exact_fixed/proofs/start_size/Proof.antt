@@ -10,29 +10,23 @@ use Rattle.exact_fixed.proofs.start_size.Lts as lts
 use Rattle.exact_fixed.proofs.narrow.Reads as narrow-reads
 use Rattle.image.proofs.best_size.Reads as best-size-reads
 
--- src/lib.rt:88:9
 best-size-requires : tie.Need-best-size-requires
 best-size-requires c κs = search needs
 
--- src/lib.rt:90:9
 narrow-requires : tie.Need-narrow-requires
 narrow-requires c κs = search needs
 
--- src/lib.rt:90:9
 returns : tie.Need-returns
 returns c =
     let a = c .before .before .before .before .args in
     omega (arith, size-same (tablesOf (a .s .now)) (a .l) (a .r) (c .before .if1 .taken))
 
--- src/lib.rt:92:9
 best-size-requires-2 : tie.Need-best-size-requires-2
 best-size-requires-2 c κs = search needs
 
--- src/lib.rt:93:12
 add-narrow : tie.Need-add-narrow
 add-narrow c = search needs
 
--- src/lib.rt:93:5
 narrow-requires-2 : tie.Need-narrow-requires-2
 narrow-requires-2 c κs =
     let b = c .before .before .before .before in
@@ -40,7 +34,6 @@ narrow-requires-2 c κs =
     let n = classes-many (a .s .now) (a .im) (b .pre .0) in
     omega (arith, sizes-fit (tablesOf (a .s .now)) (a .l) (a .r) (b .pre .1) (omega arith) (omega arith))
 
--- src/lib.rt:84:1
 returns-2 : tie.Need-returns-2
 returns-2 c =
     let a = c .before .before .before .before .before .args in

@@ -11,11 +11,9 @@ use borrow.Author.Needs.{needs}
 use Rattle.graph.proofs.build.Statement.{statement}
 use Rattle.graph.proofs.build.Tie as tie
 
--- src/lib.rt:407:5
 clear2-requires : tie.Need-clear2-requires
 clear2-requires c κs = search needs
 
--- src/lib.rt:408:5
 append-requires : tie.Need-append-requires
 append-requires c κs =
     let b = c .before .before .before .before .before .before .before .before .before .before .before in
@@ -27,7 +25,6 @@ append-requires c κs =
     let p = small-pair t (b .pre .1) l r hl hr (length (b .args .index .now)) (omega (arith, b .pre .6, classes-many (b .args .s .now) (b .args .im) (b .pre .0))) (l, r) (hl, hr) in
     (omega arith, b .pre .4, b .pre .5, (omega (arith, p .0, c .before .before .before .before .before .clear2 .kept), p .1, p .2))
 
--- src/lib.rt:409:11
 build-from-requires : tie.Need-build-from-requires
 build-from-requires c κs =
     let b = c .before .before .before .before .before .before .before .before .before .before .before .before .before .before .before .before .before .before .before .before .before in
@@ -38,39 +35,30 @@ build-from-requires c κs =
     let hr : r < length (t .classes) = omega (arith, b .pre .3, classes-many (b .args .s .now) (b .args .im) (b .pre .0)) in
     (b .pre .0, b .pre .1, begin-graph t l r (b .args .budget .left) (b .args .lefts .now) (b .args .rights .now) (b .args .index .now) (small-pair t (b .pre .1) l r hl hr (length (b .args .index .now)) (omega (arith, b .pre .6, classes-many (b .args .s .now) (b .args .im) (b .pre .0))) (l, r) (hl, hr)) (b .pre .4) (b .pre .5) (c .before .before .before .before .before .before .before .before .before .before .before .before .before .before .before .clear2 .ensures) (c .before .before .before .before .before .before .before .before .before .append .ensures .0) (c .before .before .before .before .before .before .before .before .before .append .ensures .1) (c .before .before .before .before .before .before .before .before .before .append .ensures .2), begin-pairs t l r (b .args .budget .left) (b .args .lefts .now) (b .args .rights .now) (b .args .index .now) (small-pair t (b .pre .1) l r hl hr (length (b .args .index .now)) (omega (arith, b .pre .6, classes-many (b .args .s .now) (b .args .im) (b .pre .0))) (l, r) (hl, hr)) (b .pre .4) (b .pre .5) (c .before .before .before .before .before .before .before .before .before .before .before .before .before .before .before .clear2 .ensures) (c .before .before .before .before .before .before .before .before .before .append .ensures .0) (c .before .before .before .before .before .before .before .before .before .append .ensures .1) (c .before .before .before .before .before .before .before .before .before .append .ensures .2) (hl, hr), omega (arith, b .pre .6, c .before .before .before .before .before .before .before .before .before .append .kept, c .before .before .before .before .before .before .before .before .before .before .before .before .before .before .before .clear2 .kept))
 
--- src/lib.rt:410:20
 enum-known-n : tie.Need-enum-known-n
 enum-known-n c = search needs
 
--- src/lib.rt:412:23
 enum-told : tie.Need-enum-told
 enum-told c = search needs
 
--- src/lib.rt:412:13
 clear-all-requires : tie.Need-clear-all-requires
 clear-all-requires c κs = search needs
 
--- src/lib.rt:416:23
 enum-told-2 : tie.Need-enum-told-2
 enum-told-2 c = search needs
 
--- src/lib.rt:416:13
 clear-all-requires-2 : tie.Need-clear-all-requires-2
 clear-all-requires-2 c κs = search needs
 
--- src/lib.rt:394:1
 same-length : tie.Need-same-length
 same-length c = search needs
 
--- src/lib.rt:394:1
 same-length-2 : tie.Need-same-length-2
 same-length-2 c = search needs
 
--- src/lib.rt:394:1
 same-length-3 : tie.Need-same-length-3
 same-length-3 c = search needs
 
--- src/lib.rt:394:1
 returns : tie.Need-returns
 returns c =
     let b = c .before .before .before .before .before .before .before .before .before .before .before .before .before .before .before .before .before .before .before .before .before .before .before .before .before .before .before .before .before .before .before in
@@ -81,19 +69,15 @@ returns c =
     let hr : r < length (t .classes) = omega (arith, b .pre .3, classes-many (b .args .s .now) (b .args .im) (b .pre .0)) in
     finish-all t l r (b .args .budget .left) (b .args .lefts .now) (b .args .rights .now) (b .args .index .now) (small-pair t (b .pre .1) l r hl hr (length (b .args .index .now)) (omega (arith, b .pre .6, classes-many (b .args .s .now) (b .args .im) (b .pre .0))) (l, r) (hl, hr)) (b .pre .4) (b .pre .5) (c .before .before .before .before .before .before .before .before .before .before .before .before .before .before .before .before .before .before .before .before .before .before .before .before .before .clear2 .ensures) (c .before .before .before .before .before .before .before .before .before .before .before .before .before .before .before .before .before .before .before .append .ensures .0) (c .before .before .before .before .before .before .before .before .before .before .before .before .before .before .before .before .before .before .before .append .ensures .1) (c .before .before .before .before .before .before .before .before .before .before .before .before .before .before .before .before .before .before .before .append .ensures .2) (c .before .before .before .before .before .before .before .before .before .build-from .result) (c .before .before .before .before .before .before .before .before .before .build-from .ensures) (c .before .n .given .0 .0) (c .before .n .given .0 .1 .0) (c .before .n .given .1) (c .before .before .before .before .before .before .before .before .before .build-from .kept .1 .1 .1 .1 .1 .0 ∙ c .before .before .before .before .before .before .before .before .before .before .before .before .before .before .before .before .before .before .before .append .kept .1 .1 .0 ∙ c .before .before .before .before .before .before .before .before .before .before .before .before .before .before .before .before .before .before .before .before .before .before .before .before .before .clear2 .kept .0)
 
--- src/lib.rt:394:1
 same-length-4 : tie.Need-same-length-4
 same-length-4 c = search needs
 
--- src/lib.rt:394:1
 same-length-5 : tie.Need-same-length-5
 same-length-5 c = search needs
 
--- src/lib.rt:394:1
 same-length-6 : tie.Need-same-length-6
 same-length-6 c = search needs
 
--- src/lib.rt:394:1
 returns-2 : tie.Need-returns-2
 returns-2 c =
     let b = c .before .before .before .before .before .before .before .before .before .before .before .before .before .before .before .before .before .before .before .before .before .before .before .before .before .before .before .before .before .before .before .before .before .before .before .before .before .before .before .before in
@@ -104,19 +88,15 @@ returns-2 c =
     let hr : r < length (t .classes) = omega (arith, b .pre .3, classes-many (b .args .s .now) (b .args .im) (b .pre .0)) in
     finish-cut t l r (b .args .budget .left) (b .args .lefts .now) (b .args .rights .now) (b .args .index .now) (small-pair t (b .pre .1) l r hl hr (length (b .args .index .now)) (omega (arith, b .pre .6, classes-many (b .args .s .now) (b .args .im) (b .pre .0))) (l, r) (hl, hr)) (b .pre .4) (b .pre .5) (c .before .before .before .before .before .before .before .before .before .before .before .before .before .before .before .before .before .before .before .before .before .before .before .before .before .before .before .before .before .before .before .before .before .before .clear2 .ensures) (c .before .before .before .before .before .before .before .before .before .before .before .before .before .before .before .before .before .before .before .before .before .before .before .before .before .before .before .before .append .ensures .0) (c .before .before .before .before .before .before .before .before .before .before .before .before .before .before .before .before .before .before .before .before .before .before .before .before .before .before .before .before .append .ensures .1) (c .before .before .before .before .before .before .before .before .before .before .before .before .before .before .before .before .before .before .before .before .before .before .before .before .before .before .before .before .append .ensures .2) (c .before .before .before .before .before .before .before .before .before .before .before .before .before .before .before .before .before .before .build-from .result) (c .before .before .before .before .before .before .before .before .before .before .before .before .before .before .before .before .before .before .build-from .ensures) (c .before .before .before .before .before .before .clear-all .ensures .0 ∙ ap (λ (k : ℕ). replicate k 0) (c .before .before .before .before .before .before .before .before .before .before .before .before .before .before .before .before .before .before .build-from .kept .1 .1 .1 .0 ∙ c .before .before .before .before .before .before .before .before .before .before .before .before .before .before .before .before .before .before .before .before .before .before .before .before .before .before .before .before .append .kept .0)) (c .before .before .before .before .before .before .clear-all .ensures .1 ∙ ap (λ (k : ℕ). replicate k 0) (c .before .before .before .before .before .before .before .before .before .before .before .before .before .before .before .before .before .before .build-from .kept .1 .1 .1 .1 .0 ∙ c .before .before .before .before .before .before .before .before .before .before .before .before .before .before .before .before .before .before .before .before .before .before .before .before .before .before .before .before .append .kept .1 .0)) (c .before .before .before .before .before .before .clear-all .ensures .2 ∙ ap (λ (k : ℕ). replicate k 0) (c .before .before .before .before .before .before .before .before .before .before .before .before .before .before .before .before .before .before .build-from .kept .1 .1 .1 .1 .1 .0 ∙ c .before .before .before .before .before .before .before .before .before .before .before .before .before .before .before .before .before .before .before .before .before .before .before .before .before .before .before .before .append .kept .1 .1 .0 ∙ c .before .before .before .before .before .before .before .before .before .before .before .before .before .before .before .before .before .before .before .before .before .before .before .before .before .before .before .before .before .before .before .before .before .before .clear2 .kept .0)) (c .before .before .before .before .before .before .before .before .before .before .enum-told .given .1)
 
--- src/lib.rt:394:1
 same-length-7 : tie.Need-same-length-7
 same-length-7 c = search needs
 
--- src/lib.rt:394:1
 same-length-8 : tie.Need-same-length-8
 same-length-8 c = search needs
 
--- src/lib.rt:394:1
 same-length-9 : tie.Need-same-length-9
 same-length-9 c = search needs
 
--- src/lib.rt:394:1
 returns-3 : tie.Need-returns-3
 returns-3 c =
     let b = c .before .before .before .before .before .before .before .before .before .before .before .before .before .before .before .before .before .before .before .before .before .before .before .before .before .before .before .before .before .before .before .before .before .before .before .before .before .before .before .before in

@@ -17,30 +17,24 @@ Inv-loop s im lefts₀ rights₀ index₀ n₀ b₀ i₀ lefts rights index n b 
 abbrev μ-loop : tie.MeasureT-loop
 μ-loop s im lefts₀ rights₀ index₀ n₀ b₀ i₀ lefts rights index n b i = 4096 - i
 
--- src/lib.rt:371:5
 loop-holds : tie.Need-loop-holds Inv-loop μ-loop
 loop-holds c =
     let b = c .before .before .before .before in
     let t = tablesOf (b .args .s .now) in
     (turning-start t (b .args .budget .left) (b .args .lefts .now) (b .args .rights .now) (b .args .index .now) (b .pre .2) (b .pre .3), refl, refl, refl)
 
--- src/lib.rt:372:13
 spend-requires : tie.Need-spend-requires Inv-loop μ-loop
 spend-requires c κs = search needs
 
--- src/lib.rt:375:13
 same-length : tie.Need-same-length Inv-loop μ-loop
 same-length c = search needs
 
--- src/lib.rt:375:13
 same-length-2 : tie.Need-same-length-2 Inv-loop μ-loop
 same-length-2 c = search needs
 
--- src/lib.rt:375:13
 same-length-3 : tie.Need-same-length-3 Inv-loop μ-loop
 same-length-3 c = search needs
 
--- src/lib.rt:375:13
 returns : tie.Need-returns Inv-loop μ-loop
 returns c =
     let b = c .before .before .before .before .before .before .before .before .before .before in
@@ -48,7 +42,6 @@ returns c =
     let d = c .before .before .before .before .before .loop .inv .0 in
     turning-cut t d (c .before .before .before .before .loop-test .taken) (check-none (c .before .before .before .before .before .loop .b) (c .before .before .before .spend .result) (c .before .before .before .spend .ensures) (c .if1 .taken))
 
--- src/lib.rt:377:13
 number-requires : tie.Need-number-requires Inv-loop μ-loop
 number-requires c κs =
     let b = c .before .before .before .before .before .before .before .before .before .before .before in
@@ -56,7 +49,6 @@ number-requires c κs =
     let d = c .before .before .before .before .before .before .loop .inv .0 in
     omega (arith, d .graph .few, d .graph .roomLeft, c .before .before .before .before .before .loop-test .taken)
 
--- src/lib.rt:378:13
 number-requires-2 : tie.Need-number-requires-2 Inv-loop μ-loop
 number-requires-2 c κs =
     let b = c .before .before .before .before .before .before .before .before .before .before .before .before .before in
@@ -64,7 +56,6 @@ number-requires-2 c κs =
     let d = c .before .before .before .before .before .before .before .before .loop .inv .0 in
     omega (arith, d .graph .few, d .graph .roomRight, c .before .before .before .before .before .before .before .loop-test .taken)
 
--- src/lib.rt:379:15
 enter-joins-requires : tie.Need-enter-joins-requires Inv-loop μ-loop
 enter-joins-requires c κs =
     let b = c .before .before .before .before .before .before .before .before .before .before .before .before .before .before .before .before .before in
@@ -73,23 +64,18 @@ enter-joins-requires c κs =
     let p = turning-pair t d (c .before .before .before .before .before .before .before .before .before .before .before .loop-test .taken) (c .before .before .before .before .before .number .result) (c .before .before .before .number2 .result) (c .before .before .before .before .before .number .ensures .0) (c .before .before .before .number2 .ensures .0) in
     (b .pre .0, b .pre .1, omega (arith, p .0, classes-many (b .args .s .now) (b .args .im) (b .pre .0)), omega (arith, p .1, classes-many (b .args .s .now) (b .args .im) (b .pre .0)), d .graph, omega (arith, b .pre .4, c .before .before .before .before .before .before .before .before .before .before .before .before .loop .inv .3))
 
--- src/lib.rt:381:17
 enum-told : tie.Need-enum-told Inv-loop μ-loop
 enum-told c = search needs
 
--- src/lib.rt:381:17
 same-length-4 : tie.Need-same-length-4 Inv-loop μ-loop
 same-length-4 c = search needs
 
--- src/lib.rt:381:17
 same-length-5 : tie.Need-same-length-5 Inv-loop μ-loop
 same-length-5 c = search needs
 
--- src/lib.rt:381:17
 same-length-6 : tie.Need-same-length-6 Inv-loop μ-loop
 same-length-6 c = search needs
 
--- src/lib.rt:381:17
 returns-2 : tie.Need-returns-2 Inv-loop μ-loop
 returns-2 c =
     let b = c .before .before .before .before .before .before .before .before .before .before .before .before .before .before .before .before .before .before .before .before .before .before .before .before .before .before in
@@ -97,11 +83,9 @@ returns-2 c =
     let d = c .before .before .before .before .before .before .before .before .before .before .before .before .before .before .before .before .before .before .before .before .before .loop .inv .0 in
     turning-full t d (c .before .before .before .before .before .before .before .before .before .before .before .before .before .before .before .before .before .before .before .before .loop-test .taken) (c .before .before .before .before .before .before .before .before .before .before .before .before .before .before .number .result) (c .before .before .before .before .before .before .before .before .before .before .before .before .number2 .result) (c .before .before .before .before .before .before .before .before .before .before .before .before .before .before .number .ensures .0) (c .before .before .before .before .before .before .before .before .before .before .before .before .number2 .ensures .0) (c .before .before .before .before .before .before .before .before .before .before .before .before .before .before .before .before .before .before .before .spend .result .budget .left) (check-one (c .before .before .before .before .before .before .before .before .before .before .before .before .before .before .before .before .before .before .before .before .before .loop .b) (c .before .before .before .before .before .before .before .before .before .before .before .before .before .before .before .before .before .before .before .spend .result) (c .before .before .before .before .before .before .before .before .before .before .before .before .before .before .before .before .before .before .before .spend .ensures) (c .before .before .before .before .before .before .before .before .before .before .before .before .before .before .before .before .if1 .left)) (c .before .before .before .before .before .before .before .before .enter-joins .result) (c .before .before .before .before .before .before .before .before .enter-joins .ensures) (c .enum-told .given .1)
 
--- src/lib.rt:383:23
 enum-known-m : tie.Need-enum-known-m Inv-loop μ-loop
 enum-known-m c = search needs
 
--- src/lib.rt:387:9
 add-i : tie.Need-add-i Inv-loop μ-loop
 add-i c =
     let b = c .before .before .before .before .before .before .before .before .before .before .before .before .before .before .before .before .before .before .before .before .before .before .before .before .before .before .before in
@@ -109,7 +93,6 @@ add-i c =
     let d = c .before .before .before .before .before .before .before .before .before .before .before .before .before .before .before .before .before .before .before .before .before .before .loop .inv .0 in
     let h = d .graph .few in let k = c .before .before .before .before .before .before .before .before .before .before .before .before .before .before .before .before .before .before .before .before .before .loop-test .taken in search needs
 
--- src/lib.rt:371:5
 loop-less : tie.Need-loop-less Inv-loop μ-loop
 loop-less c =
     let b = c .before .before .before .before .before .before .before .before .before .before .before .before .before .before .before .before .before .before .before .before .before .before .before .before .before .before .before in
@@ -117,7 +100,6 @@ loop-less c =
     let d = c .before .before .before .before .before .before .before .before .before .before .before .before .before .before .before .before .before .before .before .before .before .before .loop .inv .0 in
     omega (arith, d .graph .few, c .before .before .before .before .before .before .before .before .before .before .before .before .before .before .before .before .before .before .before .before .before .loop-test .taken)
 
--- src/lib.rt:371:5
 loop-again : tie.Need-loop-again Inv-loop μ-loop
 loop-again c =
     let b = c .before .before .before .before .before .before .before .before .before .before .before .before .before .before .before .before .before .before .before .before .before .before .before .before .before .before .before in
@@ -125,19 +107,15 @@ loop-again c =
     let d = c .before .before .before .before .before .before .before .before .before .before .before .before .before .before .before .before .before .before .before .before .before .before .loop .inv .0 in
     (turning-on t d (c .before .before .before .before .before .before .before .before .before .before .before .before .before .before .before .before .before .before .before .before .before .loop-test .taken) (c .before .before .before .before .before .before .before .before .before .before .before .before .before .before .before .number .result) (c .before .before .before .before .before .before .before .before .before .before .before .before .before .number2 .result) (c .before .before .before .before .before .before .before .before .before .before .before .before .before .before .before .number .ensures .0) (c .before .before .before .before .before .before .before .before .before .before .before .before .before .number2 .ensures .0) (c .before .before .before .before .before .before .before .before .before .before .before .before .before .before .before .before .before .before .before .before .spend .result .budget .left) (check-one (c .before .before .before .before .before .before .before .before .before .before .before .before .before .before .before .before .before .before .before .before .before .before .loop .b) (c .before .before .before .before .before .before .before .before .before .before .before .before .before .before .before .before .before .before .before .before .spend .result) (c .before .before .before .before .before .before .before .before .before .before .before .before .before .before .before .before .before .before .before .before .spend .ensures) (c .before .before .before .before .before .before .before .before .before .before .before .before .before .before .before .before .before .if1 .left)) (b .pre .1) (c .before .before .before .before .before .before .before .before .before .enter-joins .result) (c .before .before .before .before .before .before .before .before .before .enter-joins .ensures) (c .before .m .given .1), omega (arith, c .before .before .before .before .before .before .before .before .before .before .before .before .before .before .before .before .before .before .before .before .before .before .loop .inv .1, c .before .before .before .before .before .before .before .before .before .enter-joins .kept), omega (arith, c .before .before .before .before .before .before .before .before .before .before .before .before .before .before .before .before .before .before .before .before .before .before .loop .inv .2, c .before .before .before .before .before .before .before .before .before .enter-joins .kept), omega (arith, c .before .before .before .before .before .before .before .before .before .before .before .before .before .before .before .before .before .before .before .before .before .before .loop .inv .3, c .before .before .before .before .before .before .before .before .before .enter-joins .kept))
 
--- src/lib.rt:357:1
 same-length-7 : tie.Need-same-length-7 Inv-loop μ-loop
 same-length-7 c = search needs
 
--- src/lib.rt:357:1
 same-length-8 : tie.Need-same-length-8 Inv-loop μ-loop
 same-length-8 c = search needs
 
--- src/lib.rt:357:1
 same-length-9 : tie.Need-same-length-9 Inv-loop μ-loop
 same-length-9 c = search needs
 
--- src/lib.rt:357:1
 returns-3 : tie.Need-returns-3 Inv-loop μ-loop
 returns-3 c =
     let b = c .before .before .before .before .before .before in

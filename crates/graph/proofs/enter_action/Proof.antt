@@ -20,15 +20,12 @@ Inv-loop s im v lefts₀ rights₀ index₀ n0 many n₀ k₀ lefts rights index
 abbrev μ-loop : tie.MeasureT-loop
 μ-loop s im v lefts₀ rights₀ index₀ n0 many n₀ k₀ lefts rights index n k = many - k
 
--- src/lib.rt:159:9
 count-requires : tie.Need-count-requires Inv-loop μ-loop
 count-requires c κs = search needs
 
--- src/lib.rt:162:5
 loop-holds : tie.Need-loop-holds Inv-loop μ-loop
 loop-holds c = let b = c .before .before .before .before .before in (omega arith, going-start (actionAt (tablesOf (b .args .s .now)) (b .args .v) .pairs) (b .pre .3) (b .pre .4), refl, refl, refl)
 
--- src/lib.rt:163:13
 left-class-requires : tie.Need-left-class-requires Inv-loop μ-loop
 left-class-requires c κs =
     let b = c .before .before .before .before .before .before .before in
@@ -36,7 +33,6 @@ left-class-requires c κs =
     let h : c .before .loop .k < length ps = omega (arith, c .before .before .count .ensures .0, c .loop-test .taken) in
     (b .pre .0, b .pre .1, b .pre .2, h)
 
--- src/lib.rt:164:13
 right-class-requires : tie.Need-right-class-requires Inv-loop μ-loop
 right-class-requires c κs =
     let b = c .before .before .before .before .before .before .before .before in
@@ -44,7 +40,6 @@ right-class-requires c κs =
     let h : c .before .before .loop .k < length ps = omega (arith, c .before .before .before .count .ensures .0, c .before .loop-test .taken) in
     (b .pre .0, b .pre .1, b .pre .2, h)
 
--- src/lib.rt:165:15
 enter-pair-requires : tie.Need-enter-pair-requires Inv-loop μ-loop
 enter-pair-requires c κs =
     let b = c .before .before .before .before .before .before .before .before .before .before .before .before in
@@ -53,23 +48,18 @@ enter-pair-requires c κs =
     let p = going-small (c .before .before .before .before .before .before .loop .inv .1) ((c .before .before .before .before .left-class .result, c .before .before .before .right-class .result) ∷ []) (drop (c .before .before .before .before .before .before .loop .k + 1) ps) (pair-next ps (c .before .before .before .before .before .before .loop .k) (c .before .before .before .before .left-class .result) (c .before .before .before .right-class .result) h (c .before .before .before .before .left-class .ensures .0) (c .before .before .before .right-class .ensures .0)) (c .before .before .before .before .left-class .result, c .before .before .before .right-class .result) here in
     (c .before .before .before .before .before .before .loop .inv .1 .graph, p)
 
--- src/lib.rt:167:17
 enum-told : tie.Need-enum-told Inv-loop μ-loop
 enum-told c = search needs
 
--- src/lib.rt:167:17
 same-length : tie.Need-same-length Inv-loop μ-loop
 same-length c = search needs
 
--- src/lib.rt:167:17
 same-length-2 : tie.Need-same-length-2 Inv-loop μ-loop
 same-length-2 c = search needs
 
--- src/lib.rt:167:17
 same-length-3 : tie.Need-same-length-3 Inv-loop μ-loop
 same-length-3 c = search needs
 
--- src/lib.rt:167:17
 returns : tie.Need-returns Inv-loop μ-loop
 returns c =
     let b = c .before .before .before .before .before .before .before .before .before .before .before .before .before .before .before .before .before .before .before .before .before in
@@ -77,19 +67,15 @@ returns c =
     let h : c .before .before .before .before .before .before .before .before .before .before .before .before .before .before .before .loop .k < length ps = omega (arith, c .before .before .before .before .before .before .before .before .before .before .before .before .before .before .before .before .count .ensures .0, c .before .before .before .before .before .before .before .before .before .before .before .before .before .before .loop-test .taken) in
     going-full (c .before .before .before .before .before .before .before .before .before .before .before .before .before .before .before .loop .inv .1) ((c .before .before .before .before .before .before .before .before .before .before .before .before .before .left-class .result, c .before .before .before .before .before .before .before .before .before .before .before .before .right-class .result) ∷ []) (drop (c .before .before .before .before .before .before .before .before .before .before .before .before .before .before .before .loop .k + 1) ps) (pair-next ps (c .before .before .before .before .before .before .before .before .before .before .before .before .before .before .before .loop .k) (c .before .before .before .before .before .before .before .before .before .before .before .before .before .left-class .result) (c .before .before .before .before .before .before .before .before .before .before .before .before .right-class .result) h (c .before .before .before .before .before .before .before .before .before .before .before .before .before .left-class .ensures .0) (c .before .before .before .before .before .before .before .before .before .before .before .before .right-class .ensures .0)) (c .before .before .before .before .before .before .before .before .enter-pair .result) (c .before .before .before .before .before .before .before .before .enter-pair .ensures) (c .enum-told .given .1)
 
--- src/lib.rt:169:23
 enum-known-m : tie.Need-enum-known-m Inv-loop μ-loop
 enum-known-m c = search needs
 
--- src/lib.rt:173:9
 add-k : tie.Need-add-k Inv-loop μ-loop
 add-k c = search needs
 
--- src/lib.rt:162:5
 loop-less : tie.Need-loop-less Inv-loop μ-loop
 loop-less c = search needs
 
--- src/lib.rt:162:5
 loop-again : tie.Need-loop-again Inv-loop μ-loop
 loop-again c =
     let b = c .before .before .before .before .before .before .before .before .before .before .before .before .before .before .before .before .before .before .before .before .before .before in
@@ -97,19 +83,15 @@ loop-again c =
     let h : c .before .before .before .before .before .before .before .before .before .before .before .before .before .before .before .before .loop .k < length ps = omega (arith, c .before .before .before .before .before .before .before .before .before .before .before .before .before .before .before .before .before .count .ensures .0, c .before .before .before .before .before .before .before .before .before .before .before .before .before .before .before .loop-test .taken) in
     (omega (arith, c .before .before .before .before .before .before .before .before .before .before .before .before .before .before .before .loop-test .taken), going-on (c .before .before .before .before .before .before .before .before .before .before .before .before .before .before .before .before .loop .inv .1) ((c .before .before .before .before .before .before .before .before .before .before .before .before .before .before .left-class .result, c .before .before .before .before .before .before .before .before .before .before .before .before .before .right-class .result) ∷ []) (drop (c .before .before .before .before .before .before .before .before .before .before .before .before .before .before .before .before .loop .k + 1) ps) (pair-next ps (c .before .before .before .before .before .before .before .before .before .before .before .before .before .before .before .before .loop .k) (c .before .before .before .before .before .before .before .before .before .before .before .before .before .before .left-class .result) (c .before .before .before .before .before .before .before .before .before .before .before .before .before .right-class .result) h (c .before .before .before .before .before .before .before .before .before .before .before .before .before .before .left-class .ensures .0) (c .before .before .before .before .before .before .before .before .before .before .before .before .before .right-class .ensures .0)) (c .before .before .before .before .before .before .before .before .before .enter-pair .result) (c .before .before .before .before .before .before .before .before .before .enter-pair .ensures) (c .before .m .given .1) (omega (arith, c .before .before .before .before .before .before .before .before .before .enter-pair .kept)), omega (arith, c .before .before .before .before .before .before .before .before .before .before .before .before .before .before .before .before .loop .inv .2, c .before .before .before .before .before .before .before .before .before .enter-pair .kept), omega (arith, c .before .before .before .before .before .before .before .before .before .before .before .before .before .before .before .before .loop .inv .3, c .before .before .before .before .before .before .before .before .before .enter-pair .kept), omega (arith, c .before .before .before .before .before .before .before .before .before .before .before .before .before .before .before .before .loop .inv .4, c .before .before .before .before .before .before .before .before .before .enter-pair .kept))
 
--- src/lib.rt:147:1
 same-length-4 : tie.Need-same-length-4 Inv-loop μ-loop
 same-length-4 c = search needs
 
--- src/lib.rt:147:1
 same-length-5 : tie.Need-same-length-5 Inv-loop μ-loop
 same-length-5 c = search needs
 
--- src/lib.rt:147:1
 same-length-6 : tie.Need-same-length-6 Inv-loop μ-loop
 same-length-6 c = search needs
 
--- src/lib.rt:147:1
 returns-2 : tie.Need-returns-2 Inv-loop μ-loop
 returns-2 c =
     let b = c .before .before .before .before .before .before .before in

@@ -21,97 +21,78 @@ Inv-loop s im l r lefts₀ rights₀ index₀ n0 n₀ v₀ lefts rights index n 
 abbrev μ-loop : tie.MeasureT-loop
 μ-loop s im l r lefts₀ rights₀ index₀ n0 n₀ v₀ lefts rights index n v = length (listFrom (tablesOf s) l r v)
 
--- src/lib.rt:193:9
 start-requires : tie.Need-start-requires Inv-loop μ-loop
 start-requires c κs = search needs
 
--- src/lib.rt:194:5
 loop-holds : tie.Need-loop-holds Inv-loop μ-loop
 loop-holds c =
     let b = c .before .before .before .before .before in
     let t = tablesOf (b .args .s .now) in
     (going-same (going-start (pairsOf (structural t (b .args .l) (b .args .r))) (b .pre .4) (structural-small t (b .pre .1) (b .args .l) (b .args .r) (omega (arith, b .pre .2, classes-many (b .args .s .now) (b .args .im) (b .pre .0))) (omega (arith, b .pre .3, classes-many (b .args .s .now) (b .args .im) (b .pre .0))) (length (b .args .index .now)) (omega (arith, b .pre .5, classes-many (b .args .s .now) (b .args .im) (b .pre .0))))) (pairsOf (listFrom t (b .args .l) (b .args .r) (c .start .result))) (ap pairsOf (sym (c .start .ensures))), refl, refl, refl)
 
--- src/lib.rt:195:15
 seek-requires : tie.Need-seek-requires Inv-loop μ-loop
 seek-requires c κs = search needs
 
--- src/lib.rt:197:17
 enum-told : tie.Need-enum-told Inv-loop μ-loop
 enum-told c = search needs
 
--- src/lib.rt:197:17
 same-length : tie.Need-same-length Inv-loop μ-loop
 same-length c = search needs
 
--- src/lib.rt:197:17
 same-length-2 : tie.Need-same-length-2 Inv-loop μ-loop
 same-length-2 c = search needs
 
--- src/lib.rt:197:17
 same-length-3 : tie.Need-same-length-3 Inv-loop μ-loop
 same-length-3 c = search needs
 
--- src/lib.rt:197:17
 returns : tie.Need-returns Inv-loop μ-loop
 returns c =
     let b = c .before .before .before .before .before .before .before .before .before in
     let t = tablesOf (b .args .s .now) in
     going-end (c .before .before .before .loop .inv .0) (actions-end t (b .args .l) (b .args .r) (c .before .before .before .loop .v) (c .before .before .seek .result) (c .before .before .seek .ensures .0) (c .enum-told .given .1))
 
--- src/lib.rt:199:24
 enum-known-w : tie.Need-enum-known-w Inv-loop μ-loop
 enum-known-w c = search needs
 
--- src/lib.rt:200:23
 enter-action-requires : tie.Need-enter-action-requires Inv-loop μ-loop
 enter-action-requires c κs =
     let b = c .before .before .before .before .before .before .before .before .before .before .before .before .before in
     let t = tablesOf (b .args .s .now) in
     (b .pre .0, b .pre .1, stands-here t (c .before .before .before .before .before .before .seek .result) (c .before .before .before .before .w .given .0 .0) (c .before .before .before .before .before .before .seek .ensures .1) (c .before .before .before .before .w .given .1), c .before .before .before .before .before .before .before .loop .inv .0 .graph, going-small (c .before .before .before .before .before .before .before .loop .inv .0) (actionAt t (c .before .before .before .before .w .given .0 .0) .pairs) (pairsOf (listFrom t (b .args .l) (b .args .r) (afterOf (c .before .before .before .before .w .given .0 .0)))) (actions-next t (b .args .l) (b .args .r) (c .before .before .before .before .before .before .before .loop .v) (c .before .before .before .before .before .before .seek .result) (c .before .before .before .before .before .before .seek .ensures .0) (c .before .before .before .before .w .given .0 .0) (c .before .before .before .before .w .given .1)))
 
--- src/lib.rt:202:25
 enum-told-2 : tie.Need-enum-told-2 Inv-loop μ-loop
 enum-told-2 c = search needs
 
--- src/lib.rt:202:25
 same-length-4 : tie.Need-same-length-4 Inv-loop μ-loop
 same-length-4 c = search needs
 
--- src/lib.rt:202:25
 same-length-5 : tie.Need-same-length-5 Inv-loop μ-loop
 same-length-5 c = search needs
 
--- src/lib.rt:202:25
 same-length-6 : tie.Need-same-length-6 Inv-loop μ-loop
 same-length-6 c = search needs
 
--- src/lib.rt:202:25
 returns-2 : tie.Need-returns-2 Inv-loop μ-loop
 returns-2 c =
     let b = c .before .before .before .before .before .before .before .before .before .before .before .before .before .before .before .before .before .before .before .before .before .before in
     let t = tablesOf (b .args .s .now) in
     going-full (c .before .before .before .before .before .before .before .before .before .before .before .before .before .before .before .before .loop .inv .0) (actionAt t (c .before .before .before .before .before .before .before .before .before .before .before .before .before .w .given .0 .0) .pairs) (pairsOf (listFrom t (b .args .l) (b .args .r) (afterOf (c .before .before .before .before .before .before .before .before .before .before .before .before .before .w .given .0 .0)))) (actions-next t (b .args .l) (b .args .r) (c .before .before .before .before .before .before .before .before .before .before .before .before .before .before .before .before .loop .v) (c .before .before .before .before .before .before .before .before .before .before .before .before .before .before .before .seek .result) (c .before .before .before .before .before .before .before .before .before .before .before .before .before .before .before .seek .ensures .0) (c .before .before .before .before .before .before .before .before .before .before .before .before .before .w .given .0 .0) (c .before .before .before .before .before .before .before .before .before .before .before .before .before .w .given .1)) (c .before .before .before .before .before .before .before .before .enter-action .result) (c .before .before .before .before .before .before .before .before .enter-action .ensures) (c .enum-told2 .given .1)
 
--- src/lib.rt:204:31
 enum-known-m : tie.Need-enum-known-m Inv-loop μ-loop
 enum-known-m c = search needs
 
--- src/lib.rt:208:17
 after-requires : tie.Need-after-requires Inv-loop μ-loop
 after-requires c κs =
     let b = c .before .before .before .before .before .before .before .before .before .before .before .before .before .before .before .before .before .before .before .before .before .before .before in
     let t = tablesOf (b .args .s .now) in
     stands-here t (c .before .before .before .before .before .before .before .before .before .before .before .before .before .before .before .before .seek .result) (c .before .before .before .before .before .before .before .before .before .before .before .before .before .before .w .given .0 .0) (c .before .before .before .before .before .before .before .before .before .before .before .before .before .before .before .before .seek .ensures .1) (c .before .before .before .before .before .before .before .before .before .before .before .before .before .before .w .given .1) .few
 
--- src/lib.rt:194:5
 loop-less : tie.Need-loop-less Inv-loop μ-loop
 loop-less c =
     let b = c .before .before .before .before .before .before .before .before .before .before .before .before .before .before .before .before .before .before .before .before .before .before .before .before in
     let t = tablesOf (b .args .s .now) in
     rw (c .after .ensures) (actions-fewer t (b .args .l) (b .args .r) (c .before .before .before .before .before .before .before .before .before .before .before .before .before .before .before .before .before .before .loop .v) (c .before .before .before .before .before .before .before .before .before .before .before .before .before .before .before .before .before .seek .result) (c .before .before .before .before .before .before .before .before .before .before .before .before .before .before .before .before .before .seek .ensures .0) (c .before .before .before .before .before .before .before .before .before .before .before .before .before .before .before .w .given .0 .0) (c .before .before .before .before .before .before .before .before .before .before .before .before .before .before .before .w .given .1))
 
--- src/lib.rt:194:5
 loop-again : tie.Need-loop-again Inv-loop μ-loop
 loop-again c =
     let b = c .before .before .before .before .before .before .before .before .before .before .before .before .before .before .before .before .before .before .before .before .before .before .before .before in

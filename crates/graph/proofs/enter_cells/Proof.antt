@@ -19,7 +19,6 @@ Inv-loop left rows right cols lefts₀ rights₀ index₀ n0 n₀ i₀ lefts rig
 abbrev μ-loop : tie.MeasureT-loop
 μ-loop left rows right cols lefts₀ rights₀ index₀ n0 n₀ i₀ lefts rights index n i = rows - i
 
--- src/lib.rt:261:5
 loop-holds : tie.Need-loop-holds Inv-loop μ-loop
 loop-holds c =
     let b = c .before .before .before .before .before in
@@ -27,7 +26,6 @@ loop-holds c =
     let rs = b .args .right .now in
     (omega arith, going-same (going-start (cellPairs (pairOf (held (b .args .rows) ls) (held (b .args .cols) rs))) (b .pre .4) (b .pre .5)) (cellsFrom (b .args .rows) ls (b .args .cols) rs 0) (cells-start (b .args .rows) ls (b .args .cols) rs (b .pre .0) (b .pre .1)), refl, refl, refl)
 
--- src/lib.rt:262:23
 class-at-requires : tie.Need-class-at-requires Inv-loop μ-loop
 class-at-requires c κs =
     let b = c .before .before .before .before .before .before .before in
@@ -35,11 +33,9 @@ class-at-requires c κs =
     let rs = b .args .right .now in
     (b .pre .0, omega (arith, b .pre .1, c .loop-test .taken))
 
--- src/lib.rt:262:13
 short-requires : tie.Need-short-requires Inv-loop μ-loop
 short-requires c κs = search needs
 
--- src/lib.rt:263:15
 enter-row-requires : tie.Need-enter-row-requires Inv-loop μ-loop
 enter-row-requires c κs =
     let b = c .before .before .before .before .before .before .before .before .before .before .before .before in
@@ -47,23 +43,18 @@ enter-row-requires c κs =
     let rs = b .args .right .now in
     (b .pre .2, b .pre .3, c .before .before .before .before .before .before .loop .inv .1 .graph, going-small (c .before .before .before .before .before .before .loop .inv .1) (rowFrom (c .before .before .before .short .result) (b .args .cols) rs 0) (cellsFrom (b .args .rows) ls (b .args .cols) rs (c .before .before .before .before .before .before .loop .i + 1)) (cells-next (b .args .rows) ls (b .args .cols) rs (b .pre .0) (b .pre .1) (c .before .before .before .before .before .before .loop .i) (c .before .before .before .short .result) (c .before .before .before .before .class-at .result) (c .before .before .before .before .before .loop-test .taken) (c .before .before .before .short .ensures) (c .before .before .before .before .class-at .ensures)))
 
--- src/lib.rt:265:17
 enum-told : tie.Need-enum-told Inv-loop μ-loop
 enum-told c = search needs
 
--- src/lib.rt:265:17
 same-length : tie.Need-same-length Inv-loop μ-loop
 same-length c = search needs
 
--- src/lib.rt:265:17
 same-length-2 : tie.Need-same-length-2 Inv-loop μ-loop
 same-length-2 c = search needs
 
--- src/lib.rt:265:17
 same-length-3 : tie.Need-same-length-3 Inv-loop μ-loop
 same-length-3 c = search needs
 
--- src/lib.rt:265:17
 returns : tie.Need-returns Inv-loop μ-loop
 returns c =
     let b = c .before .before .before .before .before .before .before .before .before .before .before .before .before .before .before .before .before .before .before .before .before in
@@ -71,19 +62,15 @@ returns c =
     let rs = b .args .right .now in
     going-full (c .before .before .before .before .before .before .before .before .before .before .before .before .before .before .before .loop .inv .1) (rowFrom (c .before .before .before .before .before .before .before .before .before .before .before .before .short .result) (b .args .cols) rs 0) (cellsFrom (b .args .rows) ls (b .args .cols) rs (c .before .before .before .before .before .before .before .before .before .before .before .before .before .before .before .loop .i + 1)) (cells-next (b .args .rows) ls (b .args .cols) rs (b .pre .0) (b .pre .1) (c .before .before .before .before .before .before .before .before .before .before .before .before .before .before .before .loop .i) (c .before .before .before .before .before .before .before .before .before .before .before .before .short .result) (c .before .before .before .before .before .before .before .before .before .before .before .before .before .class-at .result) (c .before .before .before .before .before .before .before .before .before .before .before .before .before .before .loop-test .taken) (c .before .before .before .before .before .before .before .before .before .before .before .before .short .ensures) (c .before .before .before .before .before .before .before .before .before .before .before .before .before .class-at .ensures)) (c .before .before .before .before .before .before .before .before .enter-row .result) (c .before .before .before .before .before .before .before .before .enter-row .ensures) (c .enum-told .given .1)
 
--- src/lib.rt:267:23
 enum-known-m : tie.Need-enum-known-m Inv-loop μ-loop
 enum-known-m c = search needs
 
--- src/lib.rt:271:9
 add-i : tie.Need-add-i Inv-loop μ-loop
 add-i c = search needs
 
--- src/lib.rt:261:5
 loop-less : tie.Need-loop-less Inv-loop μ-loop
 loop-less c = search needs
 
--- src/lib.rt:261:5
 loop-again : tie.Need-loop-again Inv-loop μ-loop
 loop-again c =
     let b = c .before .before .before .before .before .before .before .before .before .before .before .before .before .before .before .before .before .before .before .before .before .before in
@@ -91,19 +78,15 @@ loop-again c =
     let rs = b .args .right .now in
     (omega (arith, c .before .before .before .before .before .before .before .before .before .before .before .before .before .before .before .loop-test .taken), going-on (c .before .before .before .before .before .before .before .before .before .before .before .before .before .before .before .before .loop .inv .1) (rowFrom (c .before .before .before .before .before .before .before .before .before .before .before .before .before .short .result) (b .args .cols) rs 0) (cellsFrom (b .args .rows) ls (b .args .cols) rs (c .before .before .before .before .before .before .before .before .before .before .before .before .before .before .before .before .loop .i + 1)) (cells-next (b .args .rows) ls (b .args .cols) rs (b .pre .0) (b .pre .1) (c .before .before .before .before .before .before .before .before .before .before .before .before .before .before .before .before .loop .i) (c .before .before .before .before .before .before .before .before .before .before .before .before .before .short .result) (c .before .before .before .before .before .before .before .before .before .before .before .before .before .before .class-at .result) (c .before .before .before .before .before .before .before .before .before .before .before .before .before .before .before .loop-test .taken) (c .before .before .before .before .before .before .before .before .before .before .before .before .before .short .ensures) (c .before .before .before .before .before .before .before .before .before .before .before .before .before .before .class-at .ensures)) (c .before .before .before .before .before .before .before .before .before .enter-row .result) (c .before .before .before .before .before .before .before .before .before .enter-row .ensures) (c .before .m .given .1) (omega (arith, c .before .before .before .before .before .before .before .before .before .enter-row .kept)), omega (arith, c .before .before .before .before .before .before .before .before .before .before .before .before .before .before .before .before .loop .inv .2, c .before .before .before .before .before .before .before .before .before .enter-row .kept), omega (arith, c .before .before .before .before .before .before .before .before .before .before .before .before .before .before .before .before .loop .inv .3, c .before .before .before .before .before .before .before .before .before .enter-row .kept), omega (arith, c .before .before .before .before .before .before .before .before .before .before .before .before .before .before .before .before .loop .inv .4, c .before .before .before .before .before .before .before .before .before .enter-row .kept))
 
--- src/lib.rt:246:1
 same-length-4 : tie.Need-same-length-4 Inv-loop μ-loop
 same-length-4 c = search needs
 
--- src/lib.rt:246:1
 same-length-5 : tie.Need-same-length-5 Inv-loop μ-loop
 same-length-5 c = search needs
 
--- src/lib.rt:246:1
 same-length-6 : tie.Need-same-length-6 Inv-loop μ-loop
 same-length-6 c = search needs
 
--- src/lib.rt:246:1
 returns-2 : tie.Need-returns-2 Inv-loop μ-loop
 returns-2 c =
     let b = c .before .before .before .before .before .before .before in

@@ -9,19 +9,15 @@ use borrow.Author.Needs.{needs}
 use Rattle.graph.proofs.enter_joins.Statement.{statement}
 use Rattle.graph.proofs.enter_joins.Tie as tie
 
--- src/lib.rt:350:11
 enter-actions-requires : tie.Need-enter-actions-requires
 enter-actions-requires c κs = search needs
 
--- src/lib.rt:351:24
 enum-told : tie.Need-enum-told
 enum-told c = search needs
 
--- src/lib.rt:352:19
 enum-known-m : tie.Need-enum-known-m
 enum-known-m c = search needs
 
--- src/lib.rt:352:25
 enter-transports-requires : tie.Need-enter-transports-requires
 enter-transports-requires c κs =
     let b = c .before .before .before .before .before .before .before .before .before .before .before .before .before .before .before .before .before .before .before .before in
@@ -31,19 +27,15 @@ enter-transports-requires c κs =
     let d = going-start (joins t (l, r)) (b .pre .4) (joins-small t (b .pre .1) l r (omega (arith, b .pre .2, classes-many (b .args .s .now) (b .args .im) (b .pre .0))) (omega (arith, b .pre .3, classes-many (b .args .s .now) (b .args .im) (b .pre .0))) (length (b .args .index .now)) (omega (arith, b .pre .5, classes-many (b .args .s .now) (b .args .im) (b .pre .0)))) in
     (b .pre .0, b .pre .1, b .pre .2, b .pre .3, going-on d (pairsOf (structural t l r)) (cellsOf (transports t l r)) (joins-are t l r) (c .before .before .before .before .before .before .before .before .before .before .before .before .enter-actions .result) (c .before .before .before .before .before .before .before .before .before .before .before .before .enter-actions .ensures) (c .before .before .before .before .m .given .1) (omega (arith, c .before .before .before .before .before .before .before .before .before .before .before .before .enter-actions .kept)) .graph, omega (arith, b .pre .5, c .before .before .before .before .before .before .before .before .before .before .before .before .enter-actions .kept))
 
--- src/lib.rt:337:1
 same-length : tie.Need-same-length
 same-length c = search needs
 
--- src/lib.rt:337:1
 same-length-2 : tie.Need-same-length-2
 same-length-2 c = search needs
 
--- src/lib.rt:337:1
 same-length-3 : tie.Need-same-length-3
 same-length-3 c = search needs
 
--- src/lib.rt:337:1
 returns : tie.Need-returns
 returns c =
     let b = c .before .before .before .before .before .before .before .before .before .before .before .before .before .before .before .before in
@@ -53,19 +45,15 @@ returns c =
     let d = going-start (joins t (l, r)) (b .pre .4) (joins-small t (b .pre .1) l r (omega (arith, b .pre .2, classes-many (b .args .s .now) (b .args .im) (b .pre .0))) (omega (arith, b .pre .3, classes-many (b .args .s .now) (b .args .im) (b .pre .0))) (length (b .args .index .now)) (omega (arith, b .pre .5, classes-many (b .args .s .now) (b .args .im) (b .pre .0)))) in
     going-full d (pairsOf (structural t l r)) (cellsOf (transports t l r)) (joins-are t l r) (c .before .before .before .before .before .before .before .before .enter-actions .result) (c .before .before .before .before .before .before .before .before .enter-actions .ensures) (c .enum-told .given .1)
 
--- src/lib.rt:337:1
 same-length-4 : tie.Need-same-length-4
 same-length-4 c = search needs
 
--- src/lib.rt:337:1
 same-length-5 : tie.Need-same-length-5
 same-length-5 c = search needs
 
--- src/lib.rt:337:1
 same-length-6 : tie.Need-same-length-6
 same-length-6 c = search needs
 
--- src/lib.rt:337:1
 returns-2 : tie.Need-returns-2
 returns-2 c =
     let b = c .before .before .before .before .before .before .before .before .before .before .before .before .before .before .before .before .before .before .before .before .before .before .before .before .before .before .before in

@@ -5,63 +5,48 @@ use borrow.Author.Needs.{needs}
 use Rattle.graph.proofs.enter_pair.Statement.{statement}
 use Rattle.graph.proofs.enter_pair.Tie as tie
 
--- src/lib.rt:135:8
 known-requires : tie.Need-known-requires
 known-requires c κs = search needs
 
--- src/lib.rt:136:9
 same-length : tie.Need-same-length
 same-length c = search needs
 
--- src/lib.rt:136:9
 same-length-2 : tie.Need-same-length-2
 same-length-2 c = search needs
 
--- src/lib.rt:136:9
 same-length-3 : tie.Need-same-length-3
 same-length-3 c = search needs
 
--- src/lib.rt:136:9
 returns : tie.Need-returns
 returns c = let b = c .before .before .before .before .before .before .before .before in stays (b .pre .0) (b .args .l) (b .args .r) (sym (c .if1 .taken) ∙ c .before .known .ensures)
 
--- src/lib.rt:139:9
 same-length-4 : tie.Need-same-length-4
 same-length-4 c = search needs
 
--- src/lib.rt:139:9
 same-length-5 : tie.Need-same-length-5
 same-length-5 c = search needs
 
--- src/lib.rt:139:9
 same-length-6 : tie.Need-same-length-6
 same-length-6 c = search needs
 
--- src/lib.rt:139:9
 returns-2 : tie.Need-returns-2
 returns-2 c = let b = c .before .before .before .before .before .before .before .before .before in fills (b .pre .0) (b .args .l) (b .args .r) (sym (c .before .if1 .left) ∙ c .before .before .known .ensures) (c .if2 .taken)
 
--- src/lib.rt:141:5
 append-requires : tie.Need-append-requires
 append-requires c κs = let b = c .before .before .before .before .before .before .before .before .before .before .before .before in (c .before .before .before .if2 .left, b .pre .0 .roomLeft, b .pre .0 .roomRight, b .pre .1)
 
--- src/lib.rt:142:15
 add-t22 : tie.Need-add-t22
 add-t22 c = search needs
 
--- src/lib.rt:124:1
 same-length-7 : tie.Need-same-length-7
 same-length-7 c = search needs
 
--- src/lib.rt:124:1
 same-length-8 : tie.Need-same-length-8
 same-length-8 c = search needs
 
--- src/lib.rt:124:1
 same-length-9 : tie.Need-same-length-9
 same-length-9 c = search needs
 
--- src/lib.rt:124:1
 returns-3 : tie.Need-returns-3
 returns-3 c = let b = c .before .before .before .before .before .before .before .before .before .before .before .before .before .before .before .before .before .before .before in appends (b .pre .0) (b .args .l) (b .args .r) (b .pre .1) (c .before .before .before .before .before .before .before .before .before .before .if2 .left) (sym (c .before .before .before .before .before .before .before .before .before .before .before .if1 .left) ∙ c .before .before .before .before .before .before .before .before .before .before .before .before .known .ensures) (c .before .before .before .before .before .before .append .ensures .0) (c .before .before .before .before .before .before .append .ensures .1) (c .before .before .before .before .before .before .append .ensures .2)
 

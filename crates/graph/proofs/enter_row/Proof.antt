@@ -18,22 +18,18 @@ Inv-loop l right cols lefts₀ rights₀ index₀ n0 n₀ j₀ lefts rights inde
 abbrev μ-loop : tie.MeasureT-loop
 μ-loop l right cols lefts₀ rights₀ index₀ n0 n₀ j₀ lefts rights index n j = cols - j
 
--- src/lib.rt:230:5
 loop-holds : tie.Need-loop-holds Inv-loop μ-loop
 loop-holds c = let b = c .before .before .before .before in (omega arith, going-start (rowFrom (b .args .l) (b .args .cols) (b .args .right .now) 0) (b .pre .2) (b .pre .3), refl, refl, refl)
 
--- src/lib.rt:231:23
 class-at-requires : tie.Need-class-at-requires Inv-loop μ-loop
 class-at-requires c κs =
     let b = c .before .before .before .before .before .before in
     let ls = b .args .right .now in
     (b .pre .0, omega (arith, b .pre .1, c .loop-test .taken))
 
--- src/lib.rt:231:13
 short-requires : tie.Need-short-requires Inv-loop μ-loop
 short-requires c κs = search needs
 
--- src/lib.rt:232:15
 enter-pair-requires : tie.Need-enter-pair-requires Inv-loop μ-loop
 enter-pair-requires c κs =
     let b = c .before .before .before .before .before .before .before .before .before .before .before in
@@ -41,61 +37,48 @@ enter-pair-requires c κs =
     let p = going-small (c .before .before .before .before .before .before .loop .inv .1) ((b .args .l, c .before .before .before .short .result) ∷ []) (rowFrom (b .args .l) (b .args .cols) ls (c .before .before .before .before .before .before .loop .j + 1)) (row-next (b .args .l) (b .args .cols) ls (b .pre .0) (b .pre .1) (c .before .before .before .before .before .before .loop .j) (c .before .before .before .short .result) (c .before .before .before .before .class-at .result) (c .before .before .before .before .before .loop-test .taken) (c .before .before .before .short .ensures) (c .before .before .before .before .class-at .ensures)) (b .args .l, c .before .before .before .short .result) here in
     (c .before .before .before .before .before .before .loop .inv .1 .graph, p)
 
--- src/lib.rt:234:17
 enum-told : tie.Need-enum-told Inv-loop μ-loop
 enum-told c = search needs
 
--- src/lib.rt:234:17
 same-length : tie.Need-same-length Inv-loop μ-loop
 same-length c = search needs
 
--- src/lib.rt:234:17
 same-length-2 : tie.Need-same-length-2 Inv-loop μ-loop
 same-length-2 c = search needs
 
--- src/lib.rt:234:17
 same-length-3 : tie.Need-same-length-3 Inv-loop μ-loop
 same-length-3 c = search needs
 
--- src/lib.rt:234:17
 returns : tie.Need-returns Inv-loop μ-loop
 returns c =
     let b = c .before .before .before .before .before .before .before .before .before .before .before .before .before .before .before .before .before .before .before .before in
     let ls = b .args .right .now in
     going-full (c .before .before .before .before .before .before .before .before .before .before .before .before .before .before .before .loop .inv .1) ((b .args .l, c .before .before .before .before .before .before .before .before .before .before .before .before .short .result) ∷ []) (rowFrom (b .args .l) (b .args .cols) ls (c .before .before .before .before .before .before .before .before .before .before .before .before .before .before .before .loop .j + 1)) (row-next (b .args .l) (b .args .cols) ls (b .pre .0) (b .pre .1) (c .before .before .before .before .before .before .before .before .before .before .before .before .before .before .before .loop .j) (c .before .before .before .before .before .before .before .before .before .before .before .before .short .result) (c .before .before .before .before .before .before .before .before .before .before .before .before .before .class-at .result) (c .before .before .before .before .before .before .before .before .before .before .before .before .before .before .loop-test .taken) (c .before .before .before .before .before .before .before .before .before .before .before .before .short .ensures) (c .before .before .before .before .before .before .before .before .before .before .before .before .before .class-at .ensures)) (c .before .before .before .before .before .before .before .before .enter-pair .result) (c .before .before .before .before .before .before .before .before .enter-pair .ensures) (c .enum-told .given .1)
 
--- src/lib.rt:236:23
 enum-known-m : tie.Need-enum-known-m Inv-loop μ-loop
 enum-known-m c = search needs
 
--- src/lib.rt:240:9
 add-j : tie.Need-add-j Inv-loop μ-loop
 add-j c = search needs
 
--- src/lib.rt:230:5
 loop-less : tie.Need-loop-less Inv-loop μ-loop
 loop-less c = search needs
 
--- src/lib.rt:230:5
 loop-again : tie.Need-loop-again Inv-loop μ-loop
 loop-again c =
     let b = c .before .before .before .before .before .before .before .before .before .before .before .before .before .before .before .before .before .before .before .before .before in
     let ls = b .args .right .now in
     (omega (arith, c .before .before .before .before .before .before .before .before .before .before .before .before .before .before .before .loop-test .taken), going-on (c .before .before .before .before .before .before .before .before .before .before .before .before .before .before .before .before .loop .inv .1) ((b .args .l, c .before .before .before .before .before .before .before .before .before .before .before .before .before .short .result) ∷ []) (rowFrom (b .args .l) (b .args .cols) ls (c .before .before .before .before .before .before .before .before .before .before .before .before .before .before .before .before .loop .j + 1)) (row-next (b .args .l) (b .args .cols) ls (b .pre .0) (b .pre .1) (c .before .before .before .before .before .before .before .before .before .before .before .before .before .before .before .before .loop .j) (c .before .before .before .before .before .before .before .before .before .before .before .before .before .short .result) (c .before .before .before .before .before .before .before .before .before .before .before .before .before .before .class-at .result) (c .before .before .before .before .before .before .before .before .before .before .before .before .before .before .before .loop-test .taken) (c .before .before .before .before .before .before .before .before .before .before .before .before .before .short .ensures) (c .before .before .before .before .before .before .before .before .before .before .before .before .before .before .class-at .ensures)) (c .before .before .before .before .before .before .before .before .before .enter-pair .result) (c .before .before .before .before .before .before .before .before .before .enter-pair .ensures) (c .before .m .given .1) (omega (arith, c .before .before .before .before .before .before .before .before .before .enter-pair .kept)), omega (arith, c .before .before .before .before .before .before .before .before .before .before .before .before .before .before .before .before .loop .inv .2, c .before .before .before .before .before .before .before .before .before .enter-pair .kept), omega (arith, c .before .before .before .before .before .before .before .before .before .before .before .before .before .before .before .before .loop .inv .3, c .before .before .before .before .before .before .before .before .before .enter-pair .kept), omega (arith, c .before .before .before .before .before .before .before .before .before .before .before .before .before .before .before .before .loop .inv .4, c .before .before .before .before .before .before .before .before .before .enter-pair .kept))
 
--- src/lib.rt:216:1
 same-length-4 : tie.Need-same-length-4 Inv-loop μ-loop
 same-length-4 c = search needs
 
--- src/lib.rt:216:1
 same-length-5 : tie.Need-same-length-5 Inv-loop μ-loop
 same-length-5 c = search needs
 
--- src/lib.rt:216:1
 same-length-6 : tie.Need-same-length-6 Inv-loop μ-loop
 same-length-6 c = search needs
 
--- src/lib.rt:216:1
 returns-2 : tie.Need-returns-2 Inv-loop μ-loop
 returns-2 c =
     let b = c .before .before .before .before .before .before in

@@ -10,35 +10,27 @@ use borrow.Author.Needs.{needs}
 use Rattle.graph.proofs.enter_transport.Statement.{statement}
 use Rattle.graph.proofs.enter_transport.Tie as tie
 
--- src/lib.rt:293:37
 slice-aggregate-monomials : tie.Need-slice-aggregate-monomials
 slice-aggregate-monomials c = search needs
 
--- src/lib.rt:293:48
 slice-aggregate-monomials-2 : tie.Need-slice-aggregate-monomials-2
 slice-aggregate-monomials-2 c = search needs
 
--- src/lib.rt:293:11
 monomials-requires : tie.Need-monomials-requires
 monomials-requires c κs = search needs
 
--- src/lib.rt:294:28
 enum-told : tie.Need-enum-told
 enum-told c = search needs
 
--- src/lib.rt:295:22
 enum-known-rows : tie.Need-enum-known-rows
 enum-known-rows c = search needs
 
--- src/lib.rt:295:49
 slice-aggregate-enter-cells : tie.Need-slice-aggregate-enter-cells
 slice-aggregate-enter-cells c = search needs
 
--- src/lib.rt:295:62
 slice-aggregate-enter-cells-2 : tie.Need-slice-aggregate-enter-cells-2
 slice-aggregate-enter-cells-2 c = search needs
 
--- src/lib.rt:295:37
 enter-cells-requires : tie.Need-enter-cells-requires
 enter-cells-requires c κs =
     let b = c .before .before .before .before .before .before .before .before .before .before .before .before .before .before .before .before .before in
@@ -50,7 +42,6 @@ enter-cells-requires c κs =
     let f = transport-few t l r w (c .before .before .before .before .before .before .before .before .before .before .monomials .result) (c .before .before .before .before .before .before .before .before .before .before .monomials .ensures) (c .before .before .before .before .before .before .rows .given .0 .0) (c .before .before .before .before .before .before .rows .given .0 .1 .0) (c .before .before .before .before .before .before .rows .given .1) in
     (c .before .before .before .before .before .before .before .before .before .before .monomials .kept .1 .1 .1 .1 .1 .0, f .0, c .before .before .before .before .before .before .before .before .before .before .monomials .kept .1 .1 .1 .1 .1 .1 .0, f .1, b .pre .5, going-small d _ [] (transport-one t l r w (c .before .before .before .before .before .before .before .before .before .before .monomials .result) (c .before .before .before .before .before .before .before .before .before .before .monomials .ensures) (c .before .before .before .before .before .before .rows .given .0 .0) (c .before .before .before .before .before .before .rows .given .0 .1 .0) (c .before .before .before .before .before .before .rows .given .1)))
 
--- src/lib.rt:277:1
 returns : tie.Need-returns
 returns c =
     let b = c .before .before .before .before .before .before .before .before .before .before .before in
@@ -61,19 +52,15 @@ returns c =
     let d = going-start (cellsOf (actionsAt t l r w)) (b .pre .5) (b .pre .6) in
     going-end d (transport-none t l r w (c .before .before .before .before .monomials .result) (c .before .before .before .before .monomials .ensures) (c .enum-told .given .1))
 
--- src/lib.rt:277:1
 same-length : tie.Need-same-length
 same-length c = search needs
 
--- src/lib.rt:277:1
 same-length-2 : tie.Need-same-length-2
 same-length-2 c = search needs
 
--- src/lib.rt:277:1
 same-length-3 : tie.Need-same-length-3
 same-length-3 c = search needs
 
--- src/lib.rt:277:1
 returns-2 : tie.Need-returns-2
 returns-2 c =
     let b = c .before .before .before .before .before .before .before .before .before .before .before .before .before .before .before .before .before .before .before .before .before .before .before .before in

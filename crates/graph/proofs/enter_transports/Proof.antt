@@ -22,11 +22,9 @@ Inv-loop s im l r lefts₀ rights₀ index₀ n0 n₀ x₀ lefts rights index n 
 abbrev μ-loop : tie.MeasureT-loop
 μ-loop s im l r lefts₀ rights₀ index₀ n0 n₀ x₀ lefts rights index n x = walksLeft (tablesOf s) l r x
 
--- src/lib.rt:314:9
 first-requires : tie.Need-first-requires Inv-loop μ-loop
 first-requires c κs = search needs
 
--- src/lib.rt:315:5
 loop-holds : tie.Need-loop-holds Inv-loop μ-loop
 loop-holds c =
     let b = c .before .before .before .before .before in
@@ -37,23 +35,18 @@ loop-holds c =
     let hr : r < length (t .classes) = omega (arith, b .pre .3, classes-many (b .args .s .now) (b .args .im) (b .pre .0)) in
     (going-same (going-start (cellsOf (transports t l r)) (b .pre .4) (transports-small t (b .pre .1) l r hl hr (length (b .args .index .now)) (omega (arith, b .pre .5, classes-many (b .args .s .now) (b .args .im) (b .pre .0))))) (cellsOf (actionsLeft t l r (c .first .result))) (transports-start t l r (c .first .result) (b .pre .1) hl hr (c .first .ensures)), c .first .ensures .within, refl, refl, refl)
 
--- src/lib.rt:318:17
 enum-told : tie.Need-enum-told Inv-loop μ-loop
 enum-told c = search needs
 
--- src/lib.rt:318:17
 same-length : tie.Need-same-length Inv-loop μ-loop
 same-length c = search needs
 
--- src/lib.rt:318:17
 same-length-2 : tie.Need-same-length-2 Inv-loop μ-loop
 same-length-2 c = search needs
 
--- src/lib.rt:318:17
 same-length-3 : tie.Need-same-length-3 Inv-loop μ-loop
 same-length-3 c = search needs
 
--- src/lib.rt:318:17
 returns : tie.Need-returns Inv-loop μ-loop
 returns c =
     let b = c .before .before .before .before .before .before .before .before in
@@ -62,11 +55,9 @@ returns c =
     let r = b .args .r in
     going-end (c .before .before .loop .inv .0) (transports-end t l r (c .before .before .loop .x) (c .enum-told .given .1))
 
--- src/lib.rt:320:22
 enum-known-x : tie.Need-enum-known-x Inv-loop μ-loop
 enum-known-x c = search needs
 
--- src/lib.rt:321:23
 enter-transport-requires : tie.Need-enter-transport-requires Inv-loop μ-loop
 enter-transport-requires c κs =
     let b = c .before .before .before .before .before .before .before .before .before .before .before .before in
@@ -76,23 +67,18 @@ enter-transport-requires c κs =
     let w = c .before .before .before .before .x .given .0 .0 in
     (b .pre .0, b .pre .1, b .pre .2, b .pre .3, omega (arith, operations-many (b .args .s .now) (b .args .im) (b .pre .0), within-here t l r (c .before .before .before .before .before .before .loop .x) w (c .before .before .before .before .before .before .loop .inv .1) (c .before .before .before .before .x .given .1) .0), c .before .before .before .before .before .before .loop .inv .0 .graph, going-small (c .before .before .before .before .before .before .loop .inv .0) (cellsOf (actionsAt t l r w)) (cellsOf (each (actionsAt t l r) (walks t l r (afterOf w)))) (transports-first t l r (c .before .before .before .before .before .before .loop .x) w (c .before .before .before .before .x .given .1)))
 
--- src/lib.rt:323:25
 enum-told-2 : tie.Need-enum-told-2 Inv-loop μ-loop
 enum-told-2 c = search needs
 
--- src/lib.rt:323:25
 same-length-4 : tie.Need-same-length-4 Inv-loop μ-loop
 same-length-4 c = search needs
 
--- src/lib.rt:323:25
 same-length-5 : tie.Need-same-length-5 Inv-loop μ-loop
 same-length-5 c = search needs
 
--- src/lib.rt:323:25
 same-length-6 : tie.Need-same-length-6 Inv-loop μ-loop
 same-length-6 c = search needs
 
--- src/lib.rt:323:25
 returns-2 : tie.Need-returns-2 Inv-loop μ-loop
 returns-2 c =
     let b = c .before .before .before .before .before .before .before .before .before .before .before .before .before .before .before .before .before .before .before .before .before in
@@ -102,11 +88,9 @@ returns-2 c =
     let w = c .before .before .before .before .before .before .before .before .before .before .before .before .before .x .given .0 .0 in
     going-full (c .before .before .before .before .before .before .before .before .before .before .before .before .before .before .before .loop .inv .0) (cellsOf (actionsAt t l r w)) (cellsOf (each (actionsAt t l r) (walks t l r (afterOf w)))) (transports-first t l r (c .before .before .before .before .before .before .before .before .before .before .before .before .before .before .before .loop .x) w (c .before .before .before .before .before .before .before .before .before .before .before .before .before .x .given .1)) (c .before .before .before .before .before .before .before .before .enter-transport .result) (c .before .before .before .before .before .before .before .before .enter-transport .ensures) (c .enum-told2 .given .1)
 
--- src/lib.rt:325:31
 enum-known-m : tie.Need-enum-known-m Inv-loop μ-loop
 enum-known-m c = search needs
 
--- src/lib.rt:329:17
 next-requires : tie.Need-next-requires Inv-loop μ-loop
 next-requires c κs =
     let b = c .before .before .before .before .before .before .before .before .before .before .before .before .before .before .before .before .before .before .before .before .before .before in
@@ -116,7 +100,6 @@ next-requires c κs =
     let w = c .before .before .before .before .before .before .before .before .before .before .before .before .before .before .x .given .0 .0 in
     (b .pre .0, b .pre .1, b .pre .2, b .pre .3, within-here t l r (c .before .before .before .before .before .before .before .before .before .before .before .before .before .before .before .before .loop .x) w (c .before .before .before .before .before .before .before .before .before .before .before .before .before .before .before .before .loop .inv .1) (c .before .before .before .before .before .before .before .before .before .before .before .before .before .before .x .given .1))
 
--- src/lib.rt:315:5
 loop-less : tie.Need-loop-less Inv-loop μ-loop
 loop-less c =
     let b = c .before .before .before .before .before .before .before .before .before .before .before .before .before .before .before .before .before .before .before .before .before .before .before in
@@ -126,7 +109,6 @@ loop-less c =
     let w = c .before .before .before .before .before .before .before .before .before .before .before .before .before .before .before .x .given .0 .0 in
     walks-fewer t l r (c .before .before .before .before .before .before .before .before .before .before .before .before .before .before .before .before .before .loop .x) w (c .next .result) (c .before .before .before .before .before .before .before .before .before .before .before .before .before .before .before .x .given .1) (c .next .ensures)
 
--- src/lib.rt:315:5
 loop-again : tie.Need-loop-again Inv-loop μ-loop
 loop-again c =
     let b = c .before .before .before .before .before .before .before .before .before .before .before .before .before .before .before .before .before .before .before .before .before .before .before in

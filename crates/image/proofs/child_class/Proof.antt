@@ -5,19 +5,15 @@ use borrow.Author.Needs.{needs}
 use Rattle.image.proofs.child_class.Statement.{statement}
 use Rattle.image.proofs.child_class.Tie as tie
 
--- src/lib.rt:173:29
 mul-be2 : tie.Need-mul-be2
 mul-be2 c = search needs
 
--- src/lib.rt:173:12
 add-be2 : tie.Need-add-be2
 add-be2 c = search needs
 
--- src/lib.rt:173:5
 be2-requires : tie.Need-be2-requires
 be2-requires c κs = search needs
 
--- src/lib.rt:169:1
 returns : tie.Need-returns
 returns c =
     let b = c .before .before .before in

@@ -4,19 +4,15 @@ use borrow.Author.Needs.{needs}
 use Rattle.image.proofs.children_of.Statement.{statement}
 use Rattle.image.proofs.children_of.Tie as tie
 
--- src/lib.rt:205:9
 first-child-requires : tie.Need-first-child-requires
 first-child-requires c κs = search needs
 
--- src/lib.rt:208:20
 child-count-requires : tie.Need-child-count-requires
 child-count-requires c κs = search needs
 
--- src/lib.rt:208:13
 add-t6 : tie.Need-add-t6
 add-t6 c = search needs
 
--- src/lib.rt:201:1
 returns : tie.Need-returns
 returns c = (span-is (c .before .first-child .ensures .0) (c .child-count .ensures .0), omega arith)
 

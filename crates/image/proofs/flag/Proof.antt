@@ -5,27 +5,21 @@ use borrow.Author.Needs.{needs}
 use Rattle.image.proofs.flag.Statement.{statement}
 use Rattle.image.proofs.flag.Tie as tie
 
--- src/lib.rt:99:28
 mul-byte : tie.Need-mul-byte
 mul-byte c = search needs
 
--- src/lib.rt:99:12
 add-byte : tie.Need-add-byte
 add-byte c = search needs
 
--- src/lib.rt:99:12
 add-byte-2 : tie.Need-add-byte-2
 add-byte-2 c = search needs
 
--- src/lib.rt:99:10
 shared-slice-read-byte : tie.Need-shared-slice-read-byte
 shared-slice-read-byte c = search needs
 
--- src/lib.rt:99:5
 byte-requires : tie.Need-byte-requires
 byte-requires c κs = search needs
 
--- src/lib.rt:95:1
 returns : tie.Need-returns
 returns c =
     let b = c .before .before .before in

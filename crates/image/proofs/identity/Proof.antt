@@ -5,23 +5,18 @@ use borrow.Author.Needs.{needs}
 use Rattle.image.proofs.identity.Statement.{statement}
 use Rattle.image.proofs.identity.Tie as tie
 
--- src/lib.rt:107:28
 mul-be2 : tie.Need-mul-be2
 mul-be2 c = search needs
 
--- src/lib.rt:107:12
 add-be2 : tie.Need-add-be2
 add-be2 c = search needs
 
--- src/lib.rt:107:12
 add-be2-2 : tie.Need-add-be2-2
 add-be2-2 c = search needs
 
--- src/lib.rt:107:5
 be2-requires : tie.Need-be2-requires
 be2-requires c κs = search needs
 
--- src/lib.rt:103:1
 returns : tie.Need-returns
 returns c =
     let b = c .before .before in

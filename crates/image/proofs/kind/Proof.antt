@@ -5,23 +5,18 @@ use borrow.Author.Needs.{needs}
 use Rattle.image.proofs.kind.Statement.{statement}
 use Rattle.image.proofs.kind.Tie as tie
 
--- src/lib.rt:92:28
 mul-byte : tie.Need-mul-byte
 mul-byte c = search needs
 
--- src/lib.rt:92:12
 add-byte : tie.Need-add-byte
 add-byte c = search needs
 
--- src/lib.rt:92:10
 shared-slice-read-byte : tie.Need-shared-slice-read-byte
 shared-slice-read-byte c = search needs
 
--- src/lib.rt:92:5
 byte-requires : tie.Need-byte-requires
 byte-requires c κs = search needs
 
--- src/lib.rt:88:1
 returns : tie.Need-returns
 returns c =
     let b = c .before .before .before in

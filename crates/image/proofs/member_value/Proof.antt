@@ -5,23 +5,18 @@ use borrow.Author.Needs.{needs}
 use Rattle.image.proofs.member_value.Statement.{statement}
 use Rattle.image.proofs.member_value.Tie as tie
 
--- src/lib.rt:151:28
 mul-be4 : tie.Need-mul-be4
 mul-be4 c = search needs
 
--- src/lib.rt:151:12
 add-be4 : tie.Need-add-be4
 add-be4 c = search needs
 
--- src/lib.rt:151:12
 add-be4-2 : tie.Need-add-be4-2
 add-be4-2 c = search needs
 
--- src/lib.rt:151:5
 be4-requires : tie.Need-be4-requires
 be4-requires c κs = search needs
 
--- src/lib.rt:147:1
 returns : tie.Need-returns
 returns c =
     let b = c .before .before .before in

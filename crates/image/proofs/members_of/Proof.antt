@@ -4,19 +4,15 @@ use borrow.Author.Needs.{needs}
 use Rattle.image.proofs.members_of.Statement.{statement}
 use Rattle.image.proofs.members_of.Tie as tie
 
--- src/lib.rt:194:9
 first-member-requires : tie.Need-first-member-requires
 first-member-requires c κs = search needs
 
--- src/lib.rt:197:20
 member-count-requires : tie.Need-member-count-requires
 member-count-requires c κs = search needs
 
--- src/lib.rt:197:13
 add-t6 : tie.Need-add-t6
 add-t6 c = search needs
 
--- src/lib.rt:190:1
 returns : tie.Need-returns
 returns c = (span-is (c .before .first-member .ensures .0) (c .member-count .ensures .0), omega arith)
 

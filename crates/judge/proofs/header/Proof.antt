@@ -3,27 +3,21 @@ use borrow.Author.Needs.{needs}
 use Rattle.judge.proofs.header.Statement.{statement}
 use Rattle.judge.proofs.header.Tie as tie
 
--- src/lib.rt:46:15
 be2-requires : tie.Need-be2-requires
 be2-requires c κs = search needs
 
--- src/lib.rt:46:26
 be2-requires-2 : tie.Need-be2-requires-2
 be2-requires-2 c κs = search needs
 
--- src/lib.rt:46:37
 be2-requires-3 : tie.Need-be2-requires-3
 be2-requires-3 c κs = search needs
 
--- src/lib.rt:46:48
 be2-requires-4 : tie.Need-be2-requires-4
 be2-requires-4 c κs = search needs
 
--- src/lib.rt:46:5
 of-requires : tie.Need-of-requires
 of-requires c κs = search needs
 
--- src/lib.rt:42:1
 returns : tie.Need-returns
 returns c =
     let d = c .before .before .before .before in

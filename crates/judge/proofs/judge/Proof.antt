@@ -6,23 +6,18 @@ use borrow.Author.Needs.{needs}
 use Rattle.judge.proofs.judge.Statement.{statement}
 use Rattle.judge.proofs.judge.Tie as tie
 
--- src/lib.rt:101:9
 returns : tie.Need-returns
 returns c = (short-refused (c .before .before .args .s .now) (c .if1 .taken), omega arith)
 
--- src/lib.rt:103:8
 be4-requires : tie.Need-be4-requires
 be4-requires c κs = search needs
 
--- src/lib.rt:103:8
 add-if2 : tie.Need-add-if2
 add-if2 c = search needs
 
--- src/lib.rt:103:25
 long-requires : tie.Need-long-requires
 long-requires c κs = search needs
 
--- src/lib.rt:104:9
 returns-2 : tie.Need-returns-2
 returns-2 c =
     let d = c .before .before .before in
@@ -31,11 +26,9 @@ returns-2 c =
       omega arith,
     )
 
--- src/lib.rt:106:8
 shared-slice-read-if3 : tie.Need-shared-slice-read-if3
 shared-slice-read-if3 c = search needs
 
--- src/lib.rt:107:9
 returns-3 : tie.Need-returns-3
 returns-3 c =
     let v = c in
@@ -44,15 +37,12 @@ returns-3 c =
     let s = d .before .before .args .s .now in
     (version-refused s (d .if1 .left) (omega (arith, e .if2 .left, e .before .before .be4 .ensures .0, e .before .long .ensures)) (c .if3 .taken), omega arith)
 
--- src/lib.rt:109:9
 header-requires : tie.Need-header-requires
 header-requires c κs = search needs
 
--- src/lib.rt:110:9
 counts-within-requires : tie.Need-counts-within-requires
 counts-within-requires c κs = search needs
 
--- src/lib.rt:111:9
 returns-4 : tie.Need-returns-4
 returns-4 c =
     let v = c .before .before .before in
@@ -61,14 +51,12 @@ returns-4 c =
     let s = d .before .before .args .s .now in
     (counts-refused s (d .if1 .left) (omega (arith, e .if2 .left, e .before .before .be4 .ensures .0, e .before .long .ensures)) (v .if3 .left) (failed (counts-are s (c .before .before .header .ensures) (c .before .counts-within .ensures)) (c .if4 .taken)), omega arith)
 
--- src/lib.rt:113:8
 end-requires : tie.Need-end-requires
 end-requires c κs =
     let k = c in
     let s = k .before .before .before .before .before .before .before .before .before .before .args .s .now in
     omega (arith, end-is s (k .before .before .header .ensures), end-small s (passed (counts-are s (k .before .before .header .ensures) (k .before .counts-within .ensures)) (k .if4 .left)))
 
--- src/lib.rt:114:9
 returns-5 : tie.Need-returns-5
 returns-5 c =
     let k = c .before .before in
@@ -80,7 +68,6 @@ returns-5 c =
       omega arith,
     )
 
--- src/lib.rt:116:5
 tables-requires : tie.Need-tables-requires
 tables-requires c κs =
     let k = c .before .before in
@@ -90,7 +77,6 @@ tables-requires c κs =
       members-few s (k .before .before .header .ensures) (passed (counts-are s (k .before .before .header .ensures) (k .before .counts-within .ensures)) (k .if4 .left)),
     )
 
--- src/lib.rt:97:1
 returns-6 : tie.Need-returns-6
 returns-6 c =
     let q = c .before in

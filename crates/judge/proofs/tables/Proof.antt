@@ -8,33 +8,27 @@ use borrow.Author.Needs.{needs}
 use Rattle.judge.proofs.tables.Statement.{statement}
 use Rattle.judge.proofs.tables.Tie as tie
 
--- src/lib.rt:78:9
 operations-right-requires : tie.Need-operations-right-requires
 operations-right-requires c κs = search needs
 
--- src/lib.rt:79:9
 returns : tie.Need-returns
 returns c =
     let a = c .before .before .before in (operations-refused (tablesOf (a .args .s .now)) (failed (c .before .operations-right .ensures) (c .if1 .taken)), omega arith)
 
--- src/lib.rt:81:9
 spans-right-requires : tie.Need-spans-right-requires
 spans-right-requires c κs = search needs
 
--- src/lib.rt:82:9
 returns-2 : tie.Need-returns-2
 returns-2 c =
     let d = c .before .before in
     let a = d .before .before .before in
     (spans-refused (tablesOf (a .args .s .now)) (passed (d .before .operations-right .ensures) (d .if1 .left)) (failed (c .before .spans-right .ensures) (c .if2 .taken)), omega arith)
 
--- src/lib.rt:84:9
 children-right-requires : tie.Need-children-right-requires
 children-right-requires c κs =
     let e = c in
     let a = e .before .before .before .before .before in (a .pre .0, spans-rule (tablesOf (a .args .s .now)) .0 (passed (e .before .spans-right .ensures) (e .if2 .left)))
 
--- src/lib.rt:85:9
 returns-3 : tie.Need-returns-3
 returns-3 c =
     let e = c .before .before in
@@ -42,14 +36,12 @@ returns-3 c =
     let a = d .before .before .before in
     (children-refused (tablesOf (a .args .s .now)) (passed (d .before .operations-right .ensures) (d .if1 .left)) (passed (e .before .spans-right .ensures) (e .if2 .left)) (failed (c .before .children-right .ensures) (c .if3 .taken)), omega arith)
 
--- src/lib.rt:87:9
 bests-right-requires : tie.Need-bests-right-requires
 bests-right-requires c κs =
     let f = c in
     let e = f .before .before in
     let a = e .before .before .before .before .before in (a .pre .0, spans-rule (tablesOf (a .args .s .now)) .0 (passed (e .before .spans-right .ensures) (e .if2 .left)), children-rule (tablesOf (a .args .s .now)) .0 (passed (f .before .children-right .ensures) (f .if3 .left)))
 
--- src/lib.rt:88:9
 returns-4 : tie.Need-returns-4
 returns-4 c =
     let f = c .before .before in
@@ -58,13 +50,11 @@ returns-4 c =
     let a = d .before .before .before in
     (bests-refused (tablesOf (a .args .s .now)) (passed (d .before .operations-right .ensures) (d .if1 .left)) (passed (e .before .spans-right .ensures) (e .if2 .left)) (passed (f .before .children-right .ensures) (f .if3 .left)) (failed (c .before .bests-right .ensures) (c .if4 .taken)), omega arith)
 
--- src/lib.rt:90:9
 doubled-requires : tie.Need-doubled-requires
 doubled-requires c κs =
     let e = c .before .before .before .before in
     let a = e .before .before .before .before .before in (a .pre .0, spans-rule (tablesOf (a .args .s .now)) .0 (passed (e .before .spans-right .ensures) (e .if2 .left)), a .pre .1)
 
--- src/lib.rt:92:9
 returns-5 : tie.Need-returns-5
 returns-5 c =
     let g = c .before .before .before in
@@ -75,7 +65,6 @@ returns-5 c =
     let (p, q) = doubled-told (tablesOf (a .args .s .now)) (c .before .before .doubled .ensures) (omega (arith, c .if5 .taken, classes-many (a .args .s .now) (a .args .im) (a .pre .0))) in
     (literals-refused (tablesOf (a .args .s .now)) (passed (d .before .operations-right .ensures) (d .if1 .left)) (passed (e .before .spans-right .ensures) (e .if2 .left)) (passed (f .before .children-right .ensures) (f .if3 .left)) (passed (g .before .bests-right .ensures) (g .if4 .left)) p, q)
 
--- src/lib.rt:74:1
 returns-6 : tie.Need-returns-6
 returns-6 c =
     let g = c .before .before .before in

@@ -2,11 +2,9 @@ use Rattle.judge.proofs.VerdictLaws.{within-low, within-high}
 use Rattle.judge.proofs.within.Statement.{statement}
 use Rattle.judge.proofs.within.Tie as tie
 
--- src/lib.rt:36:9
 returns : tie.Need-returns
 returns c = let a = c .before .args in within-low (a .low) (a .high) (a .x) (c .if1 .taken)
 
--- src/lib.rt:32:1
 returns-2 : tie.Need-returns-2
 returns-2 c = let a = c .before .args in within-high (a .low) (a .high) (a .x) (c .if1 .left)
 

@@ -23,7 +23,6 @@ decimal-at t = and 1 decimal-kinds.ps (is 1 decimal-kinds.ps μ-decimal t) decim
 abbrev decimal-below : ℕ → In 1 decimal-kinds.ps
 decimal-below t = and 1 decimal-kinds.ps (falls 1 decimal-kinds.ps _<_ μ-decimal t) decimal.Pre
 
--- src/lib.rt:233:22
 decimal-digit-requires : (t : ℕ) → decimal-lts.Need-digit-requires (
   digit-reads.Asked,
   digit-reads.Learnt,
@@ -34,7 +33,6 @@ decimal-digit-requires : (t : ℕ) → decimal-lts.Need-digit-requires (
 ) (decimal-at t) decimal.Post
 decimal-digit-requires t c κs = search needs
 
--- src/lib.rt:233:9
 decimal-put-requires : (t : ℕ) → decimal-lts.Need-put-requires (
   digit-reads.Asked,
   digit-reads.Learnt,
@@ -47,7 +45,6 @@ decimal-put-requires t c κs =
     let s = c .before .before .before .before in
     omega (arith, s .pre .1, decimal-length-one (s .args .v) (omega arith))
 
--- src/lib.rt:234:16
 decimal-add-result : (t : ℕ) → decimal-lts.Need-add-result (
   digit-reads.Asked,
   digit-reads.Learnt,
@@ -60,7 +57,6 @@ decimal-add-result t c =
     let s = c .before .before .before .before .before .before .before in
     omega (arith, s .pre .1, decimal-length-one (s .args .v) (omega arith))
 
--- src/lib.rt:234:9
 decimal-same-length : (t : ℕ) → decimal-lts.Need-same-length (
   digit-reads.Asked,
   digit-reads.Learnt,
@@ -71,7 +67,6 @@ decimal-same-length : (t : ℕ) → decimal-lts.Need-same-length (
 ) (decimal-at t) decimal.Post
 decimal-same-length t c = search needs
 
--- src/lib.rt:234:9
 decimal-returns : (t : ℕ) → decimal-lts.Need-returns (
   digit-reads.Asked,
   digit-reads.Learnt,
@@ -84,7 +79,6 @@ decimal-returns t c =
     let s = c .before .before .before .before .before .before .before in
     wrote-digit (s .args .v) (s .args .out .now) (s .args .at) (omega arith) (s .pre .1) (c .before .before .before .digit .ensures) (c .before .before .put .ensures)
 
--- src/lib.rt:236:9
 decimal-decimal-requires : (t : ℕ) → decimal-lts.Need-decimal-requires (
   digit-reads.Asked,
   digit-reads.Learnt,
@@ -97,7 +91,6 @@ decimal-decimal-requires t c κs =
     let s = c .before .before .before in
     (omega arith, front-fits (s .args .v) (s .args .out .now) (s .args .at) [] 0 (omega arith) (s .pre .1))
 
--- src/lib.rt:237:17
 decimal-digit-requires-2 : (t : ℕ) → decimal-lts.Need-digit-requires-2 (
   digit-reads.Asked,
   digit-reads.Learnt,
@@ -108,7 +101,6 @@ decimal-digit-requires-2 : (t : ℕ) → decimal-lts.Need-digit-requires-2 (
 ) (decimal-at t) decimal.Post
 decimal-digit-requires-2 t c κs = search needs
 
--- src/lib.rt:237:5
 decimal-put-requires-2 : (t : ℕ) → decimal-lts.Need-put-requires-2 (
   digit-reads.Asked,
   digit-reads.Learnt,
@@ -122,7 +114,6 @@ decimal-put-requires-2 t c κs =
     let d = c .before .before .before .before in
     last-fits (s .args .v) (s .args .out .now) (s .args .at) _ (d .decimal .result) (omega arith) (s .pre .1) (d .decimal .ensures)
 
--- src/lib.rt:238:5
 decimal-add-result-2 : (t : ℕ) → decimal-lts.Need-add-result-2 (
   digit-reads.Asked,
   digit-reads.Learnt,
@@ -136,7 +127,6 @@ decimal-add-result-2 t c =
     let d = c .before .before .before .before .before .before .before in
     omega (arith, s .pre .1, last-fits (s .args .v) (s .args .out .now) (s .args .at) _ (d .decimal .result) (omega arith) (s .pre .1) (d .decimal .ensures))
 
--- src/lib.rt:228:1
 decimal-same-length-2 : (t : ℕ) → decimal-lts.Need-same-length-2 (
   digit-reads.Asked,
   digit-reads.Learnt,
@@ -147,7 +137,6 @@ decimal-same-length-2 : (t : ℕ) → decimal-lts.Need-same-length-2 (
 ) (decimal-at t) decimal.Post
 decimal-same-length-2 t c = search needs
 
--- src/lib.rt:228:1
 decimal-returns-2 : (t : ℕ) → decimal-lts.Need-returns-2 (
   digit-reads.Asked,
   digit-reads.Learnt,

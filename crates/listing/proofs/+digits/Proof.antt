@@ -19,25 +19,21 @@ digits-at t = and 0 digits-kinds.ps (is 0 digits-kinds.ps μ-digits t) digits.Pr
 abbrev digits-below : ℕ → In 0 digits-kinds.ps
 digits-below t = and 0 digits-kinds.ps (falls 0 digits-kinds.ps _<_ μ-digits t) digits.Pre
 
--- src/lib.rt:101:9
 digits-returns :
     (t : ℕ) → digits-lts.Need-returns (digits-below t, digits.Post) (digits-at t) digits.Post
 digits-returns t c =
     let v = c .before .args .v in
     omega (arith, decimal-length-one v (omega arith))
 
--- src/lib.rt:103:5
 digits-digits-requires :
     (t : ℕ) →
     digits-lts.Need-digits-requires (digits-below t, digits.Post) (digits-at t) digits.Post
 digits-digits-requires t c κs = search needs
 
--- src/lib.rt:103:5
 digits-add-result :
     (t : ℕ) → digits-lts.Need-add-result (digits-below t, digits.Post) (digits-at t) digits.Post
 digits-add-result t c = search needs
 
--- src/lib.rt:97:1
 digits-returns-2 :
     (t : ℕ) → digits-lts.Need-returns-2 (digits-below t, digits.Post) (digits-at t) digits.Post
 digits-returns-2 t c =

@@ -28,7 +28,6 @@ number-Inv-loop terms runs marks₀ n0 t end i₀ n₀ marks i n = Visiting term
 abbrev number-μ-loop : number-lts.MeasureT-loop
 number-μ-loop terms runs marks₀ n0 t end i₀ n₀ marks i n = end - i
 
--- src/lib.rt:60:8
 number-mul-if1 : (t : ℕ) → number-lts.Need-mul-if1 (
   first-reads.Asked,
   first-reads.Learnt,
@@ -41,7 +40,6 @@ number-mul-if1 : (t : ℕ) → number-lts.Need-mul-if1 (
 ) (number-at t) number.Post number-Inv-loop number-μ-loop
 number-mul-if1 t c = search needs
 
--- src/lib.rt:60:8
 number-mul-if1-2 : (t : ℕ) → number-lts.Need-mul-if1-2 (
   first-reads.Asked,
   first-reads.Learnt,
@@ -54,7 +52,6 @@ number-mul-if1-2 : (t : ℕ) → number-lts.Need-mul-if1-2 (
 ) (number-at t) number.Post number-Inv-loop number-μ-loop
 number-mul-if1-2 t c = search needs
 
--- src/lib.rt:60:8
 number-slice-read-if1 : (t : ℕ) → number-lts.Need-slice-read-if1 (
   first-reads.Asked,
   first-reads.Learnt,
@@ -67,7 +64,6 @@ number-slice-read-if1 : (t : ℕ) → number-lts.Need-slice-read-if1 (
 ) (number-at t) number.Post number-Inv-loop number-μ-loop
 number-slice-read-if1 t c = search needs
 
--- src/lib.rt:61:9
 number-returns : (t : ℕ) → number-lts.Need-returns (
   first-reads.Asked,
   first-reads.Learnt,
@@ -83,7 +79,6 @@ number-returns t c =
     let a = s .args in
     seen-already (a .terms .now) (a .runs .now) (a .marks .now) (a .n0) (a .t) 0 (s .pre .1 .0) (s .pre .1 .1) (c .if1 .taken) (s .pre .1 .2)
 
--- src/lib.rt:63:35
 number-add-first : (t : ℕ) → number-lts.Need-add-first (
   first-reads.Asked,
   first-reads.Learnt,
@@ -96,7 +91,6 @@ number-add-first : (t : ℕ) → number-lts.Need-add-first (
 ) (number-at t) number.Post number-Inv-loop number-μ-loop
 number-add-first t c = search needs
 
--- src/lib.rt:63:9
 number-first-requires : (t : ℕ) → number-lts.Need-first-requires (
   first-reads.Asked,
   first-reads.Learnt,
@@ -109,7 +103,6 @@ number-first-requires : (t : ℕ) → number-lts.Need-first-requires (
 ) (number-at t) number.Post number-Inv-loop number-μ-loop
 number-first-requires t c κs = search needs
 
--- src/lib.rt:64:9
 number-first-requires-2 : (t : ℕ) → number-lts.Need-first-requires-2 (
   first-reads.Asked,
   first-reads.Learnt,
@@ -122,7 +115,6 @@ number-first-requires-2 : (t : ℕ) → number-lts.Need-first-requires-2 (
 ) (number-at t) number.Post number-Inv-loop number-μ-loop
 number-first-requires-2 t c κs = search needs
 
--- src/lib.rt:66:5
 number-loop-holds : (t : ℕ) → number-lts.Need-loop-holds (
   first-reads.Asked,
   first-reads.Learnt,
@@ -138,7 +130,6 @@ number-loop-holds t c =
     let a = s .args in
     visiting-start (a .terms .now) (a .runs .now) (a .marks .now) (a .n0) (a .t) (c .before .first .result) (s .pre .1 .0) (s .pre .1 .1) (c .first2 .result) (c .first2 .ensures .0) (c .before .first .ensures .0) (s .pre .1 .2)
 
--- src/lib.rt:67:49
 number-mul-child : (t : ℕ) → number-lts.Need-mul-child (
   first-reads.Asked,
   first-reads.Learnt,
@@ -151,7 +142,6 @@ number-mul-child : (t : ℕ) → number-lts.Need-mul-child (
 ) (number-at t) number.Post number-Inv-loop number-μ-loop
 number-mul-child t c = search needs
 
--- src/lib.rt:67:49
 number-shared-slice-read-child : (t : ℕ) → number-lts.Need-shared-slice-read-child (
   first-reads.Asked,
   first-reads.Learnt,
@@ -166,7 +156,6 @@ number-shared-slice-read-child t c =
     let s = c .before .before .before .before .before .before .before .before .before .before .before in
     omega (arith, within (s .args .terms .now) (s .args .runs .now) (s .pre .1 .0) (s .args .t) (s .pre .1 .1))
 
--- src/lib.rt:67:43
 number-child-requires : (t : ℕ) → number-lts.Need-child-requires (
   first-reads.Asked,
   first-reads.Learnt,
@@ -179,7 +168,6 @@ number-child-requires : (t : ℕ) → number-lts.Need-child-requires (
 ) (number-at t) number.Post number-Inv-loop number-μ-loop
 number-child-requires t c κs = search needs
 
--- src/lib.rt:67:9
 number-number-requires : (t : ℕ) → number-lts.Need-number-requires (
   first-reads.Asked,
   first-reads.Learnt,
@@ -197,7 +185,6 @@ number-number-requires t c κs =
     let b = child-below (a .terms .now) (a .runs .now) (s .pre .1 .0) (a .t) (s .pre .1 .1) (l .loop .i) (l .loop .inv .begun) (omega arith) in
     (omega arith, (s .pre .1 .0, omega (arith, s .pre .1 .1), l .loop .inv .walk .numbered))
 
--- src/lib.rt:68:9
 number-add-i : (t : ℕ) → number-lts.Need-add-i (
   first-reads.Asked,
   first-reads.Learnt,
@@ -210,7 +197,6 @@ number-add-i : (t : ℕ) → number-lts.Need-add-i (
 ) (number-at t) number.Post number-Inv-loop number-μ-loop
 number-add-i t c = search needs
 
--- src/lib.rt:66:5
 number-loop-less : (t : ℕ) → number-lts.Need-loop-less (
   first-reads.Asked,
   first-reads.Learnt,
@@ -223,7 +209,6 @@ number-loop-less : (t : ℕ) → number-lts.Need-loop-less (
 ) (number-at t) number.Post number-Inv-loop number-μ-loop
 number-loop-less t c = search needs
 
--- src/lib.rt:66:5
 number-loop-again : (t : ℕ) → number-lts.Need-loop-again (
   first-reads.Asked,
   first-reads.Learnt,
@@ -241,7 +226,6 @@ number-loop-again t c =
     let n = c .before .before in
     visiting-turn (a .terms .now) (a .runs .now) (a .marks .now) (a .n0) (a .t) (l .before .before .first .result) (s .pre .1 .0) (s .pre .1 .1) (l .loop .marks) (l .loop .i) (l .loop .n) _ (n .before .child .result) (n .number .result) (l .before .before .first .ensures .0) (l .loop .inv) (omega arith) (n .before .child .ensures .0) (n .number .ensures .0) (n .number .ensures .1)
 
--- src/lib.rt:70:5
 number-settle-requires : (t : ℕ) → number-lts.Need-settle-requires (
   first-reads.Asked,
   first-reads.Learnt,
@@ -260,7 +244,6 @@ number-settle-requires t c κs =
     let r = l .loop .inv .walk .numbered .room in
     (omega (arith, b, r), omega (arith, s .pre .1 .1, r), omega (arith, b, s .pre .1 .0 .few), omega (arith, s .pre .1 .0 .few, s .pre .1 .1))
 
--- src/lib.rt:71:5
 number-add-result : (t : ℕ) → number-lts.Need-add-result (
   first-reads.Asked,
   first-reads.Learnt,
@@ -277,7 +260,6 @@ number-add-result t c =
     let a = s .args in
     omega (arith, visit-room (a .terms .now) (a .runs .now) (a .marks .now) (a .n0) (a .t) (l .before .before .first .result) (s .pre .1 .0) (s .pre .1 .1) (l .loop .marks) (l .loop .i) (l .loop .n) (l .loop .inv) (omega arith) (omega arith) (s .pre .1 .2), s .pre .1 .0 .few)
 
--- src/lib.rt:56:1
 number-same-length : (t : ℕ) → number-lts.Need-same-length (
   first-reads.Asked,
   first-reads.Learnt,
@@ -290,7 +272,6 @@ number-same-length : (t : ℕ) → number-lts.Need-same-length (
 ) (number-at t) number.Post number-Inv-loop number-μ-loop
 number-same-length t c = search needs
 
--- src/lib.rt:56:1
 number-returns-2 : (t : ℕ) → number-lts.Need-returns-2 (
   first-reads.Asked,
   first-reads.Learnt,

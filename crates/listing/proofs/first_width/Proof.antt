@@ -7,69 +7,53 @@ use Rattle.listing.proofs.first_width.Reads as reads
 use Rattle.listing.proofs.first_width.Lts as lts
 use Rattle.listing.proofs.digits.Reads as digits-reads
 
--- src/lib.rt:188:9
 digits-requires : tie.Need-digits-requires
 digits-requires c κs = search needs
 
--- src/lib.rt:189:9
 digits-requires-2 : tie.Need-digits-requires-2
 digits-requires-2 c κs = search needs
 
--- src/lib.rt:190:9
 digits-requires-3 : tie.Need-digits-requires-3
 digits-requires-3 c κs = search needs
 
--- src/lib.rt:191:9
 digits-requires-4 : tie.Need-digits-requires-4
 digits-requires-4 c κs = search needs
 
--- src/lib.rt:192:13
 add-e : tie.Need-add-e
 add-e c = search needs
 
--- src/lib.rt:192:13
 add-e-2 : tie.Need-add-e-2
 add-e-2 c = search needs
 
--- src/lib.rt:192:13
 add-e-3 : tie.Need-add-e-3
 add-e-3 c = search needs
 
--- src/lib.rt:192:13
 add-e-4 : tie.Need-add-e-4
 add-e-4 c = search needs
 
--- src/lib.rt:192:13
 add-e-5 : tie.Need-add-e-5
 add-e-5 c = search needs
 
--- src/lib.rt:192:13
 add-e-6 : tie.Need-add-e-6
 add-e-6 c = search needs
 
--- src/lib.rt:192:13
 add-e-7 : tie.Need-add-e-7
 add-e-7 c = search needs
 
--- src/lib.rt:192:13
 add-e-8 : tie.Need-add-e-8
 add-e-8 c = search needs
 
--- src/lib.rt:194:16
 add-result : tie.Need-add-result
 add-result c = search needs
 
--- src/lib.rt:194:9
 returns : tie.Need-returns
 returns c =
     let a = c .before .before .before .before .before .args in
     omega (arith, complete-length (a .f) (c .if1 .taken), c .before .digits4 .ensures, c .before .before .digits3 .ensures, c .before .before .before .digits2 .ensures, c .before .before .before .before .digits .ensures)
 
--- src/lib.rt:196:5
 add-result-2 : tie.Need-add-result-2
 add-result-2 c = search needs
 
--- src/lib.rt:185:1
 returns-2 : tie.Need-returns-2
 returns-2 c =
     let a = c .before .before .before .before .before .args in

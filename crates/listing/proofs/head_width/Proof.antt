@@ -7,55 +7,43 @@ use Rattle.listing.proofs.head_width.Reads as reads
 use Rattle.listing.proofs.head_width.Lts as lts
 use Rattle.listing.proofs.digits.Reads as digits-reads
 
--- src/lib.rt:144:24
 cast-digits : tie.Need-cast-digits
 cast-digits c = search needs
 
--- src/lib.rt:144:13
 digits-requires : tie.Need-digits-requires
 digits-requires c κs = search needs
 
--- src/lib.rt:145:16
 add-result : tie.Need-add-result
 add-result c = search needs
 
--- src/lib.rt:145:16
 add-result-2 : tie.Need-add-result-2
 add-result-2 c = search needs
 
--- src/lib.rt:145:28
 digits-requires-2 : tie.Need-digits-requires-2
 digits-requires-2 c κs = search needs
 
--- src/lib.rt:145:16
 add-result-3 : tie.Need-add-result-3
 add-result-3 c = search needs
 
--- src/lib.rt:145:9
 returns : tie.Need-returns
 returns c =
     let a = c .before .before .before .args in
     omega (arith, lit-length (a .h) (a .v) (c .before .before .if1 .taken), c .before .digits .ensures, c .digits2 .ensures)
 
--- src/lib.rt:148:9
 returns-2 : tie.Need-returns-2
 returns-2 c =
     let a = c .before .before .args in
     omega (arith, variants-length (a .h) (a .v) (c .if2 .taken))
 
--- src/lib.rt:150:16
 cast-digits-2 : tie.Need-cast-digits-2
 cast-digits-2 c = search needs
 
--- src/lib.rt:150:9
 digits-requires-3 : tie.Need-digits-requires-3
 digits-requires-3 c κs = search needs
 
--- src/lib.rt:150:5
 add-result-4 : tie.Need-add-result-4
 add-result-4 c = search needs
 
--- src/lib.rt:140:1
 returns-3 : tie.Need-returns-3
 returns-3 c =
     let a = c .before .before .before .args in

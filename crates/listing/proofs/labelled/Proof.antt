@@ -8,23 +8,19 @@ use Rattle.listing.proofs.labelled.Lts as lts
 use Rattle.listing.proofs.decimal.Reads as decimal-reads
 use Rattle.listing.proofs.text.Reads as text-reads
 
--- src/lib.rt:252:9
 text-requires : tie.Need-text-requires
 text-requires c κs =
     let s = c .before .before .before in
     room-first (s .args .b .now) (decimal (s .args .v)) (s .args .out .now) (s .args .at) (s .pre)
 
--- src/lib.rt:253:5
 decimal-requires : tie.Need-decimal-requires
 decimal-requires c κs =
     let s = c .before .before .before .before .before .before .before in
     room-second (s .args .b .now) (decimal (s .args .v)) (s .args .out .now) (s .args .at) (s .pre) (c .before .before .before .text .ensures)
 
--- src/lib.rt:248:1
 same-length : tie.Need-same-length
 same-length c = search needs
 
--- src/lib.rt:248:1
 returns : tie.Need-returns
 returns c =
     let s = c .before .before .before .before .before .before .before .before .before .before in

@@ -17,43 +17,36 @@ Inv-loop terms runs marks n k₀ w₀ k w = (k ≤ n) × (w ≤ 3000000 * k) × 
 abbrev μ-loop : tie.MeasureT-loop
 μ-loop terms runs marks n k₀ w₀ k w = n - k
 
--- src/lib.rt:178:5
 loop-holds : tie.Need-loop-holds Inv-loop μ-loop
 loop-holds c =
     let a = c .before .before .before .args in
     let e : a .n - 0 ≡ a .n = omega arith in
     (omega arith, omega arith, rw e (omega arith))
 
--- src/lib.rt:179:14
 line-width-requires : tie.Need-line-width-requires Inv-loop μ-loop
 line-width-requires c κs =
     let s = c .before .before .before .before .before in
     (s .pre .0, s .pre .1, omega arith)
 
--- src/lib.rt:179:9
 add-w : tie.Need-add-w Inv-loop μ-loop
 add-w c =
     let s = c .before .before .before .before .before .before in
     omega (arith, s .pre .1 .few, c .line-width .ensures)
 
--- src/lib.rt:180:9
 add-k : tie.Need-add-k Inv-loop μ-loop
 add-k c =
     search needs
 
--- src/lib.rt:178:5
 loop-less : tie.Need-loop-less Inv-loop μ-loop
 loop-less c =
     search needs
 
--- src/lib.rt:178:5
 loop-again : tie.Need-loop-again Inv-loop μ-loop
 loop-again c =
     let l = c .before .before in
     let a = c .before .before .before .before .before .before .args in
     omega (arith, c .line-width .ensures, lines-length (a .terms .now) (a .runs .now) (a .marks .now) (l .loop .k) (a .n) (omega arith))
 
--- src/lib.rt:172:1
 returns : tie.Need-returns Inv-loop μ-loop
 returns c =
     let l = c .before in

@@ -9,19 +9,15 @@ use Rattle.listing.proofs.measure.Reads as measure-reads
 use Rattle.listing.proofs.number_all.Reads as number-all-reads
 use Rattle.listing.proofs.write.Reads as write-reads
 
--- src/lib.rt:404:9
 number-all-requires : tie.Need-number-all-requires
 number-all-requires c κs = search needs
 
--- src/lib.rt:405:9
 measure-requires : tie.Need-measure-requires
 measure-requires c κs = search needs
 
--- src/lib.rt:407:9
 same-length : tie.Need-same-length
 same-length c = search needs
 
--- src/lib.rt:407:9
 returns : tie.Need-returns
 returns c =
     let s = c .before .before .before .before .before .before .before .before .before .before .before in
@@ -29,19 +25,15 @@ returns c =
     let n = c .before .before .before .before .before in
     lists-full (s .args .terms .now) (s .args .runs .now) (s .args .root) (s .args .f) (s .args .marks .now) (s .args .out .now) _ (m .measure .result) (n .number-all .ensures .0) (m .measure .ensures) (omega arith)
 
--- src/lib.rt:409:5
 write-requires : tie.Need-write-requires
 write-requires c κs = search needs
 
--- src/lib.rt:393:1
 same-length-2 : tie.Need-same-length-2
 same-length-2 c = search needs
 
--- src/lib.rt:393:1
 same-length-3 : tie.Need-same-length-3
 same-length-3 c = search needs
 
--- src/lib.rt:393:1
 returns-2 : tie.Need-returns-2
 returns-2 c =
     let s = c .before .before .before .before .before .before .before .before .before .before .before .before .before .before .before .before in

@@ -9,21 +9,17 @@ use Rattle.listing.proofs.measure.Lts as lts
 use Rattle.listing.proofs.first_width.Reads as first-width-reads
 use Rattle.listing.proofs.lines_width.Reads as lines-width-reads
 
--- src/lib.rt:218:5
 first-width-requires : tie.Need-first-width-requires
 first-width-requires c κs = search needs
 
--- src/lib.rt:218:22
 lines-width-requires : tie.Need-lines-width-requires
 lines-width-requires c κs =
     let s = c .before .before .before .before in
     (s .pre .0, ready (s .args .terms .now) (s .args .runs .now) (s .args .marks .now) (s .args .root) (s .args .n) (s .pre .0) (s .pre .1) (s .pre .2))
 
--- src/lib.rt:218:5
 add-result : tie.Need-add-result
 add-result c = search needs
 
--- src/lib.rt:207:1
 returns : tie.Need-returns
 returns c =
     let s = c .before .before .before .before .before in

@@ -8,19 +8,15 @@ use Rattle.listing.proofs.clear_marks.Reads as clear-marks-reads
 use Rattle.listing.proofs.number.Reads as number-reads
 use Rattle.terms.proofs.count.Reads as count-reads
 
--- src/lib.rt:79:9
 count-requires : tie.Need-count-requires
 count-requires c κs = search needs
 
--- src/lib.rt:80:5
 mul-clear-marks : tie.Need-mul-clear-marks
 mul-clear-marks c = search needs
 
--- src/lib.rt:80:5
 clear-marks-requires : tie.Need-clear-marks-requires
 clear-marks-requires c κs = search needs
 
--- src/lib.rt:81:5
 number-requires : tie.Need-number-requires
 number-requires c κs =
     let d = c .before .before .before in
@@ -28,11 +24,9 @@ number-requires c κs =
     let a = s .args in
     (s .pre .0, s .pre .1, root-start (a .terms .now) (a .runs .now) (a .marks .now) (d .before .before .count .result) _ (s .pre .0) (d .before .before .count .ensures .0) (d .clear-marks .ensures) (s .pre .2))
 
--- src/lib.rt:75:1
 same-length : tie.Need-same-length
 same-length c = search needs
 
--- src/lib.rt:75:1
 returns : tie.Need-returns
 returns c =
     let n = c .before .before in

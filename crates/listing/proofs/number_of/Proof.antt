@@ -8,27 +8,21 @@ use Rattle.listing.proofs.number_of.Reads as reads
 use Rattle.listing.proofs.number_of.Lts as lts
 use Rattle.listing.proofs.num.Reads as num-reads
 
--- src/lib.rt:122:16
 mul-num : tie.Need-mul-num
 mul-num c = let s = c .before in omega (arith, at-within (s .args .marks .now) (2 * s .args .t) (s .pre))
 
--- src/lib.rt:122:10
 mul-num-2 : tie.Need-mul-num-2
 mul-num-2 c = let s = c .before in omega (arith, at-within (s .args .marks .now) (2 * s .args .t) (s .pre))
 
--- src/lib.rt:122:10
 shared-slice-read-num : tie.Need-shared-slice-read-num
 shared-slice-read-num c = let s = c .before .before in omega (arith, at-within (s .args .marks .now) (2 * s .args .t) (s .pre))
 
--- src/lib.rt:122:6
 num-requires : tie.Need-num-requires
 num-requires c κs = search needs
 
--- src/lib.rt:122:6
 sub-result : tie.Need-sub-result
 sub-result c = search needs
 
--- src/lib.rt:118:1
 returns : tie.Need-returns
 returns c = search needs
 

@@ -9,37 +9,29 @@ use Rattle.listing.proofs.child.Reads as child-reads
 use Rattle.listing.proofs.digits.Reads as digits-reads
 use Rattle.listing.proofs.number_of.Reads as number-of-reads
 
--- src/lib.rt:123:37
 child-requires : tie.Need-child-requires
 child-requires c κs = search needs
 
--- src/lib.rt:123:20
 number-of-requires : tie.Need-number-of-requires
 number-of-requires c κs =
     let s = c .before .before in
     rw (c .child .ensures .0) (s .pre)
 
--- src/lib.rt:123:9
 digits-requires : tie.Need-digits-requires
 digits-requires c κs = search needs
 
--- src/lib.rt:124:5
 add-result : tie.Need-add-result
 add-result c = search needs
 
--- src/lib.rt:124:5
 add-result-2 : tie.Need-add-result-2
 add-result-2 c = search needs
 
--- src/lib.rt:124:17
 digits-requires-2 : tie.Need-digits-requires-2
 digits-requires-2 c κs = search needs
 
--- src/lib.rt:124:5
 add-result-3 : tie.Need-add-result-3
 add-result-3 c = search needs
 
--- src/lib.rt:119:1
 returns : tie.Need-returns
 returns c =
     let s = c .before .before .before .before .before in

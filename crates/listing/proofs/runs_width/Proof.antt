@@ -17,51 +17,42 @@ Inv-loop runs marks from to i₀ n₀ i n = (from ≤ i) × (i ≤ to) × (n + 4
 abbrev μ-loop : tie.MeasureT-loop
 μ-loop runs marks from to i₀ n₀ i n = to - i
 
--- src/lib.rt:133:5
 loop-holds : tie.Need-loop-holds Inv-loop μ-loop
 loop-holds c =
     (omega arith, omega (arith, c .before .before .pre .0), omega arith, omega arith)
 
--- src/lib.rt:134:31
 mul-run-width : tie.Need-mul-run-width Inv-loop μ-loop
 mul-run-width c =
     search needs
 
--- src/lib.rt:134:31
 shared-slice-read-run-width : tie.Need-shared-slice-read-run-width Inv-loop μ-loop
 shared-slice-read-run-width c =
     search needs
 
--- src/lib.rt:134:14
 run-width-requires : tie.Need-run-width-requires Inv-loop μ-loop
 run-width-requires c κs =
     let l = c .before .before in
     let s = c .before .before .before .before .before in
     s .pre .3 (l .loop .i) (l .loop .inv .0) (omega arith)
 
--- src/lib.rt:134:9
 add-n : tie.Need-add-n Inv-loop μ-loop
 add-n c =
     search needs
 
--- src/lib.rt:135:9
 add-i : tie.Need-add-i Inv-loop μ-loop
 add-i c =
     search needs
 
--- src/lib.rt:133:5
 loop-less : tie.Need-loop-less Inv-loop μ-loop
 loop-less c =
     search needs
 
--- src/lib.rt:133:5
 loop-again : tie.Need-loop-again Inv-loop μ-loop
 loop-again c =
     let l = c .before .before .before in
     let a = l .before .before .before .args in
     omega (arith, c .run-width .ensures, runs-length (a .runs .now) (a .marks .now) (l .loop .i) (a .to) (omega arith))
 
--- src/lib.rt:127:1
 returns : tie.Need-returns Inv-loop μ-loop
 returns c =
     let l = c .before in

@@ -8,23 +8,19 @@ use Rattle.listing.proofs.write.Lts as lts
 use Rattle.listing.proofs.write_first.Reads as write-first-reads
 use Rattle.listing.proofs.write_lines.Reads as write-lines-reads
 
--- src/lib.rt:388:9
 write-first-requires : tie.Need-write-first-requires
 write-first-requires c κs =
     let s = c .before .before .before .before .before in
     first-room (s .args .terms .now) (s .args .runs .now) (s .args .marks .now) (s .args .root) (s .args .n) (s .pre .0) (s .pre .1) (s .pre .2) (s .args .f) (s .args .out .now) (s .pre .3)
 
--- src/lib.rt:389:5
 write-lines-requires : tie.Need-write-lines-requires
 write-lines-requires c κs =
     let s = c .before .before .before .before .before .before .before .before .before in
     (s .pre .0, ready (s .args .terms .now) (s .args .runs .now) (s .args .marks .now) (s .args .root) (s .args .n) (s .pre .0) (s .pre .1) (s .pre .2), lines-room (s .args .terms .now) (s .args .runs .now) (s .args .marks .now) (s .args .root) (s .args .n) (s .pre .0) (s .pre .1) (s .pre .2) (s .args .f) (s .args .out .now) (s .pre .3) (c .before .before .before .write-first .ensures))
 
--- src/lib.rt:376:1
 same-length : tie.Need-same-length
 same-length c = search needs
 
--- src/lib.rt:376:1
 returns : tie.Need-returns
 returns c =
     let s = c .before .before .before .before .before .before .before .before .before .before .before .before in

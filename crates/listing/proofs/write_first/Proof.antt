@@ -9,72 +9,59 @@ use Rattle.listing.proofs.labelled.Reads as labelled-reads
 use Rattle.listing.proofs.text.Reads as text-reads
 use Rattle.listing.proofs.write_status.Reads as write-status-reads
 
--- src/lib.rt:353:9
 write-status-requires : tie.Need-write-status-requires
 write-status-requires c κs =
     let s = c .before .before in
     status-room (s .args .f) (s .args .out .now) (s .pre)
 
--- src/lib.rt:354:30
 slice-aggregate-labelled : tie.Need-slice-aggregate-labelled
 slice-aggregate-labelled c = search needs
 
--- src/lib.rt:354:9
 labelled-requires : tie.Need-labelled-requires
 unfolding text
 labelled-requires c κs =
     let s = c .before .before .before .before .before .before .before in
     pairs-room (s .args .f) (s .args .out .now) (s .pre) (c .before .before .before .before .write-status .ensures)
 
--- src/lib.rt:355:30
 slice-aggregate-labelled-2 : tie.Need-slice-aggregate-labelled-2
 slice-aggregate-labelled-2 c = search needs
 
--- src/lib.rt:355:9
 labelled-requires-2 : tie.Need-labelled-requires-2
 unfolding text
 labelled-requires-2 c κs =
     let s = c .before .before .before .before .before .before .before .before .before .before .before .before in
     rounds-room (s .args .f) (s .args .out .now) (s .pre) (c .before .before .before .before .before .before .before .before .before .write-status .ensures) (c .before .before .before .before .labelled .ensures)
 
--- src/lib.rt:356:30
 slice-aggregate-labelled-3 : tie.Need-slice-aggregate-labelled-3
 slice-aggregate-labelled-3 c = search needs
 
--- src/lib.rt:356:9
 labelled-requires-3 : tie.Need-labelled-requires-3
 unfolding text
 labelled-requires-3 c κs =
     let s = c .before .before .before .before .before .before .before .before .before .before .before .before .before .before .before .before .before in
     size-room (s .args .f) (s .args .out .now) (s .pre) (c .before .before .before .before .before .before .before .before .before .before .before .before .before .before .write-status .ensures) (c .before .before .before .before .before .before .before .before .before .labelled .ensures) (c .before .before .before .before .labelled2 .ensures)
 
--- src/lib.rt:357:30
 slice-aggregate-labelled-4 : tie.Need-slice-aggregate-labelled-4
 slice-aggregate-labelled-4 c = search needs
 
--- src/lib.rt:357:9
 labelled-requires-4 : tie.Need-labelled-requires-4
 unfolding text
 labelled-requires-4 c κs =
     let s = c .before .before .before .before .before .before .before .before .before .before .before .before .before .before .before .before .before .before .before .before .before .before in
     mass-room (s .args .f) (s .args .out .now) (s .pre) (c .before .before .before .before .before .before .before .before .before .before .before .before .before .before .before .before .before .before .before .write-status .ensures) (c .before .before .before .before .before .before .before .before .before .before .before .before .before .before .labelled .ensures) (c .before .before .before .before .before .before .before .before .before .labelled2 .ensures) (c .before .before .before .before .labelled3 .ensures)
 
--- src/lib.rt:358:18
 slice-aggregate-text : tie.Need-slice-aggregate-text
 slice-aggregate-text c = search needs
 
--- src/lib.rt:358:5
 text-requires : tie.Need-text-requires
 unfolding text
 text-requires c κs =
     let s = c .before .before .before .before .before .before .before .before .before .before .before .before .before .before .before .before .before .before .before .before .before .before .before .before .before .before .before in
     end-room (s .args .f) (s .args .out .now) (s .pre) (c .before .before .before .before .before .before .before .before .before .before .before .before .before .before .before .before .before .before .before .before .before .before .before .before .write-status .ensures) (c .before .before .before .before .before .before .before .before .before .before .before .before .before .before .before .before .before .before .before .labelled .ensures) (c .before .before .before .before .before .before .before .before .before .before .before .before .before .before .labelled2 .ensures) (c .before .before .before .before .before .before .before .before .before .labelled3 .ensures) (c .before .before .before .before .labelled4 .ensures)
 
--- src/lib.rt:349:1
 same-length : tie.Need-same-length
 same-length c = search needs
 
--- src/lib.rt:349:1
 returns : tie.Need-returns
 unfolding text
 returns c =

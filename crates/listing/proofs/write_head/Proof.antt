@@ -8,85 +8,69 @@ use Rattle.listing.proofs.write_head.Lts as lts
 use Rattle.listing.proofs.labelled.Reads as labelled-reads
 use Rattle.listing.proofs.text.Reads as text-reads
 
--- src/lib.rt:289:35
 slice-aggregate-labelled : tie.Need-slice-aggregate-labelled
 slice-aggregate-labelled c = search needs
 
--- src/lib.rt:289:45
 cast-labelled : tie.Need-cast-labelled
 cast-labelled c = search needs
 
--- src/lib.rt:289:13
 labelled-requires : tie.Need-labelled-requires
 unfolding text
 labelled-requires c κs =
     let s = c .before .before .before .before in
     lit-first (s .args .h) (s .args .v) (s .args .out .now) (s .args .at) (s .pre) (c .before .before .if1 .taken)
 
--- src/lib.rt:290:33
 slice-aggregate-labelled-2 : tie.Need-slice-aggregate-labelled-2
 slice-aggregate-labelled-2 c = search needs
 
--- src/lib.rt:290:9
 labelled-requires-2 : tie.Need-labelled-requires-2
 unfolding text
 labelled-requires-2 c κs =
     let s = c .before .before .before .before .before .before .before .before .before in
     lit-second (s .args .h) (s .args .v) (s .args .out .now) (s .args .at) (s .pre) (c .before .before .before .before .before .before .before .if1 .taken) (c .before .before .before .before .labelled .ensures)
 
--- src/lib.rt:290:9
 same-length : tie.Need-same-length
 same-length c = search needs
 
--- src/lib.rt:290:9
 returns : tie.Need-returns
 unfolding text
 returns c =
     let s = c .before .before .before .before .before .before .before .before .before .before .before .before in
     lit-wrote (s .args .h) (s .args .v) (s .args .out .now) (s .args .at) (s .pre) (c .before .before .before .before .before .before .before .before .before .before .if1 .taken) (c .before .before .before .before .before .before .before .labelled .ensures) (c .before .before .labelled2 .ensures)
 
--- src/lib.rt:293:30
 slice-aggregate-text : tie.Need-slice-aggregate-text
 slice-aggregate-text c = search needs
 
--- src/lib.rt:293:9
 text-requires : tie.Need-text-requires
 unfolding text
 text-requires c κs =
     let s = c .before .before .before .before .before in
     variants-room (s .args .h) (s .args .v) (s .args .out .now) (s .args .at) (s .pre) (c .before .before .if2 .taken)
 
--- src/lib.rt:293:9
 same-length-2 : tie.Need-same-length-2
 same-length-2 c = search needs
 
--- src/lib.rt:293:9
 returns-2 : tie.Need-returns-2
 unfolding text
 returns-2 c =
     let s = c .before .before .before .before .before .before .before .before in
     variants-wrote (s .args .h) (s .args .v) (s .args .out .now) (s .args .at) (s .pre) (c .before .before .before .before .before .if2 .taken) (c .before .before .text .ensures)
 
--- src/lib.rt:295:23
 slice-aggregate-labelled-3 : tie.Need-slice-aggregate-labelled-3
 slice-aggregate-labelled-3 c = search needs
 
--- src/lib.rt:295:32
 cast-labelled-2 : tie.Need-cast-labelled-2
 cast-labelled-2 c = search needs
 
--- src/lib.rt:295:5
 labelled-requires-3 : tie.Need-labelled-requires-3
 unfolding text
 labelled-requires-3 c κs =
     let s = c .before .before .before .before .before in
     op-room (s .args .h) (s .args .v) (s .args .out .now) (s .args .at) (s .pre) (c .before .before .before .if1 .left) (c .before .before .if2 .left)
 
--- src/lib.rt:284:1
 same-length-3 : tie.Need-same-length-3
 same-length-3 c = search needs
 
--- src/lib.rt:284:1
 returns-3 : tie.Need-returns-3
 unfolding text
 returns-3 c =

@@ -15,73 +15,60 @@ use Rattle.terms.proofs.first.Reads as first-reads
 use Rattle.terms.proofs.head.Reads as head-reads
 use Rattle.terms.proofs.value.Reads as value-reads
 
--- src/lib.rt:317:9
 term-at-requires : tie.Need-term-at-requires
 term-at-requires c κs = search needs
 
--- src/lib.rt:318:9
 first-requires : tie.Need-first-requires
 first-requires c κs =
     let s = c .before .before .before .before .before in
     omega (arith, s .pre .0 .long, line-term (s .args .terms .now) (s .args .runs .now) (s .args .marks .now) (s .args .n) (s .args .k) (s .pre .0) (s .pre .1) (s .pre .2) (c .term-at .ensures))
 
--- src/lib.rt:319:34
 add-first : tie.Need-add-first
 add-first c =
     let s = c .before .before .before .before .before .before in
     omega (arith, line-few (s .args .terms .now) (s .args .runs .now) (s .args .marks .now) (s .args .n) (s .args .k) (s .pre .0) (s .pre .1) (s .pre .2) (c .before .term-at .ensures))
 
--- src/lib.rt:319:9
 first-requires-2 : tie.Need-first-requires-2
 first-requires-2 c κs =
     let s = c .before .before .before .before .before .before in
     omega (arith, s .pre .0 .long, line-term (s .args .terms .now) (s .args .runs .now) (s .args .marks .now) (s .args .n) (s .args .k) (s .pre .0) (s .pre .1) (s .pre .2) (c .before .term-at .ensures))
 
--- src/lib.rt:320:9
 decimal-requires : tie.Need-decimal-requires
 decimal-requires c κs =
     let s = c .before .before .before .before .before .before .before .before in
     number-room (s .args .terms .now) (s .args .runs .now) (s .args .marks .now) (s .args .out .now) (s .args .at) (s .args .k) (s .pre .3)
 
--- src/lib.rt:321:32
 head-requires : tie.Need-head-requires
 head-requires c κs =
     let s = c .before .before .before .before .before .before .before .before .before .before .before .before in
     omega (arith, s .pre .0 .long, line-term (s .args .terms .now) (s .args .runs .now) (s .args .marks .now) (s .args .n) (s .args .k) (s .pre .0) (s .pre .1) (s .pre .2) (c .before .before .before .before .before .before .before .term-at .ensures))
 
--- src/lib.rt:321:55
 value-requires : tie.Need-value-requires
 value-requires c κs =
     let s = c .before .before .before .before .before .before .before .before .before .before .before .before .before in
     omega (arith, s .pre .0 .long, line-term (s .args .terms .now) (s .args .runs .now) (s .args .marks .now) (s .args .n) (s .args .k) (s .pre .0) (s .pre .1) (s .pre .2) (c .before .before .before .before .before .before .before .before .term-at .ensures))
 
--- src/lib.rt:321:9
 write-head-requires : tie.Need-write-head-requires
 write-head-requires c κs =
     let s = c .before .before .before .before .before .before .before .before .before .before .before .before .before .before in
     head-room (s .args .terms .now) (s .args .runs .now) (s .args .marks .now) (s .args .n) (s .args .k) (s .pre .0) (s .pre .1) (s .pre .2) (c .before .before .before .before .before .before .before .before .before .term-at .ensures) (c .before .before .before .before .before .before .before .before .first .ensures .0) (c .before .before .before .before .before .before .before .first2 .ensures .0) (c .before .head .ensures) (c .value .ensures) (s .args .out .now) (s .args .at) (s .pre .3) (c .before .before .before .before .before .decimal .ensures)
 
--- src/lib.rt:322:9
 write-runs-requires : tie.Need-write-runs-requires
 write-runs-requires c κs =
     let s = c .before .before .before .before .before .before .before .before .before .before .before .before .before .before .before .before .before .before in
     (line-rises (s .args .terms .now) (s .args .runs .now) (s .args .marks .now) (s .args .n) (s .args .k) (s .pre .0) (s .pre .1) (s .pre .2) (c .before .before .before .before .before .before .before .before .before .before .before .before .before .term-at .ensures) (c .before .before .before .before .before .before .before .before .before .before .before .before .first .ensures .0) (c .before .before .before .before .before .before .before .before .before .before .before .first2 .ensures .0), line-within (s .args .terms .now) (s .args .runs .now) (s .args .marks .now) (s .args .n) (s .args .k) (s .pre .0) (s .pre .1) (s .pre .2) (c .before .before .before .before .before .before .before .before .before .before .before .before .before .term-at .ensures) (c .before .before .before .before .before .before .before .before .before .before .before .before .first .ensures .0) (c .before .before .before .before .before .before .before .before .before .before .before .first2 .ensures .0), line-named (s .args .terms .now) (s .args .runs .now) (s .args .marks .now) (s .args .n) (s .args .k) (s .pre .0) (s .pre .1) (s .pre .2) (c .before .before .before .before .before .before .before .before .before .before .before .before .before .term-at .ensures) (c .before .before .before .before .before .before .before .before .before .before .before .before .first .ensures .0) (c .before .before .before .before .before .before .before .before .before .before .before .first2 .ensures .0), runs-room (s .args .terms .now) (s .args .runs .now) (s .args .marks .now) (s .args .n) (s .args .k) (s .pre .0) (s .pre .1) (s .pre .2) (c .before .before .before .before .before .before .before .before .before .before .before .before .before .term-at .ensures) (c .before .before .before .before .before .before .before .before .before .before .before .before .first .ensures .0) (c .before .before .before .before .before .before .before .before .before .before .before .first2 .ensures .0) (c .before .before .before .before .before .head .ensures) (c .before .before .before .before .value .ensures) (s .args .out .now) (s .args .at) (s .pre .3) (c .before .before .before .before .before .before .before .before .before .decimal .ensures) (c .before .before .before .write-head .ensures))
 
--- src/lib.rt:323:18
 slice-aggregate-text : tie.Need-slice-aggregate-text
 slice-aggregate-text c = search needs
 
--- src/lib.rt:323:5
 text-requires : tie.Need-text-requires
 text-requires c κs =
     let s = c .before .before .before .before .before .before .before .before .before .before .before .before .before .before .before .before .before .before .before .before .before .before .before in
     feed-room (s .args .terms .now) (s .args .runs .now) (s .args .marks .now) (s .args .n) (s .args .k) (s .pre .0) (s .pre .1) (s .pre .2) (c .before .before .before .before .before .before .before .before .before .before .before .before .before .before .before .before .before .before .term-at .ensures) (c .before .before .before .before .before .before .before .before .before .before .before .before .before .before .before .before .before .first .ensures .0) (c .before .before .before .before .before .before .before .before .before .before .before .before .before .before .before .before .first2 .ensures .0) (c .before .before .before .before .before .before .before .before .before .before .head .ensures) (c .before .before .before .before .before .before .before .before .before .value .ensures) (s .args .out .now) (s .args .at) (s .pre .3) (c .before .before .before .before .before .before .before .before .before .before .before .before .before .before .decimal .ensures) (c .before .before .before .before .before .before .before .before .write-head .ensures) (c .before .before .before .before .write-runs .ensures)
 
--- src/lib.rt:305:1
 same-length : tie.Need-same-length
 same-length c = search needs
 
--- src/lib.rt:305:1
 returns : tie.Need-returns
 returns c =
     let s = c .before .before .before .before .before .before .before .before .before .before .before .before .before .before .before .before .before .before .before .before .before .before .before .before .before .before in

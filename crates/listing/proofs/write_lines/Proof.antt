@@ -17,7 +17,6 @@ Inv-loop out₀ at0 terms runs marks n k₀ at₀ out k at = (k ≤ n) × Left (
 abbrev μ-loop : tie.MeasureT-loop
 μ-loop out₀ at0 terms runs marks n k₀ at₀ out k at = n - k
 
--- src/lib.rt:339:5
 loop-holds : tie.Need-loop-holds Inv-loop μ-loop
 loop-holds c =
     let s = c .before .before .before .before in
@@ -25,7 +24,6 @@ loop-holds c =
     let e : a .n - 0 ≡ a .n = omega arith in
     (omega arith, rw e (left-start (linesIn (a .terms .now) (a .runs .now) (a .marks .now) 0 (a .n)) (a .out .now) (a .at0) (s .pre .2)))
 
--- src/lib.rt:340:9
 write-line-requires : tie.Need-write-line-requires Inv-loop μ-loop
 write-line-requires c κs =
     let l = c .before .before in
@@ -33,29 +31,24 @@ write-line-requires c κs =
     let a = s .args in
     (s .pre .0, s .pre .1, omega arith, left-room (lineIn (a .terms .now) (a .runs .now) (a .marks .now) (l .loop .k)) (linesIn (a .terms .now) (a .runs .now) (a .marks .now) (l .loop .k + 1) (a .n - (l .loop .k + 1))) (lines-cons (a .terms .now) (a .runs .now) (a .marks .now) (l .loop .k) (a .n) (omega arith)) (l .loop .inv .1))
 
--- src/lib.rt:341:9
 add-k : tie.Need-add-k Inv-loop μ-loop
 add-k c =
     search needs
 
--- src/lib.rt:339:5
 loop-less : tie.Need-loop-less Inv-loop μ-loop
 loop-less c =
     search needs
 
--- src/lib.rt:339:5
 loop-again : tie.Need-loop-again Inv-loop μ-loop
 loop-again c =
     let l = c .before .before .before .before .before in
     let a = c .before .before .before .before .before .before .before .before .before .before .args in
     (omega arith, left-turn (lineIn (a .terms .now) (a .runs .now) (a .marks .now) (l .loop .k)) (linesIn (a .terms .now) (a .runs .now) (a .marks .now) (l .loop .k + 1) (a .n - (l .loop .k + 1))) (lines-cons (a .terms .now) (a .runs .now) (a .marks .now) (l .loop .k) (a .n) (omega arith)) (l .loop .inv .1) (c .before .before .write-line .ensures))
 
--- src/lib.rt:326:1
 same-length : tie.Need-same-length Inv-loop μ-loop
 same-length c =
     search needs
 
--- src/lib.rt:326:1
 returns : tie.Need-returns Inv-loop μ-loop
 returns c =
     let l = c .before in

@@ -9,43 +9,35 @@ use Rattle.listing.proofs.child.Reads as child-reads
 use Rattle.listing.proofs.labelled.Reads as labelled-reads
 use Rattle.listing.proofs.number_of.Reads as number-of-reads
 
--- src/lib.rt:260:31
 slice-aggregate-labelled : tie.Need-slice-aggregate-labelled
 slice-aggregate-labelled c = search needs
 
--- src/lib.rt:260:54
 child-requires : tie.Need-child-requires
 child-requires c κs = search needs
 
--- src/lib.rt:260:37
 number-of-requires : tie.Need-number-of-requires
 number-of-requires c κs =
     let s = c .before .before .before .before .before in
     rw (c .child .ensures .0) (s .pre .0)
 
--- src/lib.rt:260:9
 labelled-requires : tie.Need-labelled-requires
 unfolding text
 labelled-requires c κs =
     let s = c .before .before .before .before .before .before in
     run-first (s .args .marks .now) (s .args .r) (c .before .child .ensures .0) (c .number-of .ensures) (s .args .out .now) (s .args .at) (s .pre .1)
 
--- src/lib.rt:261:22
 slice-aggregate-labelled-2 : tie.Need-slice-aggregate-labelled-2
 slice-aggregate-labelled-2 c = search needs
 
--- src/lib.rt:261:5
 labelled-requires-2 : tie.Need-labelled-requires-2
 unfolding text
 labelled-requires-2 c κs =
     let s = c .before .before .before .before .before .before .before .before .before .before .before in
     run-second (s .args .marks .now) (s .args .r) (c .before .before .before .before .before .before .child .ensures .0) (c .before .before .before .before .before .number-of .ensures) (s .args .out .now) (s .args .at) (s .pre .1) (c .before .before .before .before .labelled .ensures)
 
--- src/lib.rt:256:1
 same-length : tie.Need-same-length
 same-length c = search needs
 
--- src/lib.rt:256:1
 returns : tie.Need-returns
 unfolding text
 returns c =

@@ -17,24 +17,20 @@ Inv-loop out₀ at0 runs marks from to i₀ at₀ out i at = (from ≤ i) × (i 
 abbrev μ-loop : tie.MeasureT-loop
 μ-loop out₀ at0 runs marks from to i₀ at₀ out i at = to - i
 
--- src/lib.rt:277:5
 loop-holds : tie.Need-loop-holds Inv-loop μ-loop
 loop-holds c =
     let s = c .before .before .before in
     let a = s .args in
     (omega arith, omega (arith, s .pre .0), left-start (runsIn (a .runs .now) (a .marks .now) (a .from) (a .to - a .from)) (a .out .now) (a .at0) (s .pre .3))
 
--- src/lib.rt:278:40
 mul-write-run : tie.Need-mul-write-run Inv-loop μ-loop
 mul-write-run c =
     search needs
 
--- src/lib.rt:278:40
 shared-slice-read-write-run : tie.Need-shared-slice-read-write-run Inv-loop μ-loop
 shared-slice-read-write-run c =
     search needs
 
--- src/lib.rt:278:9
 write-run-requires : tie.Need-write-run-requires Inv-loop μ-loop
 write-run-requires c κs =
     let l = c .before .before .before in
@@ -42,29 +38,24 @@ write-run-requires c κs =
     let a = s .args in
     (s .pre .2 (l .loop .i) (l .loop .inv .0) (omega arith), left-room (runIn (a .marks .now) (getD (a .runs .now) (l .loop .i) 0)) (runsIn (a .runs .now) (a .marks .now) (l .loop .i + 1) (a .to - (l .loop .i + 1))) (runs-cons (a .runs .now) (a .marks .now) (l .loop .i) (a .to) (omega arith)) (l .loop .inv .2))
 
--- src/lib.rt:279:9
 add-i : tie.Need-add-i Inv-loop μ-loop
 add-i c =
     search needs
 
--- src/lib.rt:277:5
 loop-less : tie.Need-loop-less Inv-loop μ-loop
 loop-less c =
     search needs
 
--- src/lib.rt:277:5
 loop-again : tie.Need-loop-again Inv-loop μ-loop
 loop-again c =
     let l = c .before .before .before .before .before .before in
     let a = c .before .before .before .before .before .before .before .before .before .before .args in
     (omega (arith, l .loop .inv .0), omega arith, left-turn (runIn (a .marks .now) (getD (a .runs .now) (l .loop .i) 0)) (runsIn (a .runs .now) (a .marks .now) (l .loop .i + 1) (a .to - (l .loop .i + 1))) (runs-cons (a .runs .now) (a .marks .now) (l .loop .i) (a .to) (omega arith)) (l .loop .inv .2) (c .before .before .write-run .ensures))
 
--- src/lib.rt:264:1
 same-length : tie.Need-same-length Inv-loop μ-loop
 same-length c =
     search needs
 
--- src/lib.rt:264:1
 returns : tie.Need-returns Inv-loop μ-loop
 returns c =
     let l = c .before in

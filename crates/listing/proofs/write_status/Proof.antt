@@ -7,43 +7,35 @@ use Rattle.listing.proofs.write_status.Reads as reads
 use Rattle.listing.proofs.write_status.Lts as lts
 use Rattle.listing.proofs.text.Reads as text-reads
 
--- src/lib.rt:344:29
 slice-aggregate-text : tie.Need-slice-aggregate-text
 slice-aggregate-text c = search needs
 
--- src/lib.rt:344:9
 text-requires : tie.Need-text-requires
 unfolding text
 text-requires c κs =
     let s = c .before .before .before .before in
     status-as (s .args .out .now) (c .before .before .if1 .taken) (s .pre)
 
--- src/lib.rt:344:9
 same-length : tie.Need-same-length
 same-length c = search needs
 
--- src/lib.rt:344:9
 returns : tie.Need-returns
 unfolding text
 returns c =
     status-wrote (c .before .before .before .before .before .if1 .taken) (c .before .before .text .ensures)
 
--- src/lib.rt:346:18
 slice-aggregate-text-2 : tie.Need-slice-aggregate-text-2
 slice-aggregate-text-2 c = search needs
 
--- src/lib.rt:346:5
 text-requires-2 : tie.Need-text-requires-2
 unfolding text
 text-requires-2 c κs =
     let s = c .before .before .before .before in
     status-as (s .args .out .now) (c .before .before .if1 .left) (s .pre)
 
--- src/lib.rt:339:1
 same-length-2 : tie.Need-same-length-2
 same-length-2 c = search needs
 
--- src/lib.rt:339:1
 returns-2 : tie.Need-returns-2
 unfolding text
 returns-2 c =

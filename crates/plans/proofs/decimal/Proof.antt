@@ -16,35 +16,27 @@ Inv-loop out₀ from n at₀ unit₀ out at unit = length out ≡ length out₀
 abbrev μ-loop : tie.MeasureT-loop
 μ-loop out₀ from n at₀ unit₀ out at unit = unit
 
--- src/main.rt:239:5
 loop-holds : tie.Need-loop-holds Inv-loop μ-loop
 loop-holds c = search needs
 
--- src/main.rt:240:9
 unit-digit-requires : tie.Need-unit-digit-requires Inv-loop μ-loop
 unit-digit-requires c κs = search needs
 
--- src/main.rt:239:5
 loop-less : tie.Need-loop-less Inv-loop μ-loop
 loop-less c = search needs
 
--- src/main.rt:239:5
 loop-again : tie.Need-loop-again Inv-loop μ-loop
 loop-again c = search needs
 
--- src/main.rt:243:19
 digit-requires : tie.Need-digit-requires Inv-loop μ-loop
 digit-requires c κs = search needs
 
--- src/main.rt:243:5
 push-requires : tie.Need-push-requires Inv-loop μ-loop
 push-requires c κs = search needs
 
--- src/main.rt:236:1
 same-length : tie.Need-same-length Inv-loop μ-loop
 same-length c = search needs
 
--- src/main.rt:236:1
 returns : tie.Need-returns Inv-loop μ-loop
 returns c = search needs
 

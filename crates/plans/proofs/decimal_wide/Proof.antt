@@ -15,39 +15,30 @@ Inv-loop out₀ from line n₀ at₀ out n at = (length out ≡ length out₀) �
 abbrev μ-loop : tie.MeasureT-loop
 μ-loop out₀ from line n₀ at₀ out n at = n
 
--- src/main.rt:273:9
 digits-requires : tie.Need-digits-requires Inv-loop μ-loop
 digits-requires c κs = search needs
 
--- src/main.rt:275:5
 loop-holds : tie.Need-loop-holds Inv-loop μ-loop
 loop-holds c = search needs
 
--- src/main.rt:276:9
 sub-n : tie.Need-sub-n Inv-loop μ-loop
 sub-n c = search needs
 
--- src/main.rt:277:28
 array-read-push : tie.Need-array-read-push Inv-loop μ-loop
 array-read-push c = search needs
 
--- src/main.rt:277:9
 push-requires : tie.Need-push-requires Inv-loop μ-loop
 push-requires c κs = search needs
 
--- src/main.rt:275:5
 loop-less : tie.Need-loop-less Inv-loop μ-loop
 loop-less c = search needs
 
--- src/main.rt:275:5
 loop-again : tie.Need-loop-again Inv-loop μ-loop
 loop-again c = search needs
 
--- src/main.rt:271:1
 same-length : tie.Need-same-length Inv-loop μ-loop
 same-length c = search needs
 
--- src/main.rt:271:1
 returns : tie.Need-returns Inv-loop μ-loop
 returns c = search needs
 

@@ -14,43 +14,33 @@ Inv-loop s at₀ at = at ≤ length s + 1
 abbrev μ-loop : tie.MeasureT-loop
 μ-loop s at₀ at = length s + 1 - at
 
--- src/main.rt:428:5
 loop-holds : tie.Need-loop-holds Inv-loop μ-loop
 loop-holds c = search needs
 
--- src/main.rt:429:13
 line-end-requires : tie.Need-line-end-requires Inv-loop μ-loop
 line-end-requires c κs = search needs
 
--- src/main.rt:430:13
 sub-say : tie.Need-sub-say Inv-loop μ-loop
 sub-say c = search needs
 
--- src/main.rt:430:13
 part-say-start : tie.Need-part-say-start Inv-loop μ-loop
 part-say-start c = search needs
 
--- src/main.rt:430:13
 part-say-end : tie.Need-part-say-end Inv-loop μ-loop
 part-say-end c = search needs
 
--- src/main.rt:430:9
 say-requires : tie.Need-say-requires Inv-loop μ-loop
 say-requires c κs = search needs
 
--- src/main.rt:431:14
 add-at : tie.Need-add-at Inv-loop μ-loop
 add-at c = search needs
 
--- src/main.rt:428:5
 loop-less : tie.Need-loop-less Inv-loop μ-loop
 loop-less c = search needs
 
--- src/main.rt:428:5
 loop-again : tie.Need-loop-again Inv-loop μ-loop
 loop-again c = search needs
 
--- src/main.rt:426:1
 returns : tie.Need-returns Inv-loop μ-loop
 returns c = search needs
 

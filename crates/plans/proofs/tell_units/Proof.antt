@@ -16,39 +16,30 @@ Inv-loop out₀ from plan n at₀ i₀ out at i = (length out ≡ length out₀)
 abbrev μ-loop : tie.MeasureT-loop
 μ-loop out₀ from plan n at₀ i₀ out at i = n - i
 
--- src/main.rt:306:5
 loop-holds : tie.Need-loop-holds Inv-loop μ-loop
 loop-holds c = search needs
 
--- src/main.rt:307:9
 push-requires : tie.Need-push-requires Inv-loop μ-loop
 push-requires c κs = search needs
 
--- src/main.rt:308:31
 units-requires : tie.Need-units-requires Inv-loop μ-loop
 units-requires c κs = search needs
 
--- src/main.rt:308:9
 decimal-requires : tie.Need-decimal-requires Inv-loop μ-loop
 decimal-requires c κs = search needs
 
--- src/main.rt:309:9
 add-i : tie.Need-add-i Inv-loop μ-loop
 add-i c = search needs
 
--- src/main.rt:306:5
 loop-less : tie.Need-loop-less Inv-loop μ-loop
 loop-less c = search needs
 
--- src/main.rt:306:5
 loop-again : tie.Need-loop-again Inv-loop μ-loop
 loop-again c = search needs
 
--- src/main.rt:303:1
 same-length : tie.Need-same-length Inv-loop μ-loop
 same-length c = search needs
 
--- src/main.rt:303:1
 returns : tie.Need-returns Inv-loop μ-loop
 returns c = search needs
 

@@ -15,73 +15,59 @@ Inv-loop s im index pairs n l r best₀ w₀ best w = Going (tablesOf s) (qualit
 abbrev μ-loop : tie.MeasureT-loop
 μ-loop s im index pairs n l r best₀ w₀ best w = length (listFrom (tablesOf s) l r w)
 
--- src/lib.rt:178:20
 size-of-requires : tie.Need-size-of-requires Inv-loop μ-loop
 size-of-requires c κs =
     let a = c .before .before .before in (a .pre .4, place-fits (a .args .s .now) (a .args .im) (a .pre .0) (a .pre .1) (length (a .args .index .now)) (a .pre .5) (a .args .l) (a .args .r) (a .pre .2) (a .pre .3))
 
--- src/lib.rt:178:15
 num8-requires : tie.Need-num8-requires Inv-loop μ-loop
 num8-requires c κs = search needs
 
--- src/lib.rt:179:20
 mass-of-requires : tie.Need-mass-of-requires Inv-loop μ-loop
 mass-of-requires c κs =
     let a = c .before .before .before .before .before in (a .pre .4, place-fits (a .args .s .now) (a .args .im) (a .pre .0) (a .pre .1) (length (a .args .index .now)) (a .pre .5) (a .args .l) (a .args .r) (a .pre .2) (a .pre .3))
 
--- src/lib.rt:179:15
 num8-requires-2 : tie.Need-num8-requires-2 Inv-loop μ-loop
 num8-requires-2 c κs = search needs
 
--- src/lib.rt:182:9
 start-requires : tie.Need-start-requires Inv-loop μ-loop
 start-requires c κs = search needs
 
--- src/lib.rt:183:5
 loop-holds : tie.Need-loop-holds Inv-loop μ-loop
 loop-holds c =
     let a = c .before .before .before .before .before .before .before .before in
     going-first (tablesOf (a .args .s .now)) (qualityIn (a .args .index .now) (a .args .pairs .now)) (a .args .l) (a .args .r) _ _ _ (c .start .ensures)
     (c .before .before .before .num8 .ensures .0 ∙ c .before .before .before .before .size-of .ensures) (c .before .num82 .ensures .0 ∙ c .before .before .mass-of .ensures) (c .before .before .before .num8 .ensures .1) (c .before .num82 .ensures .1)
 
--- src/lib.rt:184:15
 seek-requires : tie.Need-seek-requires Inv-loop μ-loop
 seek-requires c κs = search needs
 
--- src/lib.rt:186:17
 enum-told : tie.Need-enum-told Inv-loop μ-loop
 enum-told c = search needs
 
--- src/lib.rt:186:17
 returns : tie.Need-returns Inv-loop μ-loop
 returns c =
     let l = c .before .before .before in let a = l .before .before .before .before .before .before .before .before .before in
     let k = rw (c .enum-told .given .1) at (c .before .before .seek .ensures) in
     going-last (tablesOf (a .args .s .now)) (qualityIn (a .args .index .now) (a .args .pairs .now)) (a .args .l) (a .args .r) (l .loop .best) (l .loop .w) (l .loop .inv) (k .0)
 
--- src/lib.rt:188:24
 enum-known-v : tie.Need-enum-known-v Inv-loop μ-loop
 enum-known-v c = search needs
 
--- src/lib.rt:189:17
 offer-requires : tie.Need-offer-requires Inv-loop μ-loop
 offer-requires c κs =
     let a = c .before .before .before .before .before .before .before .before .before .before .before .before .before in
     let k = rw (c .before .v .given .1) at (c .before .before .before .seek .ensures) in (a .pre .0, a .pre .1, k .1, a .pre .4, a .pre .5)
 
--- src/lib.rt:190:17
 after-requires : tie.Need-after-requires Inv-loop μ-loop
 after-requires c κs =
     let k = rw (c .before .before .v .given .1) at (c .before .before .before .before .seek .ensures) in k .1 .few
 
--- src/lib.rt:183:5
 loop-less : tie.Need-loop-less Inv-loop μ-loop
 loop-less c =
     let l = c .before .before .before .before .before .before in let a = l .before .before .before .before .before .before .before .before .before in
     let k = rw (c .before .before .before .v .given .1) at (c .before .before .before .before .before .seek .ensures) in
     fewer (tablesOf (a .args .s .now)) (a .args .l) (a .args .r) (l .loop .w) _ _ (k .0) (c .after .ensures)
 
--- src/lib.rt:183:5
 loop-again : tie.Need-loop-again Inv-loop μ-loop
 loop-again c =
     let l = c .before .before .before .before .before .before in let a = l .before .before .before .before .before .before .before .before .before in

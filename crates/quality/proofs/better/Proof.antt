@@ -4,15 +4,12 @@ use borrow.Author.Tests.{lt-ltb, le-ltb, eq-eqb, ne-eqb}
 use Rattle.quality.proofs.better.Statement.{statement}
 use Rattle.quality.proofs.better.Tie as tie
 
--- src/lib.rt:110:9
 returns : tie.Need-returns
 returns c = rw (lt-ltb _ _ (c .if1 .taken)) refl
 
--- src/lib.rt:113:9
 returns-2 : tie.Need-returns-2
 returns-2 c = let a = c .before .before .before .before .args in rw (le-ltb (a .size) (a .b .size) (omega arith), ne-eqb (a .size) (a .b .size) (omega arith)) refl
 
--- src/lib.rt:106:1
 returns-3 : tie.Need-returns-3
 returns-3 c = let a = c .before .before .before .before .before .args in rw (le-ltb (a .size) (a .b .size) (omega arith), eq-eqb (a .size) (a .b .size) (omega arith)) refl
 

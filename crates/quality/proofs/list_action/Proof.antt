@@ -17,51 +17,40 @@ Inv-loop s im v index pairs n list₀ m k₀ list k = Listed (termIn index pairs
 abbrev μ-loop : tie.MeasureT-loop
 μ-loop s im v index pairs n list₀ m k₀ list k = m - k
 
--- src/lib.rt:209:9
 count-requires : tie.Need-count-requires Inv-loop μ-loop
 count-requires c κs = search needs
 
--- src/lib.rt:211:5
 loop-holds : tie.Need-loop-holds Inv-loop μ-loop
 loop-holds c =
     let a = c .before .before .before .before .before in listed-none (termIn (a .args .index .now) (a .args .pairs .now)) (actionAt (tablesOf (a .args .s .now)) (a .args .v) .pairs) (a .args .list .now)
 
--- src/lib.rt:212:13
 left-class-requires : tie.Need-left-class-requires Inv-loop μ-loop
 left-class-requires c κs =
     let a = c .before .before .before .before .before .before .before in (a .pre .0, a .pre .1, a .pre .2, omega (arith, c .loop-test .taken, c .before .before .count .ensures .0))
 
--- src/lib.rt:213:13
 right-class-requires : tie.Need-right-class-requires Inv-loop μ-loop
 right-class-requires c κs =
     let a = c .before .before .before .before .before .before .before .before in (a .pre .0, a .pre .1, a .pre .2, omega (arith, c .before .loop-test .taken, c .before .before .before .count .ensures .0))
 
--- src/lib.rt:214:36
 term-of-requires : tie.Need-term-of-requires Inv-loop μ-loop
 term-of-requires c κs =
     let a = c .before .before .before .before .before .before .before .before .before .before in (a .pre .3, place-fits (a .args .s .now) (a .args .im) (a .pre .0) (a .pre .1) (length (a .args .index .now)) (a .pre .5) _ _ (c .before .before .left-class .ensures .1) (c .before .right-class .ensures .1))
 
--- src/lib.rt:214:31
 num8-requires : tie.Need-num8-requires Inv-loop μ-loop
 num8-requires c κs = search needs
 
--- src/lib.rt:214:23
 add-put8 : tie.Need-add-put8 Inv-loop μ-loop
 add-put8 c = search needs
 
--- src/lib.rt:214:9
 put8-requires : tie.Need-put8-requires Inv-loop μ-loop
 put8-requires c κs = search needs
 
--- src/lib.rt:215:9
 add-k : tie.Need-add-k Inv-loop μ-loop
 add-k c = search needs
 
--- src/lib.rt:211:5
 loop-less : tie.Need-loop-less Inv-loop μ-loop
 loop-less c = search needs
 
--- src/lib.rt:211:5
 loop-again : tie.Need-loop-again Inv-loop μ-loop
 loop-again c =
     let l = c .before .before .before .before .before .before .before .before .before in let a = l .before .before .before .before .before .before in
@@ -69,11 +58,9 @@ loop-again c =
     (omega (arith, c .before .before .before .before .before .before .before .before .loop-test .taken, l .before .count .ensures .1, l .loop .inv .same, a .pre .4)) _ _ _ _
     (c .before .before .before .before .before .before .before .left-class .ensures .0) (c .before .before .before .before .before .before .right-class .ensures .0) (c .before .before .before .num8 .ensures .0 ∙ c .before .before .before .before .term-of .ensures) (c .before .before .put8 .ensures)
 
--- src/lib.rt:197:1
 same-length : tie.Need-same-length Inv-loop μ-loop
 same-length c = search needs
 
--- src/lib.rt:197:1
 returns : tie.Need-returns Inv-loop μ-loop
 returns c =
     let l = c .before in let a = l .before .before .before .before .before .before in (

@@ -6,21 +6,17 @@ use borrow.Author.Needs.{needs}
 use Rattle.quality.proofs.offer.Statement.{statement}
 use Rattle.quality.proofs.offer.Tie as tie
 
--- src/lib.rt:153:9
 structural-quality-requires : tie.Need-structural-quality-requires
 structural-quality-requires c κs = search needs
 
--- src/lib.rt:154:8
 better-requires : tie.Need-better-requires
 better-requires c κs = search needs
 
--- src/lib.rt:155:9
 returns : tie.Need-returns
 returns c =
     let w = c .before .before .structural-quality in let a = c .before .before .before .before .before .before in
     replaces (tablesOf (a .args .s .now)) (qualityIn (a .args .index .now) (a .args .pairs .now)) (a .args .v) (a .args .b) (w .result .size) (w .result .mass) (w .ensures) (a .pre .2) (sym (c .if1 .taken) ∙ c .before .better .ensures)
 
--- src/lib.rt:149:1
 returns-2 : tie.Need-returns-2
 returns-2 c =
     let w = c .before .before .structural-quality in let a = c .before .before .before .before .before .before in

@@ -7,11 +7,9 @@ use borrow.Author.Needs.{needs}
 use Rattle.quality.proofs.size_of.Statement.{statement}
 use Rattle.quality.proofs.size_of.Tie as tie
 
--- src/lib.rt:88:5
 field-requires : tie.Need-field-requires
 field-requires c κs = search needs
 
--- src/lib.rt:84:1
 returns : tie.Need-returns
 returns c =
     let a = c .before .before .before .args in c .field .ensures ∙ ap (λ (z : ℕ). getD (a .pairs .now) z 0) (zero-add (numberIn (a .index .now) (a .l, a .r)))

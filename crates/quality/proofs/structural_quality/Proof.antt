@@ -17,60 +17,47 @@ Inv-loop s im v index pairs n m size₀ mass₀ k₀ size mass k = Summed (quali
 abbrev μ-loop : tie.MeasureT-loop
 μ-loop s im v index pairs n m size₀ mass₀ k₀ size mass k = m - k
 
--- src/lib.rt:131:9
 count-requires : tie.Need-count-requires Inv-loop μ-loop
 count-requires c κs = search needs
 
--- src/lib.rt:135:5
 loop-holds : tie.Need-loop-holds Inv-loop μ-loop
 loop-holds c =
     let a = c .before .before .before .before in summed-none (qualityIn (a .args .index .now) (a .args .pairs .now)) (actionAt (tablesOf (a .args .s .now)) (a .args .v) .pairs)
 
--- src/lib.rt:136:13
 left-class-requires : tie.Need-left-class-requires Inv-loop μ-loop
 left-class-requires c κs =
     let a = c .before .before .before .before .before .before in (a .pre .0, a .pre .1, a .pre .2, omega (arith, c .loop-test .taken, c .before .before .count .ensures .0))
 
--- src/lib.rt:137:13
 right-class-requires : tie.Need-right-class-requires Inv-loop μ-loop
 right-class-requires c κs =
     let a = c .before .before .before .before .before .before .before in (a .pre .0, a .pre .1, a .pre .2, omega (arith, c .before .loop-test .taken, c .before .before .before .count .ensures .0))
 
--- src/lib.rt:138:22
 size-of-requires : tie.Need-size-of-requires Inv-loop μ-loop
 size-of-requires c κs =
     let a = c .before .before .before .before .before .before .before .before in (a .pre .3, place-fits (a .args .s .now) (a .args .im) (a .pre .0) (a .pre .1) (length (a .args .index .now)) (a .pre .4) _ _ (c .before .left-class .ensures .1) (c .right-class .ensures .1))
 
--- src/lib.rt:138:17
 num8-requires : tie.Need-num8-requires Inv-loop μ-loop
 num8-requires c κs = search needs
 
--- src/lib.rt:138:9
 add-size : tie.Need-add-size Inv-loop μ-loop
 add-size c = search needs
 
--- src/lib.rt:139:22
 mass-of-requires : tie.Need-mass-of-requires Inv-loop μ-loop
 mass-of-requires c κs =
     let a = c .before .before .before .before .before .before .before .before .before .before in (a .pre .3, place-fits (a .args .s .now) (a .args .im) (a .pre .0) (a .pre .1) (length (a .args .index .now)) (a .pre .4) _ _ (c .before .before .before .left-class .ensures .1) (c .before .before .right-class .ensures .1))
 
--- src/lib.rt:139:17
 num8-requires-2 : tie.Need-num8-requires-2 Inv-loop μ-loop
 num8-requires-2 c κs = search needs
 
--- src/lib.rt:139:9
 add-mass : tie.Need-add-mass Inv-loop μ-loop
 add-mass c = search needs
 
--- src/lib.rt:140:9
 add-k : tie.Need-add-k Inv-loop μ-loop
 add-k c = search needs
 
--- src/lib.rt:135:5
 loop-less : tie.Need-loop-less Inv-loop μ-loop
 loop-less c = search needs
 
--- src/lib.rt:135:5
 loop-again : tie.Need-loop-again Inv-loop μ-loop
 loop-again c =
     let l = c .before .before .before .before .before .before .before in let a = l .before .before .before .before .before in
@@ -78,7 +65,6 @@ loop-again c =
     (c .before .before .before .before .before .left-class .ensures .0) (c .before .before .before .before .right-class .ensures .0) (c .before .before .num8 .ensures .0 ∙ c .before .before .before .size-of .ensures) (c .num82 .ensures .0 ∙ c .before .mass-of .ensures)
     (c .before .before .num8 .ensures .1) (c .num82 .ensures .1)
 
--- src/lib.rt:120:1
 returns : tie.Need-returns Inv-loop μ-loop
 returns c =
     let l = c .before in let a = l .before .before .before .before .before in

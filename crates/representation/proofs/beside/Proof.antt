@@ -9,27 +9,21 @@ Inv-loop s im l r₀ r = Unit
 abbrev μ-loop : tie.MeasureT-loop
 μ-loop s im l r₀ r = im .classes - r
 
--- src/main.rt:107:5
 loop-holds : tie.Need-loop-holds Inv-loop μ-loop
 loop-holds c = tt
 
--- src/main.rt:108:9
 of-classes-requires : tie.Need-of-classes-requires Inv-loop μ-loop
 of-classes-requires c κs = search needs
 
--- src/main.rt:109:9
 add-r : tie.Need-add-r Inv-loop μ-loop
 add-r c = search needs
 
--- src/main.rt:107:5
 loop-less : tie.Need-loop-less Inv-loop μ-loop
 loop-less c = search needs
 
--- src/main.rt:107:5
 loop-again : tie.Need-loop-again Inv-loop μ-loop
 loop-again c = tt
 
--- src/main.rt:103:1
 returns : tie.Need-returns Inv-loop μ-loop
 returns c = tt
 

@@ -11,63 +11,48 @@ Inv-loop s at₀ at = at ≤ length s
 abbrev μ-loop : tie.MeasureT-loop
 μ-loop s at₀ at = length s - at
 
--- src/main.rt:175:5
 loop-holds : tie.Need-loop-holds Inv-loop μ-loop
 loop-holds c = search needs
 
--- src/main.rt:175:11
 add-loop : tie.Need-add-loop Inv-loop μ-loop
 add-loop c = search needs
 
--- src/main.rt:176:20
 add-from : tie.Need-add-from Inv-loop μ-loop
 add-from c = search needs
 
--- src/main.rt:177:17
 be4-requires : tie.Need-be4-requires Inv-loop μ-loop
 be4-requires c κs = search needs
 
--- src/main.rt:178:16
 sub-if1 : tie.Need-sub-if1 Inv-loop μ-loop
 sub-if1 c = search needs
 
--- src/main.rt:179:13
 returns : tie.Need-returns Inv-loop μ-loop
 returns c = tt
 
--- src/main.rt:181:24
 add-frame : tie.Need-add-frame Inv-loop μ-loop
 add-frame c = search needs
 
--- src/main.rt:181:15
 sub-frame : tie.Need-sub-frame Inv-loop μ-loop
 sub-frame c = search needs
 
--- src/main.rt:181:15
 part-frame-start : tie.Need-part-frame-start Inv-loop μ-loop
 part-frame-start c = search needs
 
--- src/main.rt:181:15
 part-frame-end : tie.Need-part-frame-end Inv-loop μ-loop
 part-frame-end c = search needs
 
--- src/main.rt:181:9
 frame-requires : tie.Need-frame-requires Inv-loop μ-loop
 frame-requires c κs = search needs
 
--- src/main.rt:182:14
 add-at : tie.Need-add-at Inv-loop μ-loop
 add-at c = search needs
 
--- src/main.rt:175:5
 loop-less : tie.Need-loop-less Inv-loop μ-loop
 loop-less c = search needs
 
--- src/main.rt:175:5
 loop-again : tie.Need-loop-again Inv-loop μ-loop
 loop-again c = omega arith
 
--- src/main.rt:173:1
 returns-2 : tie.Need-returns-2 Inv-loop μ-loop
 returns-2 c = tt
 

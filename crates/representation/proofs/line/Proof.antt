@@ -3,31 +3,24 @@ use borrow.Author.Needs.{needs}
 use Rattle.representation.proofs.line.Statement.{statement}
 use Rattle.representation.proofs.line.Tie as tie
 
--- src/main.rt:75:59
 slice-aggregate-monomials : tie.Need-slice-aggregate-monomials
 slice-aggregate-monomials c = search needs
 
--- src/main.rt:75:70
 slice-aggregate-monomials-2 : tie.Need-slice-aggregate-monomials-2
 slice-aggregate-monomials-2 c = search needs
 
--- src/main.rt:75:9
 monomials-requires : tie.Need-monomials-requires
 monomials-requires c κs = search needs
 
--- src/main.rt:77:22
 enum-known-found : tie.Need-enum-known-found
 enum-known-found c = search needs
 
--- src/main.rt:78:31
 slice-aggregate-write : tie.Need-slice-aggregate-write
 slice-aggregate-write c = search needs
 
--- src/main.rt:78:41
 slice-aggregate-write-2 : tie.Need-slice-aggregate-write-2
 slice-aggregate-write-2 c = search needs
 
--- src/main.rt:78:13
 write-requires : tie.Need-write-requires
 write-requires c κs =
     let f = rw (c .before .before .before .found .given .1) at (c .before .before .before .before .before .before .before .monomials .ensures .few) in
@@ -36,11 +29,9 @@ write-requires c κs =
 enum-told : tie.Need-enum-told
 enum-told c = search needs
 
--- src/main.rt:70:1
 returns : tie.Need-returns
 returns c = search needs
 
--- src/main.rt:70:1
 returns-2 : tie.Need-returns-2
 returns-2 c = search needs
 

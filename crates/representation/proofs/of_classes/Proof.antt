@@ -13,19 +13,15 @@ Inv-loop s im l r x₀ x = Within (tablesOf s) l r x
 abbrev μ-loop : tie.MeasureT-loop
 μ-loop s im l r x₀ x = length (leftOf (walks (tablesOf s) l r) x)
 
--- src/main.rt:88:9
 first-requires : tie.Need-first-requires Inv-loop μ-loop
 first-requires c κs = search needs
 
--- src/main.rt:89:5
 loop-holds : tie.Need-loop-holds Inv-loop μ-loop
 loop-holds c = c .first .ensures .within
 
--- src/main.rt:91:22
 enum-known-x : tie.Need-enum-known-x Inv-loop μ-loop
 enum-known-x c = search needs
 
--- src/main.rt:92:17
 line-requires : tie.Need-line-requires Inv-loop μ-loop
 line-requires c κs =
     let l = c .before .before .before in
@@ -33,14 +29,12 @@ line-requires c κs =
     let w = rw (c .before .x .given .1) at (l .loop .inv) in
     (b .pre .0, b .pre .1, b .pre .2, b .pre .3, rw (← (operations-many (b .args .s .now) (b .args .im) (b .pre .0))) (w .0))
 
--- src/main.rt:93:17
 next-requires : tie.Need-next-requires Inv-loop μ-loop
 next-requires c κs =
     let l = c .before .before .before .before in
     let b = l .before .before .before in
     (b .pre .0, b .pre .1, b .pre .2, b .pre .3, rw (c .before .before .x .given .1) at (l .loop .inv))
 
--- src/main.rt:89:5
 loop-less : tie.Need-loop-less Inv-loop μ-loop
 loop-less c =
     let x = c .before .before .before .x .given in
@@ -48,15 +42,12 @@ loop-less c =
     let b = l .before .before .before in
     left-less (tablesOf (b .args .s .now)) (b .args .l) (b .args .r) (l .loop .x) (x .0 .0) (c .next .result) (x .1) (c .next .ensures)
 
--- src/main.rt:89:5
 loop-again : tie.Need-loop-again Inv-loop μ-loop
 loop-again c = c .next .ensures .within
 
--- src/main.rt:96:17
 enum-told : tie.Need-enum-told Inv-loop μ-loop
 enum-told c = search needs
 
--- src/main.rt:96:17
 returns : tie.Need-returns Inv-loop μ-loop
 returns c = tt
 

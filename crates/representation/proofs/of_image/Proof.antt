@@ -9,27 +9,21 @@ Inv-loop s im l₀ l = Unit
 abbrev μ-loop : tie.MeasureT-loop
 μ-loop s im l₀ l = im .classes - l
 
--- src/main.rt:117:5
 loop-holds : tie.Need-loop-holds Inv-loop μ-loop
 loop-holds c = tt
 
--- src/main.rt:118:9
 beside-requires : tie.Need-beside-requires Inv-loop μ-loop
 beside-requires c κs = search needs
 
--- src/main.rt:119:9
 add-l : tie.Need-add-l Inv-loop μ-loop
 add-l c = search needs
 
--- src/main.rt:117:5
 loop-less : tie.Need-loop-less Inv-loop μ-loop
 loop-less c = search needs
 
--- src/main.rt:117:5
 loop-again : tie.Need-loop-again Inv-loop μ-loop
 loop-again c = tt
 
--- src/main.rt:113:1
 returns : tie.Need-returns Inv-loop μ-loop
 returns c = tt
 

@@ -5,46 +5,36 @@ use borrow.Author.Needs.{needs}
 use Rattle.representation.proofs.query.Statement.{statement}
 use Rattle.representation.proofs.query.Tie as tie
 
--- src/main.rt:141:9
 judge-requires : tie.Need-judge-requires
 judge-requires c κs = search needs
 
--- src/main.rt:143:27
 enum-known-v : tie.Need-enum-known-v
 enum-known-v c = search needs
 
--- src/main.rt:144:13
 accepted-requires : tie.Need-accepted-requires
 accepted-requires c κs =
     let s = c .before .before .before .before .before .args .s .now in
     let j = rw (c .before .v .given .1) at (c .before .before .before .judge .ensures) in
     (j .1, valid s (tablesOf s) (sym (j .0)))
 
--- src/main.rt:147:13
 enum-told : tie.Need-enum-told
 enum-told c = search needs
 
--- src/main.rt:147:13
 refused-requires : tie.Need-refused-requires
 refused-requires c κs = search needs
 
--- src/main.rt:150:13
 enum-told-2 : tie.Need-enum-told-2
 enum-told-2 c = search needs
 
--- src/main.rt:150:13
 refused-requires-2 : tie.Need-refused-requires-2
 refused-requires-2 c κs = search needs
 
--- src/main.rt:140:1
 returns : tie.Need-returns
 returns c = search needs
 
--- src/main.rt:140:1
 returns-2 : tie.Need-returns-2
 returns-2 c = search needs
 
--- src/main.rt:140:1
 returns-3 : tie.Need-returns-3
 returns-3 c = search needs
 

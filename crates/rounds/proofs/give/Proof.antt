@@ -7,31 +7,24 @@ use Rattle.rounds.proofs.give.Reads as reads
 use Rattle.rounds.proofs.give.Lts as lts
 use Rattle.rounds.proofs.put4.Reads as put4-reads
 
--- src/lib.rt:63:5
 put4-requires : tie.Need-put4-requires
 put4-requires c κs = search needs
 
--- src/lib.rt:64:17
 add-put4 : tie.Need-add-put4
 add-put4 c = search needs
 
--- src/lib.rt:64:5
 put4-requires-2 : tie.Need-put4-requires-2
 put4-requires-2 c κs = search needs
 
--- src/lib.rt:65:17
 add-put4-2 : tie.Need-add-put4-2
 add-put4-2 c = search needs
 
--- src/lib.rt:65:5
 put4-requires-3 : tie.Need-put4-requires-3
 put4-requires-3 c κs = search needs
 
--- src/lib.rt:59:1
 same-length : tie.Need-same-length
 same-length c = search needs
 
--- src/lib.rt:59:1
 returns : tie.Need-returns
 unfolding given
 returns c = rw (c .before .before .put43 .ensures, c .before .before .before .before .before .before .put42 .ensures, c .before .before .before .before .before .before .before .before .before .before .put4 .ensures) refl

@@ -8,23 +8,18 @@ use Rattle.rounds.proofs.reported.Reads as reads
 use Rattle.rounds.proofs.reported.Lts as lts
 use Rattle.rounds.proofs.num.Reads as num-reads
 
--- src/lib.rt:247:15
 shared-slice-read-t6 : tie.Need-shared-slice-read-t6
 shared-slice-read-t6 c = search needs
 
--- src/lib.rt:248:15
 shared-slice-read-t8 : tie.Need-shared-slice-read-t8
 shared-slice-read-t8 c = search needs
 
--- src/lib.rt:249:19
 shared-slice-read-num : tie.Need-shared-slice-read-num
 shared-slice-read-num c = search needs
 
--- src/lib.rt:249:15
 num-requires : tie.Need-num-requires
 num-requires c κs = search needs
 
--- src/lib.rt:239:1
 returns : tie.Need-returns
 returns c = ap (λ (x : ℕ). record { complete = c .before .before .before .before .before .args .complete; pairs = c .before .before .before .before .before .args .n; rounds = c .before .before .before .before .before .args .rounds; size = getD (c .before .before .before .before .before .args .pairs .now) 0 0; mass = getD (c .before .before .before .before .before .args .pairs .now) 4096 0; root = x }) (c .num .ensures .0)
 

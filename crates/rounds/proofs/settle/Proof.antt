@@ -16,70 +16,54 @@ Inv-loop pairs₀ n k₀ pairs k = (k ≤ n) × (n ≤ 4096) × (length pairs �
 abbrev μ-loop : tie.MeasureT-loop
 μ-loop pairs₀ n k₀ pairs k = n - k
 
--- src/lib.rt:74:5
 loop-holds : tie.Need-loop-holds Inv-loop μ-loop
 loop-holds c = (omega arith, omega arith, refl, omega arith, settled-none (c .before .args .pairs .now))
 
--- src/lib.rt:75:26
 add-size : tie.Need-add-size Inv-loop μ-loop
 add-size c = search needs
 
--- src/lib.rt:75:20
 mul-size : tie.Need-mul-size Inv-loop μ-loop
 mul-size c = search needs
 
--- src/lib.rt:75:20
 slice-read-size : tie.Need-slice-read-size Inv-loop μ-loop
 slice-read-size c = search needs
 
--- src/lib.rt:76:26
 add-mass : tie.Need-add-mass Inv-loop μ-loop
 add-mass c = search needs
 
--- src/lib.rt:76:20
 mul-mass : tie.Need-mul-mass Inv-loop μ-loop
 mul-mass c = search needs
 
--- src/lib.rt:76:20
 slice-read-mass : tie.Need-slice-read-mass Inv-loop μ-loop
 slice-read-mass c = search needs
 
--- src/lib.rt:77:26
 add-term : tie.Need-add-term Inv-loop μ-loop
 add-term c = search needs
 
--- src/lib.rt:77:20
 mul-term : tie.Need-mul-term Inv-loop μ-loop
 mul-term c = search needs
 
--- src/lib.rt:77:20
 slice-read-term : tie.Need-slice-read-term Inv-loop μ-loop
 slice-read-term c = search needs
 
--- src/lib.rt:78:9
 give-requires : tie.Need-give-requires Inv-loop μ-loop
 give-requires c κs = search needs
 
--- src/lib.rt:79:9
 add-k : tie.Need-add-k Inv-loop μ-loop
 add-k c = search needs
 
--- src/lib.rt:74:5
 loop-less : tie.Need-loop-less Inv-loop μ-loop
 loop-less c = search needs
 
--- src/lib.rt:74:5
 loop-again : tie.Need-loop-again Inv-loop μ-loop
 loop-again c =
     let l = c .before .before .before .before .before .before .before .before in
     let a = l .before .before .args in
     (omega arith, omega arith, omega (arith, c .before .before .give .kept), omega arith, rw (c .before .before .give .ensures) (settled-more (a .pairs .now) (l .loop .pairs) (l .loop .k) (omega arith) (omega arith) (l .loop .inv .4)))
 
--- src/lib.rt:69:1
 same-length : tie.Need-same-length Inv-loop μ-loop
 same-length c = search needs
 
--- src/lib.rt:69:1
 returns : tie.Need-returns Inv-loop μ-loop
 returns c =
     let l = c .before in

@@ -14,38 +14,30 @@ use Rattle.search.proofs.relax.Reads as relax-reads
 use Rattle.wide.proofs.Wide.wrapping_add.Reads as wrapping-add-reads
 use Rattle.wide.proofs.Wide.wrapping_neg.Reads as wrapping-neg-reads
 
--- src/lib.rt:120:12
 mul-if1 : tie.Need-mul-if1
 mul-if1 c = search needs
 
--- src/lib.rt:120:12
 shared-slice-read-if1 : tie.Need-shared-slice-read-if1
 shared-slice-read-if1 c = search needs
 
--- src/lib.rt:121:13
 cost-requires : tie.Need-cost-requires
 cost-requires c κs = search needs
 
--- src/lib.rt:122:41
 wrapping-neg-requires : tie.Need-wrapping-neg-requires
 wrapping-neg-requires c κs = search needs
 
--- src/lib.rt:122:26
 wrapping-add-requires : tie.Need-wrapping-add-requires
 wrapping-add-requires c κs = search needs
 
--- src/lib.rt:122:9
 relax-requires : tie.Need-relax-requires
 relax-requires c κs = search needs
 
--- src/lib.rt:123:9
 returns : tie.Need-returns
 returns c = let a = c .before .before .before .before .before .before .before .before .before .args in
     c .relax .ensures
     ∙ ap (λ (w : Wide). relaxed (a .net .now) (a .u) (a .v) w) (c .before .wrapping-add .ensures ∙ ap (λ (w : Wide). addWords (a .d) w) (c .before .before .wrapping-neg .ensures ∙ ap negWords (c .before .before .before .before .cost .ensures)))
     ∙ against-yes (a .costs .now) (a .flow .now) (a .net .now) (a .k) (a .u) (a .v) (a .d) (c .before .before .before .before .before .if1 .taken)
 
--- src/lib.rt:116:1
 returns-2 : tie.Need-returns-2
 returns-2 c = let a = c .before .before .before .before .args in against-not (a .costs .now) (a .flow .now) (a .net .now) (a .k) (a .u) (a .v) (a .d) (c .if1 .left)
 

@@ -21,35 +21,27 @@ Inv-loop costs flow net₀ c n k u v d at₀ i₀ net at i = (i ≤ n) × (at �
 abbrev μ-loop : tie.MeasureT-loop
 μ-loop costs flow net₀ c n k u v d at₀ i₀ net at i = n - i
 
--- src/lib.rt:158:9
 label-requires : tie.Need-label-requires Inv-loop μ-loop
 label-requires c κs = search needs
 
--- src/lib.rt:161:5
 loop-holds : tie.Need-loop-holds Inv-loop μ-loop
 loop-holds c = let a = c .before .before .before .before .args in (omega arith, column-first (a .k) (a .c), column-start (a .costs .now) (a .flow .now) (a .c) (a .u) (c .label .result) (a .n) (a .k) (a .v) 0 (a .net .now))
 
--- src/lib.rt:162:47
 add-against-cell : tie.Need-add-against-cell Inv-loop μ-loop
 add-against-cell c = search needs
 
--- src/lib.rt:162:9
 against-cell-requires : tie.Need-against-cell-requires Inv-loop μ-loop
 against-cell-requires c κs = let h = column-cell (c .before .before .loop .at) (c .before .before .before .before .before .before .before .args .c) (c .before .before .loop .i) (c .before .before .before .before .before .before .before .args .k) (c .before .before .before .before .before .before .before .args .n) (c .before .before .loop .inv .1) (omega arith) (omega arith) in (omega arith, omega arith, omega arith)
 
--- src/lib.rt:163:9
 add-at : tie.Need-add-at Inv-loop μ-loop
 add-at c = let h = column-cell (c .before .before .before .loop .at) (c .before .before .before .before .before .before .before .before .args .c) (c .before .before .before .loop .i) (c .before .before .before .before .before .before .before .before .args .k) (c .before .before .before .before .before .before .before .before .args .n) (c .before .before .before .loop .inv .1) (omega arith) (omega arith) in search needs
 
--- src/lib.rt:164:9
 add-i : tie.Need-add-i Inv-loop μ-loop
 add-i c = search needs
 
--- src/lib.rt:161:5
 loop-less : tie.Need-loop-less Inv-loop μ-loop
 loop-less c = search needs
 
--- src/lib.rt:161:5
 loop-again : tie.Need-loop-again Inv-loop μ-loop
 loop-again c = let a = c .before .before .before .before .before .before .before .before .args in let l = c .before .before .before .loop in (
   omega arith,
@@ -58,7 +50,6 @@ loop-again c = let a = c .before .before .before .before .before .before .before
       ∙ sym (column-turn (a .costs .now) (a .flow .now) (a .c) (a .u) (c .before .before .before .before .label .result) (a .n) (l .at) (a .v) (l .i) (l .net) (omega arith)) ∙ l .inv .2,
 )
 
--- src/lib.rt:154:1
 returns : tie.Need-returns Inv-loop μ-loop
 returns c = let a = c .before .before .before .before .before .before .args in let l = c .before .loop in
     sym (column-end (a .costs .now) (a .flow .now) (a .c) (a .u) (c .before .before .label .result) (a .n) (l .at) (a .v) (l .i) (l .net) (omega arith)) ∙ l .inv .2

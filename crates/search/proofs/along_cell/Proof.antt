@@ -13,49 +13,38 @@ use Rattle.search.proofs.cost.Reads as cost-reads
 use Rattle.search.proofs.relax.Reads as relax-reads
 use Rattle.wide.proofs.Wide.wrapping_add.Reads as wrapping-add-reads
 
--- src/lib.rt:109:8
 mul-if1 : tie.Need-mul-if1
 mul-if1 c = search needs
 
--- src/lib.rt:109:8
 shared-slice-read-if1 : tie.Need-shared-slice-read-if1
 shared-slice-read-if1 c = search needs
 
--- src/lib.rt:109:24
 mul-if1-2 : tie.Need-mul-if1-2
 mul-if1-2 c = search needs
 
--- src/lib.rt:109:24
 add-if1 : tie.Need-add-if1
 add-if1 c = search needs
 
--- src/lib.rt:109:18
 mul-if1-3 : tie.Need-mul-if1-3
 mul-if1-3 c = search needs
 
--- src/lib.rt:109:18
 shared-slice-read-if1-2 : tie.Need-shared-slice-read-if1-2
 shared-slice-read-if1-2 c = search needs
 
--- src/lib.rt:110:41
 cost-requires : tie.Need-cost-requires
 cost-requires c κs = search needs
 
--- src/lib.rt:110:26
 wrapping-add-requires : tie.Need-wrapping-add-requires
 wrapping-add-requires c κs = search needs
 
--- src/lib.rt:110:9
 relax-requires : tie.Need-relax-requires
 relax-requires c κs = search needs
 
--- src/lib.rt:111:9
 returns : tie.Need-returns
 returns c = let a = c .before .before .before .before .before .before .before .before .before .args in
     c .relax .ensures ∙ ap (λ (w : Wide). relaxed (a .net .now) (a .u) (a .v) w) (c .before .wrapping-add .ensures ∙ ap (λ (w : Wide). addWords (a .d) w) (c .before .before .cost .ensures))
     ∙ cell-yes (a .costs .now) (a .flow .now) (a .net .now) (a .k) (a .u) (a .v) (a .d) (c .before .before .before .before .if1 .taken)
 
--- src/lib.rt:105:1
 returns-2 : tie.Need-returns-2
 returns-2 c = let a = c .before .before .before .before .before .args in cell-not (a .costs .now) (a .flow .now) (a .net .now) (a .k) (a .u) (a .v) (a .d) (c .if1 .left)
 

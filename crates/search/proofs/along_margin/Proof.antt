@@ -9,15 +9,12 @@ use Rattle.search.proofs.along_margin.Reads as reads
 use Rattle.search.proofs.along_margin.Lts as lts
 use Rattle.search.proofs.relax.Reads as relax-reads
 
--- src/lib.rt:99:9
 relax-requires : tie.Need-relax-requires
 relax-requires c κs = search needs
 
--- src/lib.rt:100:9
 returns : tie.Need-returns
 returns c = let a = c .before .before .before .args in c .relax .ensures ∙ margin-yes (a .net .now) (a .u) (a .v) (a .d) (a .r) (c .before .before .if1 .taken)
 
--- src/lib.rt:94:1
 returns-2 : tie.Need-returns-2
 returns-2 c = let a = c .before .args in margin-not (a .net .now) (a .u) (a .v) (a .d) (a .r) (omega arith)
 

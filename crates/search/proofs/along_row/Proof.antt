@@ -20,35 +20,27 @@ Inv-loop costs flow net₀ n k u v d i₀ net i = (i ≤ n) × (alongRow costs f
 abbrev μ-loop : tie.MeasureT-loop
 μ-loop costs flow net₀ n k u v d i₀ net i = n - i
 
--- src/lib.rt:145:9
 label-requires : tie.Need-label-requires Inv-loop μ-loop
 label-requires c κs = search needs
 
--- src/lib.rt:147:5
 loop-holds : tie.Need-loop-holds Inv-loop μ-loop
 loop-holds c = let a = c .before .before .before .before .args in (omega arith, row-start (a .costs .now) (a .flow .now) (a .u) (c .label .result) (a .n) (a .k) (a .v) 0 (a .net .now))
 
--- src/lib.rt:148:38
 add-along-cell : tie.Need-add-along-cell Inv-loop μ-loop
 add-along-cell c = search needs
 
--- src/lib.rt:148:48
 add-along-cell-2 : tie.Need-add-along-cell-2 Inv-loop μ-loop
 add-along-cell-2 c = search needs
 
--- src/lib.rt:148:9
 along-cell-requires : tie.Need-along-cell-requires Inv-loop μ-loop
 along-cell-requires c κs = search needs
 
--- src/lib.rt:149:9
 add-i : tie.Need-add-i Inv-loop μ-loop
 add-i c = search needs
 
--- src/lib.rt:147:5
 loop-less : tie.Need-loop-less Inv-loop μ-loop
 loop-less c = search needs
 
--- src/lib.rt:147:5
 loop-again : tie.Need-loop-again Inv-loop μ-loop
 loop-again c = let a = c .before .before .before .before .before .before .before .before .args in let l = c .before .before .before .loop in (
   omega arith,
@@ -56,7 +48,6 @@ loop-again c = let a = c .before .before .before .before .before .before .before
       ∙ sym (row-turn (a .costs .now) (a .flow .now) (a .u) (c .before .before .before .before .label .result) (a .n) (a .k) (a .v) (l .i) (l .net) (omega arith)) ∙ l .inv .1,
 )
 
--- src/lib.rt:141:1
 returns : tie.Need-returns Inv-loop μ-loop
 returns c = let a = c .before .before .before .before .before .before .args in let l = c .before .loop in
     sym (row-end (a .costs .now) (a .flow .now) (a .u) (c .before .before .label .result) (a .n) (a .k) (a .v) (l .i) (l .net) (omega arith)) ∙ l .inv .1

@@ -13,31 +13,24 @@ use Rattle.search.proofs.put.Reads as put-reads
 use Rattle.search.proofs.put_label.Reads as put-label-reads
 use Rattle.search.proofs.unsee.Reads as unsee-reads
 
--- src/lib.rt:239:16
 add-unsee : tie.Need-add-unsee
 add-unsee c = search needs
 
--- src/lib.rt:239:5
 unsee-requires : tie.Need-unsee-requires
 unsee-requires c κs = search needs
 
--- src/lib.rt:240:5
 put-requires : tie.Need-put-requires
 put-requires c κs = search needs
 
--- src/lib.rt:241:5
 put-requires-2 : tie.Need-put-requires-2
 put-requires-2 c κs = search needs
 
--- src/lib.rt:242:5
 put-label-requires : tie.Need-put-label-requires
 put-label-requires c κs = search needs
 
--- src/lib.rt:243:5
 join-requires : tie.Need-join-requires
 join-requires c κs = search needs
 
--- src/lib.rt:235:1
 returns : tie.Need-returns
 unfolding begun
 returns c = c .join .ensures

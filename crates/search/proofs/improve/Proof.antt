@@ -11,32 +11,25 @@ use Rattle.search.proofs.improve.Lts as lts
 use Rattle.search.proofs.join.Reads as join-reads
 use Rattle.search.proofs.put_label.Reads as put-label-reads
 
--- src/lib.rt:75:5
 put-label-requires : tie.Need-put-label-requires
 put-label-requires c κs = search needs
 
--- src/lib.rt:76:12
 add-if1 : tie.Need-add-if1
 add-if1 c = search needs
 
--- src/lib.rt:76:8
 mul-if1 : tie.Need-mul-if1
 mul-if1 c = search needs
 
--- src/lib.rt:76:8
 element-copy-out-if1 : tie.Need-element-copy-out-if1
 element-copy-out-if1 c = search needs
 
--- src/lib.rt:77:9
 returns : tie.Need-returns
 returns c = let a = c .before .before .before .before .args in
     c .before .before .put-label .ensures ∙ improved-queued (a .net .now) (a .u) (a .v) (a .d) (ap (λ (m : List ℕ). stateOf m (a .v)) (sym (c .before .before .put-label .ensures)) ∙ c .if1 .taken)
 
--- src/lib.rt:79:5
 join-requires : tie.Need-join-requires
 join-requires c κs = search needs
 
--- src/lib.rt:71:1
 returns-2 : tie.Need-returns-2
 returns-2 c = let a = c .before .before .before .before .before .before .args in
     c .join .ensures ∙ ap (λ (m : List ℕ). joined m (a .v)) (c .before .before .before .before .put-label .ensures)

@@ -13,31 +13,24 @@ use Rattle.search.proofs.improves.Lts as lts
 use Rattle.search.proofs.label.Reads as label-reads
 use Rattle.wide.proofs.Wide.less.Reads as less-reads
 
--- src/lib.rt:64:12
 add-if1 : tie.Need-add-if1
 add-if1 c = search needs
 
--- src/lib.rt:64:8
 mul-if1 : tie.Need-mul-if1
 mul-if1 c = search needs
 
--- src/lib.rt:64:8
 element-copy-out-if1 : tie.Need-element-copy-out-if1
 element-copy-out-if1 c = search needs
 
--- src/lib.rt:65:9
 returns : tie.Need-returns
 returns c = rw (eq-eqb (stateOf (c .before .before .args .net .now) (c .before .before .args .v)) 0 (c .if1 .taken)) refl
 
--- src/lib.rt:67:12
 label-requires : tie.Need-label-requires
 label-requires c κs = search needs
 
--- src/lib.rt:67:5
 less-requires : tie.Need-less-requires
 less-requires c κs = search needs
 
--- src/lib.rt:60:1
 returns-2 : tie.Need-returns-2
 returns-2 c =
     let a = c .before .before .before .before .args in

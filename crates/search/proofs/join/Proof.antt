@@ -8,47 +8,36 @@ use Rattle.search.proofs.join.Lts as lts
 use Rattle.std.proofs.num.wrapping_add_u64.Reads as wrapping-add-u64-reads
 use Rattle.search.proofs.put.Reads as put-reads
 
--- src/lib.rt:43:41
 element-copy-out-wrapping-add-u64 : tie.Need-element-copy-out-wrapping-add-u64
 element-copy-out-wrapping-add-u64 c = search needs
 
--- src/lib.rt:43:51
 element-copy-out-wrapping-add-u64-2 : tie.Need-element-copy-out-wrapping-add-u64-2
 element-copy-out-wrapping-add-u64-2 c = search needs
 
--- src/lib.rt:43:14
 wrapping-add-u64-requires : tie.Need-wrapping-add-u64-requires
 wrapping-add-u64-requires c κs = search needs
 
--- src/lib.rt:44:40
 element-copy-out-wrapping-add-u64-3 : tie.Need-element-copy-out-wrapping-add-u64-3
 element-copy-out-wrapping-add-u64-3 c = search needs
 
--- src/lib.rt:44:9
 wrapping-add-u64-requires-2 : tie.Need-wrapping-add-u64-requires-2
 wrapping-add-u64-requires-2 c κs = search needs
 
--- src/lib.rt:45:14
 add-put : tie.Need-add-put
 add-put c = search needs
 
--- src/lib.rt:45:5
 put-requires : tie.Need-put-requires
 put-requires c κs = search needs
 
--- src/lib.rt:46:14
 add-put-2 : tie.Need-add-put-2
 add-put-2 c = search needs
 
--- src/lib.rt:46:5
 put-requires-2 : tie.Need-put-requires-2
 put-requires-2 c κs = search needs
 
--- src/lib.rt:47:5
 put-requires-3 : tie.Need-put-requires-3
 put-requires-3 c κs = search needs
 
--- src/lib.rt:39:1
 returns : tie.Need-returns
 unfolding joined
 returns c = cc

@@ -6,27 +6,21 @@ use Rattle.search.proofs.put_label.Reads as reads
 use Rattle.search.proofs.put_label.Lts as lts
 use Rattle.search.proofs.put.Reads as put-reads
 
--- src/lib.rt:54:5
 put-requires : tie.Need-put-requires
 put-requires c κs = search needs
 
--- src/lib.rt:55:14
 add-put : tie.Need-add-put
 add-put c = search needs
 
--- src/lib.rt:55:5
 put-requires-2 : tie.Need-put-requires-2
 put-requires-2 c κs = search needs
 
--- src/lib.rt:56:14
 add-put-2 : tie.Need-add-put-2
 add-put-2 c = search needs
 
--- src/lib.rt:56:5
 put-requires-3 : tie.Need-put-requires-3
 put-requires-3 c κs = search needs
 
--- src/lib.rt:50:1
 returns : tie.Need-returns
 returns c = cc
 

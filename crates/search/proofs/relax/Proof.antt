@@ -9,19 +9,15 @@ use Rattle.search.proofs.relax.Lts as lts
 use Rattle.search.proofs.improve.Reads as improve-reads
 use Rattle.search.proofs.improves.Reads as improves-reads
 
--- src/lib.rt:87:8
 improves-requires : tie.Need-improves-requires
 improves-requires c κs = search needs
 
--- src/lib.rt:88:9
 improve-requires : tie.Need-improve-requires
 improve-requires c κs = search needs
 
--- src/lib.rt:89:9
 returns : tie.Need-returns
 returns c = let a = c .before .before .before .before .before .args in c .improve .ensures ∙ relaxed-yes (a .net .now) (a .u) (a .v) (a .d) (sym (c .before .before .if1 .taken) ∙ c .before .before .before .improves .ensures)
 
--- src/lib.rt:83:1
 returns-2 : tie.Need-returns-2
 returns-2 c = let a = c .before .before .before .args in relaxed-not (a .net .now) (a .u) (a .v) (a .d) (sym (c .if1 .left) ∙ c .before .improves .ensures)
 

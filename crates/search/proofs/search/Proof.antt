@@ -19,76 +19,60 @@ Inv-loop costs flow left net₀ r c net = ((R : Ready r c costs flow left) → S
 abbrev μ-loop : tie.MeasureT-loop
 μ-loop costs flow left net₀ r c net = measure r c net
 
--- src/lib.rt:275:16
 add-begin : tie.Need-add-begin Inv-loop μ-loop
 add-begin c = search needs
 
--- src/lib.rt:275:16
 add-begin-2 : tie.Need-add-begin-2 Inv-loop μ-loop
 add-begin-2 c = search needs
 
--- src/lib.rt:275:5
 begin-requires : tie.Need-begin-requires Inv-loop μ-loop
 begin-requires c κs = search needs
 
--- src/lib.rt:276:5
 loop-holds : tie.Need-loop-holds Inv-loop μ-loop
 loop-holds c = let a = c .before .before .before .before .args in (λ R. rw (c .begin .ensures) (begins R (a .net .now) (c .before .before .before .before .pre .4)), ran-start (a .costs .now) (a .flow .now) (a .left .now) (a .r) (a .c) (c .begin .last .0))
 
--- src/lib.rt:276:15
 element-copy-out-if1 : tie.Need-element-copy-out-if1 Inv-loop μ-loop
 element-copy-out-if1 c = search needs
 
--- src/lib.rt:277:13
 leave-requires : tie.Need-leave-requires Inv-loop μ-loop
 leave-requires c κs = let R = c .before .before .before .before .before .before .before .before .pre .5 in let t = turn R (c .before .before .before .loop .net) (c .before .before .before .loop .inv .0 R) (c .before .if1 .taken) in (t .head, t .node, c .before .if1 .taken)
 
--- src/lib.rt:278:9
 visit-requires : tie.Need-visit-requires Inv-loop μ-loop
 visit-requires c κs = search needs
 
--- src/lib.rt:276:5
 loop-less : tie.Need-loop-less Inv-loop μ-loop
 loop-less c = let a = c .before .before .before .before .before .before .before .before .before .before .before .args in
     let e : c .visit .last .1 .1 .1 .0 ≡ visited (a .costs .now) (a .flow .now) (a .left .now) (a .r) (a .c) (firstOf (c .before .before .before .before .before .before .loop .net)) (left (c .before .before .before .before .before .before .loop .net))
     = c .visit .ensures ∙ (λ i. visited (a .costs .now) (a .flow .now) (a .left .now) (a .r) (a .c) (c .before .before .leave .ensures .0 i) (c .before .before .leave .ensures .1 i)) in
     let R = c .before .before .before .before .before .before .before .before .before .before .before .pre .5 in let t = turn R (c .before .before .before .before .before .before .loop .net) (c .before .before .before .before .before .before .loop .inv .0 R) (c .before .before .before .before .if1 .taken) in rw e (t .less)
 
--- src/lib.rt:276:5
 loop-again : tie.Need-loop-again Inv-loop μ-loop
 loop-again c = let a = c .before .before .before .before .before .before .before .before .before .before .before .args in
     let e : c .visit .last .1 .1 .1 .0 ≡ visited (a .costs .now) (a .flow .now) (a .left .now) (a .r) (a .c) (firstOf (c .before .before .before .before .before .before .loop .net)) (left (c .before .before .before .before .before .before .loop .net))
     = c .visit .ensures ∙ (λ i. visited (a .costs .now) (a .flow .now) (a .left .now) (a .r) (a .c) (c .before .before .leave .ensures .0 i) (c .before .before .leave .ensures .1 i)) in
     (λ R. rw e (turn R (c .before .before .before .before .before .before .loop .net) (c .before .before .before .before .before .before .loop .inv .0 R) (c .before .before .before .before .if1 .taken) .next), rw e (ran-turn (a .costs .now) (a .flow .now) (a .left .now) (a .r) (a .c) (c .before .before .before .before .before .before .before .begin .last .0) (c .before .before .before .before .before .before .loop .net) (c .before .before .before .before .before .before .loop .inv .1) (c .before .before .before .before .if1 .taken) (turn (c .before .before .before .before .before .before .before .before .before .before .before .pre .5) (c .before .before .before .before .before .before .loop .net) (c .before .before .before .before .before .before .loop .inv .0 (c .before .before .before .before .before .before .before .before .before .before .before .pre .5)) (c .before .before .before .before .if1 .taken) .less)))
 
--- src/lib.rt:280:19
 add-if2 : tie.Need-add-if2 Inv-loop μ-loop
 add-if2 c = search needs
 
--- src/lib.rt:280:19
 add-if2-2 : tie.Need-add-if2-2 Inv-loop μ-loop
 add-if2-2 c = search needs
 
--- src/lib.rt:280:12
 add-if2-3 : tie.Need-add-if2-3 Inv-loop μ-loop
 add-if2-3 c = search needs
 
--- src/lib.rt:280:8
 mul-if2 : tie.Need-mul-if2 Inv-loop μ-loop
 mul-if2 c = search needs
 
--- src/lib.rt:280:8
 element-copy-out-if2 : tie.Need-element-copy-out-if2 Inv-loop μ-loop
 element-copy-out-if2 c = search needs
 
--- src/lib.rt:281:9
 returns : tie.Need-returns Inv-loop μ-loop
 returns c =
     let a = c .before .before .before .before .before .before .before .before .before .args in
     let l = c .before .before .before .before .loop in
     (searched-net (a .costs .now) (a .flow .now) (a .left .now) (a .r) (a .c) (l .net) (a .net .now) (c .before .before .before .before .before .begin .last .0) (c .before .before .before .before .before .begin .ensures) (ran-end (a .costs .now) (a .flow .now) (a .left .now) (a .r) (a .c) (c .before .before .before .before .before .begin .last .0) (l .net) (l .inv .1) (λ h. none-left (c .before .before .if1 .left) h)), unseen-sink (l .net) (1 + a .r + a .c) (c .if2 .taken), λ R. not-reached R (c .before .before .before .before .loop .net) (ends R (c .before .before .before .before .loop .net) (c .before .before .before .before .loop .inv .0 R) (λ h. none-left (c .before .before .if1 .left) h)) (c .if2 .taken))
 
--- src/lib.rt:271:1
 returns-2 : tie.Need-returns-2 Inv-loop μ-loop
 returns-2 c =
     let a = c .before .before .before .before .before .before .before .before .before .args in

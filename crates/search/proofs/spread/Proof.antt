@@ -20,43 +20,33 @@ Inv-loop left net₀ n k u v d i₀ net i = (i ≤ n) × (spreadTo left u d (n -
 abbrev μ-loop : tie.MeasureT-loop
 μ-loop left net₀ n k u v d i₀ net i = n - i
 
--- src/lib.rt:132:9
 label-requires : tie.Need-label-requires Inv-loop μ-loop
 label-requires c κs = search needs
 
--- src/lib.rt:134:5
 loop-holds : tie.Need-loop-holds Inv-loop μ-loop
 loop-holds c = let a = c .before .before .args in (omega arith, spread-start (a .left .now) (a .u) (c .label .result) (a .n) (a .k) (a .v) 0 (a .net .now))
 
--- src/lib.rt:135:32
 add-along-margin : tie.Need-add-along-margin Inv-loop μ-loop
 add-along-margin c = search needs
 
--- src/lib.rt:135:27
 mul-along-margin : tie.Need-mul-along-margin Inv-loop μ-loop
 mul-along-margin c = search needs
 
--- src/lib.rt:135:27
 element-copy-out-along-margin : tie.Need-element-copy-out-along-margin Inv-loop μ-loop
 element-copy-out-along-margin c = search needs
 
--- src/lib.rt:135:43
 add-along-margin-2 : tie.Need-add-along-margin-2 Inv-loop μ-loop
 add-along-margin-2 c = search needs
 
--- src/lib.rt:135:9
 along-margin-requires : tie.Need-along-margin-requires Inv-loop μ-loop
 along-margin-requires c κs = search needs
 
--- src/lib.rt:136:9
 add-i : tie.Need-add-i Inv-loop μ-loop
 add-i c = search needs
 
--- src/lib.rt:134:5
 loop-less : tie.Need-loop-less Inv-loop μ-loop
 loop-less c = search needs
 
--- src/lib.rt:134:5
 loop-again : tie.Need-loop-again Inv-loop μ-loop
 loop-again c = let a = c .before .before .before .before .before .before .before .args in let l = c .before .before .before .before .loop in (
   omega arith,
@@ -64,7 +54,6 @@ loop-again c = let a = c .before .before .before .before .before .before .before
       ∙ sym (spread-turn (a .left .now) (a .u) (c .before .before .before .before .before .label .result) (a .n) (a .k) (a .v) (l .i) (l .net) (omega arith)) ∙ l .inv .1,
 )
 
--- src/lib.rt:128:1
 returns : tie.Need-returns Inv-loop μ-loop
 returns c = let a = c .before .before .before .before .args in let l = c .before .loop in
     sym (spread-end (a .left .now) (a .u) (c .before .before .label .result) (a .n) (a .k) (a .v) (l .i) (l .net) (omega arith)) ∙ l .inv .1

@@ -17,43 +17,33 @@ Inv-loop net path₀ t at₀ v₀ path at v = Walking net t path₀ path at v
 abbrev μ-loop : tie.MeasureT-loop
 μ-loop net path₀ t at₀ v₀ path at v = at
 
--- src/lib.rt:309:5
 put-node-requires : tie.Need-put-node-requires Inv-loop μ-loop
 put-node-requires c κs = search needs
 
--- src/lib.rt:312:5
 loop-holds : tie.Need-loop-holds Inv-loop μ-loop
 loop-holds c = rw (c .put-node .ensures) (walk-start (c .before .before .args .net .now) (c .before .before .args .path .now) (c .before .before .args .t) (c .before .before .pre .0) (c .before .before .pre .1))
 
--- src/lib.rt:313:17
 add-v : tie.Need-add-v Inv-loop μ-loop
 add-v c = let h = walk-facts (c .before .loop .inv) (c .loop-test .taken) in search needs
 
--- src/lib.rt:313:13
 mul-v : tie.Need-mul-v Inv-loop μ-loop
 mul-v c = let h = walk-facts (c .before .loop .inv) (c .loop-test .taken) in search needs
 
--- src/lib.rt:313:13
 element-copy-out-v : tie.Need-element-copy-out-v Inv-loop μ-loop
 element-copy-out-v c = let h = walk-facts (c .before .loop .inv) (c .loop-test .taken) in search needs
 
--- src/lib.rt:314:9
 sub-at : tie.Need-sub-at Inv-loop μ-loop
 sub-at c = let h = walk-facts (c .before .before .loop .inv) (c .before .loop-test .taken) in search needs
 
--- src/lib.rt:315:9
 put-node-requires-2 : tie.Need-put-node-requires-2 Inv-loop μ-loop
 put-node-requires-2 c κs = let h = walk-facts (c .before .before .before .loop .inv) (c .before .before .loop-test .taken) in let q = c .before .before .before .loop .inv .low in omega arith
 
--- src/lib.rt:312:5
 loop-less : tie.Need-loop-less Inv-loop μ-loop
 loop-less c = let h = walk-facts (c .before .before .before .before .loop .inv) (c .before .before .before .loop-test .taken) in omega arith
 
--- src/lib.rt:312:5
 loop-again : tie.Need-loop-again Inv-loop μ-loop
 loop-again c = let l = c .before .before .before .before .loop in rw (c .put-node2 .ensures) (walk-turn (c .before .before .before .before .before .before .before .args .net .now) (c .before .before .before .before .before .before .before .args .t) (c .before .before .before .before .before .put-node .last .0) (l .path) (l .at) (l .v) (l .inv) (c .before .before .before .loop-test .taken))
 
--- src/lib.rt:305:1
 returns : tie.Need-returns Inv-loop μ-loop
 returns c =
     let l = c .before .loop in

@@ -17,32 +17,25 @@ Inv-loop net₀ n i₀ net i = (i ≤ n) × (unseenTo (n - i) i net ≡ unseenTo
 abbrev μ-loop : tie.MeasureT-loop
 μ-loop net₀ n i₀ net i = n - i
 
--- src/lib.rt:228:5
 loop-holds : tie.Need-loop-holds Inv-loop μ-loop
 loop-holds c = (omega arith, unsee-start (c .args .n) 0 (c .args .net .now))
 
--- src/lib.rt:229:18
 add-put : tie.Need-add-put Inv-loop μ-loop
 add-put c = search needs
 
--- src/lib.rt:229:9
 put-requires : tie.Need-put-requires Inv-loop μ-loop
 put-requires c κs = search needs
 
--- src/lib.rt:230:9
 add-i : tie.Need-add-i Inv-loop μ-loop
 add-i c = search needs
 
--- src/lib.rt:228:5
 loop-less : tie.Need-loop-less Inv-loop μ-loop
 loop-less c = search needs
 
--- src/lib.rt:228:5
 loop-again : tie.Need-loop-again Inv-loop μ-loop
 loop-again c = let a = c .before .before .before .before .args in let l = c .before .before .before .loop in
     (omega arith, ap (λ (m : List ℕ). unseenTo (a .n - (l .i + 1)) (l .i + 1) m) (c .put .ensures) ∙ sym (unsee-turn (a .n) (l .i) (l .net) (omega arith)) ∙ l .inv .1)
 
--- src/lib.rt:223:1
 returns : tie.Need-returns Inv-loop μ-loop
 returns c = let a = c .before .before .args in let l = c .before .loop in sym (unsee-end (a .n) (l .i) (l .net) (omega arith)) ∙ l .inv .1
 

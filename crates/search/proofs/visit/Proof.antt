@@ -18,87 +18,66 @@ use Rattle.search.proofs.along_row.Reads as along-row-reads
 use Rattle.search.proofs.label.Reads as label-reads
 use Rattle.search.proofs.spread.Reads as spread-reads
 
--- src/lib.rt:206:9
 spread-requires : tie.Need-spread-requires
 spread-requires c κs = search needs
 
--- src/lib.rt:207:9
 returns : tie.Need-returns
 returns c = let a = c .before .before .before .before .before .args in c .spread .ensures ∙ visited-source (a .costs .now) (a .flow .now) (a .left .now) (a .r) (a .c) (a .u) (a .net .now) (c .before .before .if1 .taken)
 
--- src/lib.rt:210:41
 sub-along-row : tie.Need-sub-along-row
 sub-along-row c = search needs
 
--- src/lib.rt:210:40
 mul-along-row : tie.Need-mul-along-row
 mul-along-row c = let a = c .before .before .before .before .before .args in let h = row-fits (a .u - 1) (a .r) (a .c) (omega arith) in search needs
 
--- src/lib.rt:210:56
 add-along-row : tie.Need-add-along-row
 add-along-row c = search needs
 
--- src/lib.rt:210:9
 along-row-requires : tie.Need-along-row-requires
 along-row-requires c κs = let a = c .before .before .before .before .before .args in let h = row-fits (a .u - 1) (a .r) (a .c) (omega arith) in (omega arith, omega arith, omega arith, omega arith)
 
--- src/lib.rt:211:9
 returns-2 : tie.Need-returns-2
 returns-2 c = let a = c .before .before .before .before .before .before .args in c .along-row .ensures ∙ visited-row (a .costs .now) (a .flow .now) (a .left .now) (a .r) (a .c) (a .u) (a .net .now) (c .before .before .before .if1 .left) (c .before .before .if2 .taken)
 
--- src/lib.rt:213:13
 add-if3 : tie.Need-add-if3
 add-if3 c = search needs
 
--- src/lib.rt:214:13
 label-requires : tie.Need-label-requires
 label-requires c κs = search needs
 
--- src/lib.rt:215:38
 sub-along-margin : tie.Need-sub-along-margin
 sub-along-margin c = search needs
 
--- src/lib.rt:215:38
 sub-along-margin-2 : tie.Need-sub-along-margin-2
 sub-along-margin-2 c = search needs
 
--- src/lib.rt:215:32
 add-along-margin : tie.Need-add-along-margin
 add-along-margin c = search needs
 
--- src/lib.rt:215:27
 mul-along-margin : tie.Need-mul-along-margin
 mul-along-margin c = search needs
 
--- src/lib.rt:215:27
 element-copy-out-along-margin : tie.Need-element-copy-out-along-margin
 element-copy-out-along-margin c = search needs
 
--- src/lib.rt:215:54
 add-along-margin-2 : tie.Need-add-along-margin-2
 add-along-margin-2 c = search needs
 
--- src/lib.rt:215:54
 add-along-margin-3 : tie.Need-add-along-margin-3
 add-along-margin-3 c = search needs
 
--- src/lib.rt:215:9
 along-margin-requires : tie.Need-along-margin-requires
 along-margin-requires c κs = search needs
 
--- src/lib.rt:216:48
 sub-against-column : tie.Need-sub-against-column
 sub-against-column c = search needs
 
--- src/lib.rt:216:48
 sub-against-column-2 : tie.Need-sub-against-column-2
 sub-against-column-2 c = search needs
 
--- src/lib.rt:216:9
 against-column-requires : tie.Need-against-column-requires
 against-column-requires c κs = search needs
 
--- src/lib.rt:217:9
 returns-3 : tie.Need-returns-3
 returns-3 c = let a = c .before .before .before .before .before .before .before .before .before .before .before .before .args in
     let t = alongMargin (getD (a .left .now) (65 + (a .u - 1 - a .r)) 0) (a .net .now) (a .u) (1 + a .r + a .c) (labelOf (a .net .now) (a .u)) in
@@ -107,23 +86,18 @@ returns-3 c = let a = c .before .before .before .before .before .before .before 
     ∙ ap (λ (m : List ℕ). againstColumn (a .costs .now) (a .flow .now) (a .c) (a .u) (labelOf m (a .u)) (a .r) (a .u - 1 - a .r) 1 m) e
     ∙ visited-column (a .costs .now) (a .flow .now) (a .left .now) (a .r) (a .c) (a .u) (a .net .now) (c .before .before .before .before .before .before .before .before .before .if1 .left) (omega arith) (omega arith)
 
--- src/lib.rt:219:31
 add-spread : tie.Need-add-spread
 add-spread c = search needs
 
--- src/lib.rt:219:31
 add-spread-2 : tie.Need-add-spread-2
 add-spread-2 c = search needs
 
--- src/lib.rt:219:42
 add-spread-3 : tie.Need-add-spread-3
 add-spread-3 c = search needs
 
--- src/lib.rt:219:5
 spread-requires-2 : tie.Need-spread-requires-2
 spread-requires-2 c κs = search needs
 
--- src/lib.rt:201:1
 returns-4 : tie.Need-returns-4
 returns-4 c = let a = c .before .before .before .before .before .before .before .args in c .spread2 .ensures ∙ visited-sink (a .costs .now) (a .flow .now) (a .left .now) (a .r) (a .c) (a .u) (a .net .now) (c .before .before .before .before .if1 .left) (omega arith) (omega arith)
 

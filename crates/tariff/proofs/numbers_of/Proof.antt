@@ -6,31 +6,24 @@ use Rattle.tariff.proofs.numbers_of.Tie as tie
 use Rattle.tariff.proofs.numbers_of.Reads as reads
 use Rattle.tariff.proofs.numbers_of.Lts as lts
 
--- src/lib.rt:31:25
 enum-known-a : tie.Need-enum-known-a
 enum-known-a c = search needs
 
--- src/lib.rt:36:25
 enum-known-a-2 : tie.Need-enum-known-a-2
 enum-known-a-2 c = search needs
 
--- src/lib.rt:37:21
 cast-t6 : tie.Need-cast-t6
 cast-t6 c = search needs
 
--- src/lib.rt:41:25
 enum-known-a-3 : tie.Need-enum-known-a-3
 enum-known-a-3 c = search needs
 
--- src/lib.rt:27:1
 returns : tie.Need-returns
 returns c = sym (ap returnedOf (c .before .a .given .1))
 
--- src/lib.rt:27:1
 returns-2 : tie.Need-returns-2
 returns-2 c = sym (ap returnedOf (c .before .a2 .given .1))
 
--- src/lib.rt:27:1
 returns-3 : tie.Need-returns-3
 returns-3 c = sym (ap returnedOf (c .before .a3 .given .1))
 

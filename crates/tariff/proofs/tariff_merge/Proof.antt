@@ -7,43 +7,33 @@ use Rattle.tariff.proofs.tariff_merge.Lts as lts
 use Rattle.au.proofs.merge_plain.Reads as merge-plain-reads
 use Rattle.tariff.proofs.numbers_of.Reads as numbers-of-reads
 
--- src/lib.rt:82:9
 merge-plain-requires : tie.Need-merge-plain-requires
 merge-plain-requires c κs = search needs
 
--- src/lib.rt:95:5
 numbers-of-requires : tie.Need-numbers-of-requires
 numbers-of-requires c κs = search needs
 
--- src/lib.rt:64:1
 same-length : tie.Need-same-length
 same-length c = search needs
 
--- src/lib.rt:64:1
 same-length-2 : tie.Need-same-length-2
 same-length-2 c = search needs
 
--- src/lib.rt:64:1
 same-length-3 : tie.Need-same-length-3
 same-length-3 c = search needs
 
--- src/lib.rt:64:1
 same-length-4 : tie.Need-same-length-4
 same-length-4 c = search needs
 
--- src/lib.rt:64:1
 same-length-5 : tie.Need-same-length-5
 same-length-5 c = search needs
 
--- src/lib.rt:64:1
 same-length-6 : tie.Need-same-length-6
 same-length-6 c = search needs
 
--- src/lib.rt:64:1
 same-length-7 : tie.Need-same-length-7
 same-length-7 c = search needs
 
--- src/lib.rt:64:1
 returns : tie.Need-returns
 returns c =
     let m = c .before .before .before .before .before .before .before .before .before .before .before .before .before .before .before .merge-plain .ensures in

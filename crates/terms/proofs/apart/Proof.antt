@@ -17,31 +17,24 @@ use Rattle.terms.proofs.child.Reads as child-reads
 use Rattle.terms.proofs.child_at.Reads as child-at-reads
 use Rattle.terms.proofs.times.Reads as times-reads
 
--- src/lib.rt:400:19
 mul-child : tie.Need-mul-child
 mul-child c = search needs
 
--- src/lib.rt:400:19
 shared-slice-read-child : tie.Need-shared-slice-read-child
 shared-slice-read-child c = search needs
 
--- src/lib.rt:400:9
 child-requires : tie.Need-child-requires
 child-requires c κs = search needs
 
--- src/lib.rt:401:19
 mul-child-2 : tie.Need-mul-child-2
 mul-child-2 c = search needs
 
--- src/lib.rt:401:19
 shared-slice-read-child-2 : tie.Need-shared-slice-read-child-2
 shared-slice-read-child-2 c = search needs
 
--- src/lib.rt:401:9
 child-requires-2 : tie.Need-child-requires-2
 child-requires-2 c κs = search needs
 
--- src/lib.rt:403:9
 returns : tie.Need-returns
 returns c =
     let b = c .before .before .before .before .before .before in
@@ -50,39 +43,30 @@ returns c =
     let y = c .before .child2 .ensures .0 in
     differs-by (apart-children (getD (a .runs .now) (a .i) 0) (part (a .runs .now) (a .i + 1) (a .m - (a .i + 1))) (getD (a .runs .now) (a .j) 0) (part (a .runs .now) (a .j + 1) (a .n - (a .j + 1))) (λ e. c .if1 .taken (x ∙ e ∙ sym y))) x y
 
--- src/lib.rt:405:14
 mul-times : tie.Need-mul-times
 mul-times c = search needs
 
--- src/lib.rt:405:14
 shared-slice-read-times : tie.Need-shared-slice-read-times
 shared-slice-read-times c = search needs
 
--- src/lib.rt:405:8
 times-requires : tie.Need-times-requires
 times-requires c κs = search needs
 
--- src/lib.rt:405:31
 mul-times-2 : tie.Need-mul-times-2
 mul-times-2 c = search needs
 
--- src/lib.rt:405:31
 shared-slice-read-times-2 : tie.Need-shared-slice-read-times-2
 shared-slice-read-times-2 c = search needs
 
--- src/lib.rt:405:25
 times-requires-2 : tie.Need-times-requires-2
 times-requires-2 c κs = search needs
 
--- src/lib.rt:407:34
 add-child-at : tie.Need-add-child-at
 add-child-at c = search needs
 
--- src/lib.rt:407:19
 child-at-requires : tie.Need-child-at-requires
 child-at-requires c κs = search needs
 
--- src/lib.rt:406:9
 returns-2 : tie.Need-returns-2
 returns-2 c =
     let b = c .before .before .before .before .before .before .before .before .before .before .before .before in
@@ -91,15 +75,12 @@ returns-2 c =
     let y = c .before .before .before .before .before .before .before .child2 .ensures .0 in
     differs-by (apart-shorter (getD (a .runs .now) (a .i) 0) (part (a .runs .now) (a .i + 1) (a .m - (a .i + 1))) (getD (a .runs .now) (a .j) 0) (part (a .runs .now) (a .j + 1) (a .n - (a .j + 1))) (sym x ∙ c .before .before .before .before .before .before .if1 .left ∙ y) (omega (arith, c .before .before .before .before .times .ensures, c .before .before .times2 .ensures, c .before .if2 .taken))) (c .child-at .ensures) y
 
--- src/lib.rt:413:31
 add-child-at-2 : tie.Need-add-child-at-2
 add-child-at-2 c = search needs
 
--- src/lib.rt:413:16
 child-at-requires-2 : tie.Need-child-at-requires-2
 child-at-requires-2 c κs = search needs
 
--- src/lib.rt:396:1
 returns-3 : tie.Need-returns-3
 returns-3 c =
     let b = c .before .before .before .before .before .before .before .before .before .before .before .before in

@@ -14,76 +14,60 @@ use Rattle.terms.proofs.append.Reads as reads
 use Rattle.terms.proofs.append.Lts as lts
 use Rattle.terms.proofs.put8.Reads as put8-reads
 
--- src/lib.rt:313:9
 put8-requires : tie.Need-put8-requires
 put8-requires c κs = search needs
 
--- src/lib.rt:314:9
 same-length : tie.Need-same-length
 same-length c = search needs
 
--- src/lib.rt:314:9
 returns : tie.Need-returns
 returns c =
     let b = c .before .before .before .before .before .before in
     let a = b .args in
     rw (c .before .before .put8 .ensures, c .before .before .before .before .if1 .taken) (append-none (a .list .now) (a .x) (omega (arith, b .pre .0)))
 
--- src/lib.rt:316:18
 sub-y : tie.Need-sub-y
 sub-y c = search needs
 
--- src/lib.rt:316:13
 mul-y : tie.Need-mul-y
 mul-y c = search needs
 
--- src/lib.rt:316:13
 slice-read-y : tie.Need-slice-read-y
 slice-read-y c = search needs
 
--- src/lib.rt:318:20
 sub-put8 : tie.Need-sub-put8
 sub-put8 c = search needs
 
--- src/lib.rt:318:31
 mul-put8 : tie.Need-mul-put8
 mul-put8 c = search needs
 
--- src/lib.rt:318:27
 add-put8 : tie.Need-add-put8
 add-put8 c =
     let b = c .before .before .before .before .before in
     let a = b .args in
     omega (arith, append-fits (a .list .now) (a .x) (a .m) (omega (arith, c .before .before .before .if1 .left)) (b .pre .1))
 
--- src/lib.rt:318:9
 put8-requires-2 : tie.Need-put8-requires-2
 put8-requires-2 c κs = search needs
 
--- src/lib.rt:319:9
 same-length-2 : tie.Need-same-length-2
 same-length-2 c = search needs
 
--- src/lib.rt:319:9
 returns-2 : tie.Need-returns-2
 returns-2 c =
     let b = c .before .before .before .before .before .before .before .before in
     let a = b .args in
     rw (c .before .before .put82 .ensures) (append-same (a .list .now) (a .x) (a .m) (omega (arith, c .before .before .before .before .before .before .if1 .left)) (omega (arith, b .pre .0)) (c .before .before .before .before .if2 .taken))
 
--- src/lib.rt:321:5
 put8-requires-3 : tie.Need-put8-requires-3
 put8-requires-3 c κs = search needs
 
--- src/lib.rt:322:5
 add-result : tie.Need-add-result
 add-result c = search needs
 
--- src/lib.rt:308:1
 same-length-3 : tie.Need-same-length-3
 same-length-3 c = search needs
 
--- src/lib.rt:308:1
 returns-3 : tie.Need-returns-3
 returns-3 c =
     let b = c .before .before .before .before .before .before .before .before in

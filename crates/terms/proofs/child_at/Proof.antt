@@ -14,26 +14,21 @@ use Rattle.terms.proofs.child_at.Reads as reads
 use Rattle.terms.proofs.child_at.Lts as lts
 use Rattle.terms.proofs.child.Reads as child-reads
 
--- src/lib.rt:390:22
 mul-child : tie.Need-mul-child
 mul-child c = search needs
 
--- src/lib.rt:390:22
 shared-slice-read-child : tie.Need-shared-slice-read-child
 shared-slice-read-child c = search needs
 
--- src/lib.rt:390:9
 child-requires : tie.Need-child-requires
 child-requires c κs = search needs
 
--- src/lib.rt:390:9
 returns : tie.Need-returns
 returns c =
     let b = c .before .before .before .before in
     let a = b .args in
     c .child .ensures .0 ∙ head-at (a .runs .now) (a .i) (a .end) (omega arith)
 
--- src/lib.rt:385:1
 returns-2 : tie.Need-returns-2
 returns-2 c =
     let b = c .before .before in

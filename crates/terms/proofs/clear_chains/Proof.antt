@@ -21,29 +21,23 @@ Inv-loop terms₀ b₀ terms b = (b ≤ BUCKETS) × (length terms ≡ length ter
 abbrev μ-loop : tie.MeasureT-loop
 μ-loop terms₀ b₀ terms b = BUCKETS - b
 
--- src/lib.rt:122:5
 loop-holds : tie.Need-loop-holds Inv-loop μ-loop
 loop-holds c =
     let a = c .before .args in
     (omega arith, refl, sym (zeroed-none BUCKET (a .terms .now)))
 
--- src/lib.rt:123:20
 add-put : tie.Need-add-put Inv-loop μ-loop
 add-put c = search needs
 
--- src/lib.rt:123:9
 put-requires : tie.Need-put-requires Inv-loop μ-loop
 put-requires c κs = search needs
 
--- src/lib.rt:124:9
 add-b : tie.Need-add-b Inv-loop μ-loop
 add-b c = search needs
 
--- src/lib.rt:122:5
 loop-less : tie.Need-loop-less Inv-loop μ-loop
 loop-less c = search needs
 
--- src/lib.rt:122:5
 loop-again : tie.Need-loop-again Inv-loop μ-loop
 loop-again c =
     let l = c .before .before .before .before .before in
@@ -51,11 +45,9 @@ loop-again c =
     let k = c .before .before .put in
     (omega arith, omega (arith, k .kept, l .loop .inv .1), k .ensures ∙ ap (λ (z : List ℕ). set z (BUCKET + l .loop .b) 0) (l .loop .inv .2) ∙ zeroed-more BUCKET (l .loop .b) (a .terms .now))
 
--- src/lib.rt:117:1
 same-length : tie.Need-same-length Inv-loop μ-loop
 same-length c = search needs
 
--- src/lib.rt:117:1
 returns : tie.Need-returns Inv-loop μ-loop
 returns c =
     let l = c .before in

@@ -17,45 +17,36 @@ use Rattle.terms.proofs.counted.Reads as counted-reads
 use Rattle.terms.proofs.differ.Reads as differ-reads
 use Rattle.terms.proofs.first.Reads as first-reads
 
--- src/lib.rt:442:9
 first-requires : tie.Need-first-requires
 first-requires c κs = search needs
 
--- src/lib.rt:443:26
 add-first : tie.Need-add-first
 add-first c = search needs
 
--- src/lib.rt:443:9
 first-requires-2 : tie.Need-first-requires-2
 first-requires-2 c κs = search needs
 
--- src/lib.rt:444:9
 first-requires-3 : tie.Need-first-requires-3
 first-requires-3 c κs = search needs
 
--- src/lib.rt:445:26
 add-first-2 : tie.Need-add-first-2
 add-first-2 c = search needs
 
--- src/lib.rt:445:9
 first-requires-4 : tie.Need-first-requires-4
 first-requires-4 c κs = search needs
 
--- src/lib.rt:446:9
 counted-requires : tie.Need-counted-requires
 counted-requires c κs =
     let b = c .before .before .before .before .before .before in
     let a = b .args in
     span-fits (a .terms .now) (a .runs .now) (b .pre .0) (a .a) (c .before .before .before .first .result) (c .before .before .first2 .result) (b .pre .1) (c .before .before .before .first .ensures .0) (c .before .before .first2 .ensures .0)
 
--- src/lib.rt:447:9
 counted-requires-2 : tie.Need-counted-requires-2
 counted-requires-2 c κs =
     let b = c .before .before .before .before .before .before .before in
     let a = b .args in
     span-fits (a .terms .now) (a .runs .now) (b .pre .0) (a .b) (c .before .before .first3 .result) (c .before .first4 .result) (b .pre .2) (c .before .before .first3 .ensures .0) (c .before .first4 .ensures .0)
 
--- src/lib.rt:449:9
 returns : tie.Need-returns
 returns c =
     let b = c .before .before .before .before .before .before .before .before .before in
@@ -64,7 +55,6 @@ returns c =
     let y = rw (c .before .before .before .before .first3 .ensures .0, c .before .before .before .first4 .ensures .0) at (c .before .counted2 .ensures) in
     step-length-less (a .terms .now) (a .runs .now) (b .pre .0) (a .a) (a .b) (b .pre .1) (b .pre .2) (b .pre .3) (b .pre .4) (b .pre .5) (omega (arith, c .if1 .taken))
 
--- src/lib.rt:452:9
 returns-2 : tie.Need-returns-2
 returns-2 c =
     let b = c .before .before .before .before .before .before .before .before .before .before in
@@ -73,7 +63,6 @@ returns-2 c =
     let y = rw (c .before .before .before .before .before .first3 .ensures .0, c .before .before .before .before .first4 .ensures .0) at (c .before .before .counted2 .ensures) in
     step-length-greater (a .terms .now) (a .runs .now) (b .pre .0) (a .a) (a .b) (b .pre .1) (b .pre .2) (b .pre .3) (b .pre .4) (b .pre .5) (omega (arith, c .if2 .taken))
 
--- src/lib.rt:454:9
 differ-requires : tie.Need-differ-requires
 differ-requires c κs =
     let b = c .before .before .before .before .before .before .before .before .before .before in
@@ -82,7 +71,6 @@ differ-requires c κs =
     let y = span-fits (a .terms .now) (a .runs .now) (b .pre .0) (a .b) (c .before .before .before .before .before .first3 .result) (c .before .before .before .before .first4 .result) (b .pre .2) (c .before .before .before .before .before .first3 .ensures .0) (c .before .before .before .before .first4 .ensures .0) in
     (x .1, y .1)
 
--- src/lib.rt:438:1
 returns-3 : tie.Need-returns-3
 returns-3 c =
     let b = c .before .before .before .before .before .before .before .before .before .before .before in

@@ -16,15 +16,12 @@ use Rattle.terms.proofs.compare_runs.Reads as compare-runs-reads
 use Rattle.terms.proofs.head.Reads as head-reads
 use Rattle.terms.proofs.value.Reads as value-reads
 
--- src/lib.rt:463:9
 head-requires : tie.Need-head-requires
 head-requires c κs = search needs
 
--- src/lib.rt:464:9
 head-requires-2 : tie.Need-head-requires-2
 head-requires-2 c κs = search needs
 
--- src/lib.rt:466:9
 returns : tie.Need-returns
 returns c =
     let b = c .before .before .before .before .before in
@@ -33,7 +30,6 @@ returns c =
     let y = c .before .head2 .ensures in
     step-head-less (a .terms .now) (a .runs .now) (b .pre .0) (a .a) (a .b) (b .pre .1) (b .pre .2) (b .pre .3) (omega (arith, c .if1 .taken))
 
--- src/lib.rt:469:9
 returns-2 : tie.Need-returns-2
 returns-2 c =
     let b = c .before .before .before .before .before .before in
@@ -42,15 +38,12 @@ returns-2 c =
     let y = c .before .before .head2 .ensures in
     step-head-greater (a .terms .now) (a .runs .now) (b .pre .0) (a .a) (a .b) (b .pre .1) (b .pre .2) (b .pre .3) (omega (arith, c .if2 .taken))
 
--- src/lib.rt:471:9
 value-requires : tie.Need-value-requires
 value-requires c κs = search needs
 
--- src/lib.rt:472:9
 value-requires-2 : tie.Need-value-requires-2
 value-requires-2 c κs = search needs
 
--- src/lib.rt:474:9
 returns-3 : tie.Need-returns-3
 returns-3 c =
     let b = c .before .before .before .before .before .before .before .before .before in
@@ -61,7 +54,6 @@ returns-3 c =
     let w = c .before .value2 .ensures in
     step-value-less (a .terms .now) (a .runs .now) (b .pre .0) (a .a) (a .b) (b .pre .1) (b .pre .2) (b .pre .3) (omega (arith, c .before .before .before .before .if1 .left, c .before .before .before .if2 .left)) (omega (arith, c .if3 .taken))
 
--- src/lib.rt:477:9
 returns-4 : tie.Need-returns-4
 returns-4 c =
     let b = c .before .before .before .before .before .before .before .before .before .before in
@@ -72,7 +64,6 @@ returns-4 c =
     let w = c .before .before .value2 .ensures in
     step-value-greater (a .terms .now) (a .runs .now) (b .pre .0) (a .a) (a .b) (b .pre .1) (b .pre .2) (b .pre .3) (omega (arith, c .before .before .before .before .before .if1 .left, c .before .before .before .before .if2 .left)) (omega (arith, c .if4 .taken))
 
--- src/lib.rt:479:5
 compare-runs-requires : tie.Need-compare-runs-requires
 compare-runs-requires c κs =
     let b = c .before .before .before .before .before .before .before .before .before .before in
@@ -83,7 +74,6 @@ compare-runs-requires c κs =
     let w = c .before .before .value2 .ensures in
     (b .pre .0, b .pre .1, b .pre .2, b .pre .3, omega (arith, c .before .before .before .before .before .if1 .left, c .before .before .before .before .if2 .left), omega (arith, c .before .if3 .left, c .if4 .left))
 
--- src/lib.rt:459:1
 returns-5 : tie.Need-returns-5
 returns-5 c = c .compare-runs .ensures
 

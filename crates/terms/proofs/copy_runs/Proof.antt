@@ -20,50 +20,39 @@ Inv-loop runs₀ from list n i₀ runs i = (i ≤ n) × (length runs ≡ length 
 abbrev μ-loop : tie.MeasureT-loop
 μ-loop runs₀ from list n i₀ runs i = n - i
 
--- src/lib.rt:227:5
 loop-holds : tie.Need-loop-holds Inv-loop μ-loop
 loop-holds c = (omega arith, refl, paste-zero (c .args .runs .now) (c .args .from) (c .args .list .now))
 
--- src/lib.rt:228:26
 mul-runs : tie.Need-mul-runs Inv-loop μ-loop
 mul-runs c = search needs
 
--- src/lib.rt:228:26
 shared-slice-read-runs : tie.Need-shared-slice-read-runs Inv-loop μ-loop
 shared-slice-read-runs c = search needs
 
--- src/lib.rt:228:14
 add-runs : tie.Need-add-runs Inv-loop μ-loop
 add-runs c = search needs
 
--- src/lib.rt:228:9
 mul-runs-2 : tie.Need-mul-runs-2 Inv-loop μ-loop
 mul-runs-2 c = search needs
 
--- src/lib.rt:228:9
 slice-write-runs : tie.Need-slice-write-runs Inv-loop μ-loop
 slice-write-runs c = search needs
 
--- src/lib.rt:229:9
 add-i : tie.Need-add-i Inv-loop μ-loop
 add-i c = search needs
 
--- src/lib.rt:227:5
 loop-less : tie.Need-loop-less Inv-loop μ-loop
 loop-less c = search needs
 
--- src/lib.rt:227:5
 loop-again : tie.Need-loop-again Inv-loop μ-loop
 loop-again c =
     let l = c .before .before in
     let a = l .before .args in
     (omega arith, simp length-set (omega arith), paste-turn (a .runs .now) (a .list .now) (a .from) (l .loop .i) (l .loop .runs) (omega arith) (omega arith) (l .loop .inv .2))
 
--- src/lib.rt:222:1
 same-length : tie.Need-same-length Inv-loop μ-loop
 same-length c = search needs
 
--- src/lib.rt:222:1
 returns : tie.Need-returns Inv-loop μ-loop
 returns c =
     let l = c .before in

@@ -22,23 +22,18 @@ Inv-loop runs from end i₀ n₀ i n = (i ≤ end) × (n + timesOf (part runs i 
 abbrev μ-loop : tie.MeasureT-loop
 μ-loop runs from end i₀ n₀ i n = end - i
 
--- src/lib.rt:378:5
 loop-holds : tie.Need-loop-holds Inv-loop μ-loop
 loop-holds c = (omega arith, omega arith)
 
--- src/lib.rt:379:20
 mul-times : tie.Need-mul-times Inv-loop μ-loop
 mul-times c = search needs
 
--- src/lib.rt:379:20
 shared-slice-read-times : tie.Need-shared-slice-read-times Inv-loop μ-loop
 shared-slice-read-times c = search needs
 
--- src/lib.rt:379:14
 times-requires : tie.Need-times-requires Inv-loop μ-loop
 times-requires c κs = search needs
 
--- src/lib.rt:379:9
 add-n : tie.Need-add-n Inv-loop μ-loop
 add-n c =
     let b = c .before .before .before .before .before in
@@ -46,15 +41,12 @@ add-n c =
     let l = c .before .before .before in
     omega (arith, times-turn (a .runs .now) (l .loop .i) (a .end) (omega arith), times-sum (part (a .runs .now) (a .from) (a .end - a .from)))
 
--- src/lib.rt:380:9
 add-i : tie.Need-add-i Inv-loop μ-loop
 add-i c = search needs
 
--- src/lib.rt:378:5
 loop-less : tie.Need-loop-less Inv-loop μ-loop
 loop-less c = search needs
 
--- src/lib.rt:378:5
 loop-again : tie.Need-loop-again Inv-loop μ-loop
 loop-again c =
     let b = c .before .before .before .before .before in
@@ -62,7 +54,6 @@ loop-again c =
     let l = c .before .before .before in
     (omega arith, omega (arith, times-turn (a .runs .now) (l .loop .i) (a .end) (omega arith), c .times .ensures))
 
--- src/lib.rt:372:1
 returns : tie.Need-returns Inv-loop μ-loop
 returns c =
     let b = c .before .before .before in

@@ -22,11 +22,9 @@ Inv-loop runs i0 m j0 n i₀ j₀ i j = diffNumbers (part runs i (m - i)) (part 
 abbrev μ-loop : tie.MeasureT-loop
 μ-loop runs i0 m j0 n i₀ j₀ i j = m - i
 
--- src/lib.rt:424:5
 loop-holds : tie.Need-loop-holds Inv-loop μ-loop
 loop-holds c = refl
 
--- src/lib.rt:426:13
 returns : tie.Need-returns Inv-loop μ-loop
 returns c =
     let b = c .before .before .before .before in
@@ -34,27 +32,21 @@ returns c =
     let l = c .before .before in
     differs-by (sym (l .loop .inv) ∙ diff-past (a .runs .now) (l .loop .i) (a .m) (l .loop .j) (a .n) (omega arith) (omega arith)) refl refl
 
--- src/lib.rt:428:12
 mul-if2 : tie.Need-mul-if2 Inv-loop μ-loop
 mul-if2 c = search needs
 
--- src/lib.rt:428:12
 shared-slice-read-if2 : tie.Need-shared-slice-read-if2 Inv-loop μ-loop
 shared-slice-read-if2 c = search needs
 
--- src/lib.rt:428:23
 mul-if2-2 : tie.Need-mul-if2-2 Inv-loop μ-loop
 mul-if2-2 c = search needs
 
--- src/lib.rt:428:23
 shared-slice-read-if2-2 : tie.Need-shared-slice-read-if2-2 Inv-loop μ-loop
 shared-slice-read-if2-2 c = search needs
 
--- src/lib.rt:429:13
 apart-requires : tie.Need-apart-requires Inv-loop μ-loop
 apart-requires c κs = search needs
 
--- src/lib.rt:429:13
 returns-2 : tie.Need-returns-2 Inv-loop μ-loop
 returns-2 c =
     let b = c .before .before .before .before .before .before .before .before in
@@ -62,19 +54,15 @@ returns-2 c =
     let l = c .before .before .before .before .before .before in
     rw (sym (l .loop .inv) ∙ diff-apart (a .runs .now) (l .loop .i) (a .m) (l .loop .j) (a .n) (omega arith) (omega arith) (c .before .if2 .taken)) (c .apart .ensures)
 
--- src/lib.rt:431:9
 add-i : tie.Need-add-i Inv-loop μ-loop
 add-i c = search needs
 
--- src/lib.rt:432:9
 add-j : tie.Need-add-j Inv-loop μ-loop
 add-j c = search needs
 
--- src/lib.rt:424:5
 loop-less : tie.Need-loop-less Inv-loop μ-loop
 loop-less c = search needs
 
--- src/lib.rt:424:5
 loop-again : tie.Need-loop-again Inv-loop μ-loop
 loop-again c =
     let b = c .before .before .before .before .before .before .before in
@@ -82,7 +70,6 @@ loop-again c =
     let l = c .before .before .before .before .before in
     sym (diff-turn (a .runs .now) (l .loop .i) (a .m) (l .loop .j) (a .n) (omega arith) (omega arith) (c .if2 .left)) ∙ l .loop .inv
 
--- src/lib.rt:418:1
 returns-3 : tie.Need-returns-3 Inv-loop μ-loop
 returns-3 c =
     let b = c .before .before .before in

@@ -16,23 +16,18 @@ use Rattle.terms.proofs.empty.Lts as lts
 use Rattle.terms.proofs.clear_chains.Reads as clear-chains-reads
 use Rattle.terms.proofs.put.Reads as put-reads
 
--- src/lib.rt:133:5
 put-requires : tie.Need-put-requires
 put-requires c κs = search needs
 
--- src/lib.rt:134:5
 clear-chains-requires : tie.Need-clear-chains-requires
 clear-chains-requires c κs = search needs
 
--- src/lib.rt:135:5
 put-requires-2 : tie.Need-put-requires-2
 put-requires-2 c κs = search needs
 
--- src/lib.rt:129:1
 same-length : tie.Need-same-length
 same-length c = search needs
 
--- src/lib.rt:129:1
 returns : tie.Need-returns
 unfolding emptied
 returns c =

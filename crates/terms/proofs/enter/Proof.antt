@@ -20,49 +20,39 @@ use Rattle.terms.proofs.put_chain.Reads as put-chain-reads
 use Rattle.terms.proofs.put_term.Reads as put-term-reads
 use Rattle.terms.proofs.short.Reads as short-reads
 
--- src/lib.rt:257:9
 count-requires : tie.Need-count-requires
 count-requires c κs = search needs
 
--- src/lib.rt:258:9
 first-requires : tie.Need-first-requires
 first-requires c κs = search needs
 
--- src/lib.rt:259:5
 copy-runs-requires : tie.Need-copy-runs-requires
 copy-runs-requires c κs =
     let b = c .before .before .before .before .before .before .before .before in
     let e = first-at (b .args .terms .now) (c .before .before .before .count .ensures .0) (c .before .first .ensures .0) in
     (omega (arith, b .pre .0 .roomy), omega arith)
 
--- src/lib.rt:260:36
 add-short : tie.Need-add-short
 add-short c = search needs
 
--- src/lib.rt:260:30
 short-requires : tie.Need-short-requires
 short-requires c κs =
     let b = c .before .before .before .before .before .before .before .before .before .before .before .before in
     let e = first-at (b .args .terms .now) (c .before .before .before .before .before .before .before .count .ensures .0) (c .before .before .before .before .before .first .ensures .0) in
     omega (arith, b .pre .2)
 
--- src/lib.rt:260:5
 put-term-requires : tie.Need-put-term-requires
 put-term-requires c κs = search needs
 
--- src/lib.rt:261:5
 put-chain-requires : tie.Need-put-chain-requires
 put-chain-requires c κs = search needs
 
--- src/lib.rt:253:1
 same-length : tie.Need-same-length
 same-length c = search needs
 
--- src/lib.rt:253:1
 same-length-2 : tie.Need-same-length-2
 same-length-2 c = search needs
 
--- src/lib.rt:253:1
 returns : tie.Need-returns
 unfolding enterTerm enterRuns
 returns c =

@@ -24,46 +24,36 @@ Inv-loop terms runs list₀ i n x j₀ list j = Moving (poolOf terms runs) list�
 abbrev μ-loop : tie.MeasureT-loop
 μ-loop terms runs list₀ i n x j₀ list j = n - j
 
--- src/lib.rt:527:13
 mul-x : tie.Need-mul-x Inv-loop μ-loop
 mul-x c = search needs
 
--- src/lib.rt:527:13
 slice-read-x : tie.Need-slice-read-x Inv-loop μ-loop
 slice-read-x c = search needs
 
--- src/lib.rt:529:5
 loop-holds : tie.Need-loop-holds Inv-loop μ-loop
 loop-holds c =
     let b = c .before .before .before .before in
     let a = b .args in
     moving-start (poolOf (a .terms .now) (a .runs .now)) (a .list .now) (a .i) (a .n) (getD (a .list .now) (a .i) 0) (b .pre .1)
 
--- src/lib.rt:529:11
 add-loop : tie.Need-add-loop Inv-loop μ-loop
 add-loop c = search needs
 
--- src/lib.rt:530:22
 add-y : tie.Need-add-y Inv-loop μ-loop
 add-y c = search needs
 
--- src/lib.rt:530:17
 mul-y : tie.Need-mul-y Inv-loop μ-loop
 mul-y c = search needs
 
--- src/lib.rt:530:17
 slice-read-y : tie.Need-slice-read-y Inv-loop μ-loop
 slice-read-y c = search needs
 
--- src/lib.rt:531:37
 child-requires : tie.Need-child-requires Inv-loop μ-loop
 child-requires c κs = search needs
 
--- src/lib.rt:531:47
 child-requires-2 : tie.Need-child-requires-2 Inv-loop μ-loop
 child-requires-2 c κs = search needs
 
--- src/lib.rt:531:13
 is-greater-requires : tie.Need-is-greater-requires Inv-loop μ-loop
 is-greater-requires c κs =
     let b = c .before .before .before .before .before .before .before .before .before in
@@ -71,15 +61,12 @@ is-greater-requires c κs =
     let l = c .before .before .before .before in
     (b .pre .0, rw (c .before .child .ensures .0) (moving-left (poolOf (a .terms .now) (a .runs .now)) (a .list .now) (a .i) (a .n) (getD (a .list .now) (a .i) 0) (l .loop .list) (l .loop .j) (l .loop .inv) (b .pre .2) (countIn (a .terms .now)) (b .pre .3)), rw (c .child2 .ensures .0) (moving-right (poolOf (a .terms .now) (a .runs .now)) (a .list .now) (a .i) (a .n) (getD (a .list .now) (a .i) 0) (l .loop .list) (l .loop .j) (l .loop .inv) (b .pre .2) (countIn (a .terms .now)) (omega arith) (b .pre .3)))
 
--- src/lib.rt:532:13
 put8-requires : tie.Need-put8-requires Inv-loop μ-loop
 put8-requires c κs = search needs
 
--- src/lib.rt:533:13
 same-length : tie.Need-same-length Inv-loop μ-loop
 same-length c = search needs
 
--- src/lib.rt:533:13
 returns : tie.Need-returns Inv-loop μ-loop
 returns c =
     let b = c .before .before .before .before .before .before .before .before .before .before .before .before .before .before .before in
@@ -88,19 +75,15 @@ returns c =
     let g = rw (c .before .before .before .before .before .before .before .child .ensures .0, c .before .before .before .before .before .before .child2 .ensures .0) at (c .before .before .before .before .before .is-greater .ensures) in
     rw (c .before .before .put8 .ensures) (moving-stop (poolOf (a .terms .now) (a .runs .now)) (a .list .now) (a .i) (a .n) (getD (a .list .now) (a .i) 0) (l .loop .list) (l .loop .j) (l .loop .inv) (b .pre .2) (omega arith) (sym g ∙ not-true _ (c .before .before .before .before .if1 .taken)))
 
--- src/lib.rt:535:9
 put8-requires-2 : tie.Need-put8-requires-2 Inv-loop μ-loop
 put8-requires-2 c κs = search needs
 
--- src/lib.rt:536:9
 add-j : tie.Need-add-j Inv-loop μ-loop
 add-j c = search needs
 
--- src/lib.rt:529:5
 loop-less : tie.Need-loop-less Inv-loop μ-loop
 loop-less c = search needs
 
--- src/lib.rt:529:5
 loop-again : tie.Need-loop-again Inv-loop μ-loop
 loop-again c =
     let b = c .before .before .before .before .before .before .before .before .before .before .before .before .before .before .before in
@@ -109,15 +92,12 @@ loop-again c =
     let g = rw (c .before .before .before .before .before .before .before .child .ensures .0, c .before .before .before .before .before .before .child2 .ensures .0) at (c .before .before .before .before .before .is-greater .ensures) in
     rw (c .before .before .put82 .ensures) (moving-turn (poolOf (a .terms .now) (a .runs .now)) (a .list .now) (a .i) (a .n) (getD (a .list .now) (a .i) 0) (l .loop .list) (l .loop .j) (l .loop .inv) (b .pre .2) (omega arith) (sym g ∙ not-false _ (c .before .before .before .before .if1 .left)))
 
--- src/lib.rt:538:5
 put8-requires-3 : tie.Need-put8-requires-3 Inv-loop μ-loop
 put8-requires-3 c κs = search needs
 
--- src/lib.rt:523:1
 same-length-2 : tie.Need-same-length-2 Inv-loop μ-loop
 same-length-2 c = search needs
 
--- src/lib.rt:523:1
 returns-2 : tie.Need-returns-2 Inv-loop μ-loop
 returns-2 c =
     let b = c .before .before .before .before .before .before .before .before .before .before in

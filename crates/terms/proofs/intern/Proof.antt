@@ -13,46 +13,36 @@ use Rattle.terms.proofs.first.Reads as first-reads
 use Rattle.terms.proofs.key.Reads as key-reads
 use Rattle.terms.proofs.look_up.Reads as look-up-reads
 
--- src/lib.rt:276:9
 key-requires : tie.Need-key-requires
 key-requires c κs = search needs
 
--- src/lib.rt:277:9
 look-up-requires : tie.Need-look-up-requires
 look-up-requires c κs = search needs
 
--- src/lib.rt:279:30
 sub-t16 : tie.Need-sub-t16
 sub-t16 c = search needs
 
--- src/lib.rt:279:9
 same-length : tie.Need-same-length
 same-length c = search needs
 
--- src/lib.rt:279:9
 same-length-2 : tie.Need-same-length-2
 same-length-2 c = search needs
 
--- src/lib.rt:279:9
 returns : tie.Need-returns
 returns c =
     let b = c .before .before .before .before .before .before .before .before in
     let a = b .args in
     intern-found (a .terms .now) (a .runs .now) (a .list .now) (a .n) (a .h) (a .v) (b .pre .0) (c .before .look-up .result) (c .if1 .taken) (c .before .look-up .ensures)
 
--- src/lib.rt:281:9
 count-requires : tie.Need-count-requires
 count-requires c κs = search needs
 
--- src/lib.rt:283:9
 same-length-3 : tie.Need-same-length-3
 same-length-3 c = search needs
 
--- src/lib.rt:283:9
 same-length-4 : tie.Need-same-length-4
 same-length-4 c = search needs
 
--- src/lib.rt:283:9
 returns-2 : tie.Need-returns-2
 returns-2 c =
     let b = c .before .before .before .before .before .before .before .before .before .before .before in
@@ -61,26 +51,21 @@ returns-2 c =
     let s = rw z at (c .before .before .before .before .look-up .ensures) in
     intern-full-terms (a .terms .now) (a .runs .now) (a .list .now) (a .n) (a .h) (a .v) (b .pre .0) s (omega (arith, c .before .count .ensures .0, c .if2 .taken))
 
--- src/lib.rt:285:9
 first-requires : tie.Need-first-requires
 first-requires c κs = search needs
 
--- src/lib.rt:286:12
 sub-if3 : tie.Need-sub-if3
 sub-if3 c =
     let b = c .before .before .before .before .before .before .before .before .before .before .before .before .before in
     let e = first-at (b .args .terms .now) (c .before .before .before .count .ensures .0) (c .first .ensures .0) in
     omega (arith, b .pre .0 .ends)
 
--- src/lib.rt:287:9
 same-length-5 : tie.Need-same-length-5
 same-length-5 c = search needs
 
--- src/lib.rt:287:9
 same-length-6 : tie.Need-same-length-6
 same-length-6 c = search needs
 
--- src/lib.rt:287:9
 returns-3 : tie.Need-returns-3
 returns-3 c =
     let f = c .before in
@@ -91,31 +76,24 @@ returns-3 c =
     let e = first-at (a .terms .now) (f .before .before .before .count .ensures .0) (f .first .ensures .0) in
     intern-full-runs (a .terms .now) (a .runs .now) (a .list .now) (a .n) (a .h) (a .v) (b .pre .0) s (omega (arith, f .before .before .before .count .ensures .0, f .before .before .if2 .left)) (omega (arith, c .if3 .taken))
 
--- src/lib.rt:289:31
 add-if4 : tie.Need-add-if4
 add-if4 c = search needs
 
--- src/lib.rt:289:30
 mul-if4 : tie.Need-mul-if4
 mul-if4 c = search needs
 
--- src/lib.rt:289:22
 add-if4-2 : tie.Need-add-if4-2
 add-if4-2 c = search needs
 
--- src/lib.rt:290:9
 same-length-7 : tie.Need-same-length-7
 same-length-7 c = search needs
 
--- src/lib.rt:290:9
 same-length-8 : tie.Need-same-length-8
 same-length-8 c = search needs
 
--- src/lib.rt:290:9
 returns-4 : tie.Need-returns-4
 returns-4 c = search needs
 
--- src/lib.rt:292:12
 sub-if5 : tie.Need-sub-if5
 sub-if5 c =
     let f = c .before .before in
@@ -123,19 +101,15 @@ sub-if5 c =
     let e = first-at (b .args .terms .now) (f .before .before .before .count .ensures .0) (f .first .ensures .0) in
     omega (arith, b .pre .0 .roomy)
 
--- src/lib.rt:293:9
 same-length-9 : tie.Need-same-length-9
 same-length-9 c = search needs
 
--- src/lib.rt:293:9
 same-length-10 : tie.Need-same-length-10
 same-length-10 c = search needs
 
--- src/lib.rt:293:9
 returns-5 : tie.Need-returns-5
 returns-5 c = search needs
 
--- src/lib.rt:295:5
 enter-requires : tie.Need-enter-requires
 enter-requires c κs =
     let f = c .before .before .before .before .before in
@@ -144,15 +118,12 @@ enter-requires c κs =
     let e = first-at (b .args .terms .now) t (f .first .ensures .0) in
     (b .pre .0, omega (arith, f .before .before .if2 .left), omega (arith, c .before .before .before .before .if3 .left, b .pre .0 .ends), omega (arith, c .before .before .before .if4 .left), omega (arith, c .before .before .if5 .left, b .pre .0 .roomy), b .pre .2, f .before .before .before .before .before .before .before .before .before .key .ensures .1)
 
--- src/lib.rt:265:1
 same-length-11 : tie.Need-same-length-11
 same-length-11 c = search needs
 
--- src/lib.rt:265:1
 same-length-12 : tie.Need-same-length-12
 same-length-12 c = search needs
 
--- src/lib.rt:265:1
 returns-6 : tie.Need-returns-6
 returns-6 c =
     let f = c .before .before .before .before .before .before .before .before .before .before in

@@ -10,37 +10,30 @@ use Rattle.terms.proofs.intern.Reads as intern-reads
 use Rattle.terms.proofs.join_runs.Reads as join-runs-reads
 use Rattle.terms.proofs.order_children.Reads as order-children-reads
 
--- src/lib.rt:575:5
 order-children-requires : tie.Need-order-children-requires
 order-children-requires c κs = search needs
 
--- src/lib.rt:576:9
 join-runs-requires : tie.Need-join-runs-requires
 join-runs-requires c κs =
     let b = c .before .before .before .before .before .before .before .before .before .before in
     let a = b .args in
     (omega (arith, b .pre .1), action-join (poolOf (a .terms .now) (a .runs .now)) (a .list .now) (a .n) (a .commutative) _ (c .before .before .before .order-children .ensures) (b .pre .3))
 
--- src/lib.rt:577:5
 intern-requires : tie.Need-intern-requires
 intern-requires c κs =
     let b = c .before .before .before .before .before .before .before .before .before .before .before .before .before .before .before .before in
     let a = b .args in
     (b .pre .0, action-valid (poolOf (a .terms .now) (a .runs .now)) (a .list .now) (a .n) (a .commutative) _ (c .before .before .before .before .before .before .before .before .before .order-children .ensures) _ (c .before .before .before .before .before .join-runs .result) (c .before .before .before .before .before .join-runs .ensures) (countIn (a .terms .now)) (a .op) (b .pre .4) (b .pre .2), begins-fits (c .before .before .before .before .before .join-runs .ensures), action-light (poolOf (a .terms .now) (a .runs .now)) (a .list .now) (a .n) (a .commutative) _ (c .before .before .before .before .before .before .before .before .before .order-children .ensures) _ (c .before .before .before .before .before .join-runs .result) (c .before .before .before .before .before .join-runs .ensures) (b .pre .3))
 
--- src/lib.rt:564:1
 same-length : tie.Need-same-length
 same-length c = search needs
 
--- src/lib.rt:564:1
 same-length-2 : tie.Need-same-length-2
 same-length-2 c = search needs
 
--- src/lib.rt:564:1
 same-length-3 : tie.Need-same-length-3
 same-length-3 c = search needs
 
--- src/lib.rt:564:1
 returns : tie.Need-returns
 returns c =
     let b = c .before .before .before .before .before .before .before .before .before .before .before .before .before .before .before .before .before .before .before .before .before in

@@ -17,37 +17,30 @@ use Rattle.terms.proofs.is_greater.Reads as reads
 use Rattle.terms.proofs.is_greater.Lts as lts
 use Rattle.terms.proofs.structural_cmp.Reads as structural-cmp-reads
 
--- src/lib.rt:514:9
 structural-cmp-requires : tie.Need-structural-cmp-requires
 structural-cmp-requires c κs = search needs
 
--- src/lib.rt:516:24
 enum-told : tie.Need-enum-told
 enum-told c = search needs
 
--- src/lib.rt:517:25
 enum-told-2 : tie.Need-enum-told-2
 enum-told-2 c = search needs
 
--- src/lib.rt:518:27
 enum-told-3 : tie.Need-enum-told-3
 enum-told-3 c = search needs
 
--- src/lib.rt:510:1
 returns : tie.Need-returns
 returns c =
     let b = c .before .before .before .before .before in
     let a = b .args in
     rw (pool-length (a .terms .now) (a .runs .now)) (less-not (structuralCmp (countIn (a .terms .now)) (poolOf (a .terms .now) (a .runs .now)) (a .a) (a .b)) (sym (c .before .before .structural-cmp .ensures) ∙ c .enum-told .given .1))
 
--- src/lib.rt:510:1
 returns-2 : tie.Need-returns-2
 returns-2 c =
     let b = c .before .before .before .before .before in
     let a = b .args in
     rw (pool-length (a .terms .now) (a .runs .now)) (equal-not (structuralCmp (countIn (a .terms .now)) (poolOf (a .terms .now) (a .runs .now)) (a .a) (a .b)) (sym (c .before .before .structural-cmp .ensures) ∙ c .enum-told2 .given .1))
 
--- src/lib.rt:510:1
 returns-3 : tie.Need-returns-3
 returns-3 c =
     let b = c .before .before .before .before .before in

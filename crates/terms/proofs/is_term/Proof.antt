@@ -12,58 +12,47 @@ use Rattle.terms.proofs.head.Reads as head-reads
 use Rattle.terms.proofs.same_runs.Reads as same-runs-reads
 use Rattle.terms.proofs.value.Reads as value-reads
 
--- src/lib.rt:185:8
 head-requires : tie.Need-head-requires
 head-requires c κs = search needs
 
--- src/lib.rt:186:9
 returns : tie.Need-returns
 returns c =
     let a = c .before .before .before .before .before .args in
     not-head (a .terms .now) (a .runs .now) (a .t) (a .list .now) (a .n) (a .h) (a .v) (λ e. c .if1 .taken (c .before .head .ensures ∙ e))
 
--- src/lib.rt:188:8
 value-requires : tie.Need-value-requires
 value-requires c κs = search needs
 
--- src/lib.rt:189:9
 returns-2 : tie.Need-returns-2
 returns-2 c =
     let a = c .before .before .before .before .before .before .before .args in
     not-value (a .terms .now) (a .runs .now) (a .t) (a .list .now) (a .n) (a .h) (a .v) (λ e. c .if2 .taken (c .before .value .ensures ∙ e))
 
--- src/lib.rt:191:9
 first-requires : tie.Need-first-requires
 first-requires c κs = search needs
 
--- src/lib.rt:192:21
 add-first : tie.Need-add-first
 add-first c = search needs
 
--- src/lib.rt:192:8
 first-requires-2 : tie.Need-first-requires-2
 first-requires-2 c κs = search needs
 
--- src/lib.rt:192:8
 sub-if3 : tie.Need-sub-if3
 sub-if3 c =
     let b = c .before .before .before .before .before .before .before .before .before in
     omega (arith, b .pre .0 .rises (b .args .t) (b .pre .1))
 
--- src/lib.rt:193:9
 returns-3 : tie.Need-returns-3
 returns-3 c =
     let a = c .before .before .before .before .before .before .before .before .before .before .args in
     not-length (a .terms .now) (a .runs .now) (a .t) (a .list .now) (a .n) (a .h) (a .v) (λ e. c .if3 .taken (sub-same (c .before .first2 .ensures .0) (c .before .before .first .ensures .0) ∙ e))
 
--- src/lib.rt:195:5
 same-runs-requires : tie.Need-same-runs-requires
 same-runs-requires c κs =
     let b = c .before .before .before .before .before .before .before .before .before .before in
     let f = runs-inside (b .args .terms .now) (b .args .runs .now) (b .pre .0) (b .args .t) (b .pre .1) in
     (omega (arith, c .before .first2 .ensures .0, c .before .before .first .ensures .0, c .if3 .left), b .pre .2)
 
--- src/lib.rt:181:1
 returns-4 : tie.Need-returns-4
 returns-4 c =
     let a = c .before .before .before .before .before .before .before .before .before .before .before .args in

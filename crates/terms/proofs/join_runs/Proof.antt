@@ -21,19 +21,15 @@ Inv-loop list₀ n m₀ i₀ list m i = (i ≤ n) × (m ≤ i) × (length list �
 abbrev μ-loop : tie.MeasureT-loop
 μ-loop list₀ n m₀ i₀ list m i = n - i
 
--- src/lib.rt:332:5
 loop-holds : tie.Need-loop-holds Inv-loop μ-loop
 loop-holds c = (omega arith, omega arith, refl, join-start (c .before .args .list .now))
 
--- src/lib.rt:333:17
 mul-x : tie.Need-mul-x Inv-loop μ-loop
 mul-x c = search needs
 
--- src/lib.rt:333:17
 slice-read-x : tie.Need-slice-read-x Inv-loop μ-loop
 slice-read-x c = search needs
 
--- src/lib.rt:334:9
 append-requires : tie.Need-append-requires Inv-loop μ-loop
 append-requires c κs =
     let b = c .before .before .before .before .before in
@@ -41,15 +37,12 @@ append-requires c κs =
     let l = c .before .before .before in
     (omega arith, join-fits (a .list .now) (l .loop .list) (l .loop .i) (l .loop .m) (l .loop .inv .3) (l .loop .inv .1) (a .n) (omega arith) (b .pre .1))
 
--- src/lib.rt:335:9
 add-i : tie.Need-add-i Inv-loop μ-loop
 add-i c = search needs
 
--- src/lib.rt:332:5
 loop-less : tie.Need-loop-less Inv-loop μ-loop
 loop-less c = search needs
 
--- src/lib.rt:332:5
 loop-again : tie.Need-loop-again Inv-loop μ-loop
 loop-again c =
     let b = c .before .before .before .before .before .before .before .before in
@@ -57,11 +50,9 @@ loop-again c =
     let l = c .before .before .before .before .before .before in
     (omega arith, join-few (a .list .now) (l .loop .list) (l .loop .i) (l .loop .m) (l .loop .inv .3) (l .loop .inv .1) _ _ (c .before .before .append .ensures), omega arith, join-turn (a .list .now) (l .loop .list) (l .loop .i) (l .loop .m) (l .loop .inv .3) (l .loop .inv .1) _ _ (c .before .before .append .ensures))
 
--- src/lib.rt:326:1
 same-length : tie.Need-same-length Inv-loop μ-loop
 same-length c = search needs
 
--- src/lib.rt:326:1
 returns : tie.Need-returns Inv-loop μ-loop
 returns c =
     let l = c .before in

@@ -24,58 +24,45 @@ Inv-loop list n h v x₀ i₀ x i = (i ≤ n) × (x < 4294967296) × (fold (mixA
 abbrev μ-loop : tie.MeasureT-loop
 μ-loop list n h v x₀ i₀ x i = n - i
 
--- src/lib.rt:157:18
 num8-requires : tie.Need-num8-requires Inv-loop μ-loop
 num8-requires c κs = search needs
 
--- src/lib.rt:157:18
 mul-x : tie.Need-mul-x Inv-loop μ-loop
 mul-x c = search needs
 
--- src/lib.rt:157:35
 num8-requires-2 : tie.Need-num8-requires-2 Inv-loop μ-loop
 num8-requires-2 c κs = search needs
 
--- src/lib.rt:157:18
 add-x : tie.Need-add-x Inv-loop μ-loop
 add-x c = search needs
 
--- src/lib.rt:159:5
 loop-holds : tie.Need-loop-holds Inv-loop μ-loop
 loop-holds c = let a = c .before .before .before .args in (omega arith, omega arith, key-start (a .list .now) (a .n) (c .before .num8 .ensures .0) (c .num82 .ensures .0))
 
--- src/lib.rt:160:20
 mul-mix : tie.Need-mul-mix Inv-loop μ-loop
 mul-mix c = search needs
 
--- src/lib.rt:160:20
 shared-slice-read-mix : tie.Need-shared-slice-read-mix Inv-loop μ-loop
 shared-slice-read-mix c = search needs
 
--- src/lib.rt:160:9
 mix-requires : tie.Need-mix-requires Inv-loop μ-loop
 mix-requires c κs = search needs
 
--- src/lib.rt:161:9
 add-i : tie.Need-add-i Inv-loop μ-loop
 add-i c = search needs
 
--- src/lib.rt:159:5
 loop-less : tie.Need-loop-less Inv-loop μ-loop
 loop-less c = search needs
 
--- src/lib.rt:159:5
 loop-again : tie.Need-loop-again Inv-loop μ-loop
 loop-again c =
     let l = c .before .before .before in
     let a = l .before .before .before .before .args in
     (omega arith, c .mix .ensures .1, key-turn (l .loop .x) (a .list .now) (l .loop .i) (a .n) (omega arith) (c .mix .ensures .0) (l .loop .inv .2))
 
--- src/lib.rt:163:5
 folded-requires : tie.Need-folded-requires Inv-loop μ-loop
 folded-requires c κs = search needs
 
--- src/lib.rt:153:1
 returns : tie.Need-returns Inv-loop μ-loop
 returns c =
     let l = c .before .before in

@@ -22,30 +22,24 @@ Inv-loop terms runs bucket list n h v t₀ t = Walking terms runs h v (part list
 abbrev μ-loop : tie.MeasureT-loop
 μ-loop terms runs bucket list n h v t₀ t = t
 
--- src/lib.rt:211:31
 add-number : tie.Need-add-number Inv-loop μ-loop
 add-number c = search needs
 
--- src/lib.rt:211:9
 number-requires : tie.Need-number-requires Inv-loop μ-loop
 number-requires c κs = search needs
 
--- src/lib.rt:212:5
 loop-holds : tie.Need-loop-holds Inv-loop μ-loop
 loop-holds c =
     let b = c .before .before .before .before in
     let a = b .args in
     walk-start (a .terms .now) (a .runs .now) (a .h) (a .v) (part (a .list .now) 0 (a .n)) (b .pre .0) (a .bucket) (c .number .result) (b .pre .2) (b .pre .3) (c .number .ensures .0)
 
--- src/lib.rt:213:33
 sub-is-term : tie.Need-sub-is-term Inv-loop μ-loop
 sub-is-term c = search needs
 
--- src/lib.rt:213:12
 is-term-requires : tie.Need-is-term-requires Inv-loop μ-loop
 is-term-requires c κs = search needs
 
--- src/lib.rt:214:13
 returns : tie.Need-returns Inv-loop μ-loop
 returns c =
     let b = c .before .before .before .before .before .before .before .before in
@@ -53,23 +47,18 @@ returns c =
     let l = c .before .before .before in
     walk-found (a .terms .now) (a .runs .now) (a .h) (a .v) (part (a .list .now) 0 (a .n)) (b .pre .0) (l .loop .t) (omega arith) (l .loop .inv) (rw (c .if1 .taken) at (c .before .is-term .ensures))
 
--- src/lib.rt:216:28
 sub-number : tie.Need-sub-number Inv-loop μ-loop
 sub-number c = search needs
 
--- src/lib.rt:216:27
 mul-number : tie.Need-mul-number Inv-loop μ-loop
 mul-number c = search needs
 
--- src/lib.rt:216:27
 add-number-2 : tie.Need-add-number-2 Inv-loop μ-loop
 add-number-2 c = search needs
 
--- src/lib.rt:216:9
 number-requires-2 : tie.Need-number-requires-2 Inv-loop μ-loop
 number-requires-2 c κs = search needs
 
--- src/lib.rt:212:5
 loop-less : tie.Need-loop-less Inv-loop μ-loop
 loop-less c =
     let b = c .before .before .before .before .before .before .before .before .before in
@@ -77,7 +66,6 @@ loop-less c =
     let l = c .before .before .before .before in
     walk-falls (a .terms .now) (a .runs .now) (a .h) (a .v) (part (a .list .now) 0 (a .n)) (b .pre .0) (l .loop .t) (c .number2 .result) (omega arith) (l .loop .inv) (c .number2 .ensures .0)
 
--- src/lib.rt:212:5
 loop-again : tie.Need-loop-again Inv-loop μ-loop
 loop-again c =
     let b = c .before .before .before .before .before .before .before .before .before in
@@ -85,7 +73,6 @@ loop-again c =
     let l = c .before .before .before .before in
     walk-turn (a .terms .now) (a .runs .now) (a .h) (a .v) (part (a .list .now) 0 (a .n)) (b .pre .0) (l .loop .t) (c .number2 .result) (omega arith) (l .loop .inv) (rw (c .before .if1 .left) at (c .before .before .is-term .ensures)) (c .number2 .ensures .0)
 
--- src/lib.rt:199:1
 returns-2 : tie.Need-returns-2 Inv-loop μ-loop
 returns-2 c =
     let b = c .before .before .before .before .before .before in

@@ -14,19 +14,15 @@ use Rattle.terms.proofs.order_children.Reads as reads
 use Rattle.terms.proofs.order_children.Lts as lts
 use Rattle.terms.proofs.sort.Reads as sort-reads
 
--- src/lib.rt:559:9
 sort-requires : tie.Need-sort-requires
 sort-requires c κs = search needs
 
--- src/lib.rt:554:1
 same-length : tie.Need-same-length
 same-length c = search needs
 
--- src/lib.rt:554:1
 returns : tie.Need-returns
 returns c = rw (c .before .before .before .before .if1 .taken) (c .before .before .sort .ensures)
 
--- src/lib.rt:554:1
 returns-2 : tie.Need-returns-2
 returns-2 c =
     let b = c .before .before .before .before in

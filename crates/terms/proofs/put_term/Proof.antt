@@ -6,51 +6,39 @@ use Rattle.terms.proofs.put_term.Reads as reads
 use Rattle.terms.proofs.put_term.Lts as lts
 use Rattle.terms.proofs.put.Reads as put-reads
 
--- src/lib.rt:237:24
 mul-put : tie.Need-mul-put
 mul-put c = search needs
 
--- src/lib.rt:237:16
 add-put : tie.Need-add-put
 add-put c = search needs
 
--- src/lib.rt:237:5
 put-requires : tie.Need-put-requires
 put-requires c κs = search needs
 
--- src/lib.rt:238:25
 mul-put-2 : tie.Need-mul-put-2
 mul-put-2 c = search needs
 
--- src/lib.rt:238:16
 add-put-2 : tie.Need-add-put-2
 add-put-2 c = search needs
 
--- src/lib.rt:238:5
 put-requires-2 : tie.Need-put-requires-2
 put-requires-2 c κs = search needs
 
--- src/lib.rt:239:26
 add-put-3 : tie.Need-add-put-3
 add-put-3 c = search needs
 
--- src/lib.rt:239:25
 mul-put-3 : tie.Need-mul-put-3
 mul-put-3 c = search needs
 
--- src/lib.rt:239:16
 add-put-4 : tie.Need-add-put-4
 add-put-4 c = search needs
 
--- src/lib.rt:239:5
 put-requires-3 : tie.Need-put-requires-3
 put-requires-3 c κs = search needs
 
--- src/lib.rt:233:1
 same-length : tie.Need-same-length
 same-length c = search needs
 
--- src/lib.rt:233:1
 returns : tie.Need-returns
 returns c = rw (c .before .before .put3 .ensures, c .before .before .before .before .before .before .put2 .ensures, c .before .before .before .before .before .before .before .before .before .before .put .ensures) refl
 

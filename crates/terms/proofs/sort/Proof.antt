@@ -22,18 +22,15 @@ Inv-loop terms runs list₀ n i₀ list i = (i ≤ n) × (length list ≡ length
 abbrev μ-loop : tie.MeasureT-loop
 μ-loop terms runs list₀ n i₀ list i = i
 
--- src/lib.rt:547:5
 loop-holds : tie.Need-loop-holds Inv-loop μ-loop
 loop-holds c =
     let b = c .before .before .before in
     let a = b .args in
     (omega arith, refl, sort-start (poolOf (a .terms .now) (a .runs .now)) (a .list .now) (a .n))
 
--- src/lib.rt:548:9
 sub-i : tie.Need-sub-i Inv-loop μ-loop
 sub-i c = search needs
 
--- src/lib.rt:549:9
 insert-requires : tie.Need-insert-requires Inv-loop μ-loop
 insert-requires c κs =
     let b = c .before .before .before .before .before .before in
@@ -41,11 +38,9 @@ insert-requires c κs =
     let l = c .before .before in
     (b .pre .0, omega arith, omega arith, sort-requires (poolOf (a .terms .now) (a .runs .now)) (a .list .now) (l .loop .list) (l .loop .i) (l .loop .i - 1) (a .n) (omega arith) (omega arith) (b .pre .1) (l .loop .inv .2) (countIn (a .terms .now)) (b .pre .2))
 
--- src/lib.rt:547:5
 loop-less : tie.Need-loop-less Inv-loop μ-loop
 loop-less c = search needs
 
--- src/lib.rt:547:5
 loop-again : tie.Need-loop-again Inv-loop μ-loop
 loop-again c =
     let b = c .before .before .before .before .before .before .before .before .before in
@@ -53,11 +48,9 @@ loop-again c =
     let l = c .before .before .before .before .before in
     (omega arith, omega arith, sort-turn (poolOf (a .terms .now) (a .runs .now)) (a .list .now) (l .loop .list) (l .loop .i) (l .loop .i - 1) (a .n) (omega arith) (omega arith) (b .pre .1) (l .loop .inv .2) _ (c .before .before .insert .ensures))
 
--- src/lib.rt:542:1
 same-length : tie.Need-same-length Inv-loop μ-loop
 same-length c = search needs
 
--- src/lib.rt:542:1
 returns : tie.Need-returns Inv-loop μ-loop
 returns c =
     let b = c .before .before .before .before .before in

@@ -20,29 +20,24 @@ Inv-loop terms runs x y a₀ b₀ a b = Going terms runs x y a b
 abbrev μ-loop : tie.MeasureT-loop
 μ-loop terms runs x y a₀ b₀ a b = a
 
--- src/lib.rt:488:9
 returns : tie.Need-returns Inv-loop μ-loop
 returns c =
     let b = c .before .before .before in
     let a = b .args in
     going-same (a .terms .now) (a .runs .now) (a .x) (a .y) (b .pre .1) (c .if1 .taken)
 
--- src/lib.rt:492:5
 loop-holds : tie.Need-loop-holds Inv-loop μ-loop
 loop-holds c =
     let b = c .before .before .before in
     let a = b .args in
     going-start (a .terms .now) (a .runs .now) (a .x) (a .y) (b .pre .1) (b .pre .2) (c .if1 .left)
 
--- src/lib.rt:493:13
 compare-step-requires : tie.Need-compare-step-requires Inv-loop μ-loop
 compare-step-requires c κs = (c .before .before .before .before .pre .0, c .loop .inv .left, c .loop .inv .right, c .loop .inv .apart)
 
--- src/lib.rt:496:17
 enum-told : tie.Need-enum-told Inv-loop μ-loop
 enum-told c = search needs
 
--- src/lib.rt:496:17
 returns-2 : tie.Need-returns-2 Inv-loop μ-loop
 returns-2 c =
     let b = c .before .before .before .before .before .before .before in
@@ -50,11 +45,9 @@ returns-2 c =
     let l = c .before .before .before in
     going-less (a .terms .now) (a .runs .now) (a .x) (a .y) (l .loop .a) (l .loop .b) (l .loop .inv) (rw (c .enum-told .given .1) at (c .before .before .compare-step .ensures))
 
--- src/lib.rt:499:17
 enum-told-2 : tie.Need-enum-told-2 Inv-loop μ-loop
 enum-told-2 c = search needs
 
--- src/lib.rt:499:17
 returns-3 : tie.Need-returns-3 Inv-loop μ-loop
 returns-3 c =
     let b = c .before .before .before .before .before .before .before in
@@ -62,15 +55,12 @@ returns-3 c =
     let l = c .before .before .before in
     going-greater (a .terms .now) (a .runs .now) (a .x) (a .y) (l .loop .a) (l .loop .b) (l .loop .inv) (rw (c .enum-told2 .given .1) at (c .before .before .compare-step .ensures))
 
--- src/lib.rt:501:25
 enum-known-s : tie.Need-enum-known-s Inv-loop μ-loop
 enum-known-s c = search needs
 
--- src/lib.rt:492:5
 loop-less : tie.Need-loop-less Inv-loop μ-loop
 loop-less c = (rw (c .before .s .given .1) at (c .before .before .before .compare-step .ensures)) .0
 
--- src/lib.rt:492:5
 loop-again : tie.Need-loop-again Inv-loop μ-loop
 loop-again c =
     let b = c .before .before .before .before .before .before .before .before in

@@ -8,15 +8,12 @@ use Rattle.transport.proofs.balance.Lts as lts
 use Rattle.transport.proofs.fill_columns.Reads as fill-columns-reads
 use Rattle.transport.proofs.fill_rows.Reads as fill-rows-reads
 
--- src/lib.rt:501:5
 fill-columns-requires : tie.Need-fill-columns-requires
 fill-columns-requires c κs = search needs
 
--- src/lib.rt:502:5
 fill-rows-requires : tie.Need-fill-rows-requires
 fill-rows-requires c κs = search needs
 
--- src/lib.rt:497:1
 returns : tie.Need-returns
 returns c = let a = c .before .before .before .before .before .before .before .args in balanced (a .r) (a .c) (a .supply .now) (a .demand .now) (a .flow .now) (c .before .before .fill-columns .last .1 .1 .0) (c .fill-rows .last .1 .1 .0) (c .before .before .fill-columns .ensures) (c .fill-rows .ensures)
 

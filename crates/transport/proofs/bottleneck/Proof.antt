@@ -19,47 +19,36 @@ Inv-loop costs flow left path r c from most b₀ a₀ b a = (a ≤ 131) × Steps
 abbrev μ-loop : tie.MeasureT-loop
 μ-loop costs flow left path r c from most b₀ a₀ b a = 131 - a
 
--- src/lib.rt:367:5
 loop-holds : tie.Need-loop-holds Inv-loop μ-loop
 loop-holds c = (c .before .before .pre .4, c .before .before .pre .5, refl)
 
--- src/lib.rt:368:50
 mul-left-on : tie.Need-mul-left-on Inv-loop μ-loop
 mul-left-on c = search needs
 
--- src/lib.rt:368:50
 element-copy-out-left-on : tie.Need-element-copy-out-left-on Inv-loop μ-loop
 element-copy-out-left-on c = search needs
 
--- src/lib.rt:368:73
 add-left-on : tie.Need-add-left-on Inv-loop μ-loop
 add-left-on c = search needs
 
--- src/lib.rt:368:68
 mul-left-on-2 : tie.Need-mul-left-on-2 Inv-loop μ-loop
 mul-left-on-2 c = search needs
 
--- src/lib.rt:368:68
 element-copy-out-left-on-2 : tie.Need-element-copy-out-left-on-2 Inv-loop μ-loop
 element-copy-out-left-on-2 c = search needs
 
--- src/lib.rt:368:13
 left-on-requires : tie.Need-left-on-requires Inv-loop μ-loop
 left-on-requires c κs = let a = c .before .before .before .before .before .before .args in (c .before .before .before .before .before .before .pre .0, c .before .before .before .before .before .before .pre .1, c .before .before .before .before .before .before .pre .2, c .before .before .before .before .before .before .pre .3, step-here (a .path .now) (a .r) (a .c) (c .before .before .before .loop .a) (omega arith) (c .before .before .before .loop .inv .1))
 
--- src/lib.rt:369:9
 least-requires : tie.Need-least-requires Inv-loop μ-loop
 least-requires c κs = search needs
 
--- src/lib.rt:370:9
 add-a : tie.Need-add-a Inv-loop μ-loop
 add-a c = search needs
 
--- src/lib.rt:367:5
 loop-less : tie.Need-loop-less Inv-loop μ-loop
 loop-less c = search needs
 
--- src/lib.rt:367:5
 loop-again : tie.Need-loop-again Inv-loop μ-loop
 loop-again c = let a = c .before .before .before .before .before .before .before .before .args in let l = c .before .before .before .before .before .loop in (
   omega arith,
@@ -68,7 +57,6 @@ loop-again c = let a = c .before .before .before .before .before .before .before
       ∙ sym (least-turn (a .costs .now) (a .flow .now) (a .left .now) (a .path .now) (a .r) (a .c) (l .a) (l .b) (omega arith)) ∙ l .inv .2,
 )
 
--- src/lib.rt:361:1
 returns : tie.Need-returns Inv-loop μ-loop
 returns c = let a = c .before .before .before .before .args in let l = c .before .loop in sym (least-end (a .costs .now) (a .flow .now) (a .left .now) (a .path .now) (a .r) (a .c) (l .a) (l .b) (omega arith)) ∙ l .inv .2
 

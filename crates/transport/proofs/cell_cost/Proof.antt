@@ -8,15 +8,12 @@ use Rattle.transport.proofs.cell_cost.Reads as reads
 use Rattle.transport.proofs.cell_cost.Lts as lts
 use Rattle.wide.proofs.Wide.weigh.Reads as weigh-reads
 
--- src/lib.rt:631:9
 returns : tie.Need-returns
 returns c = nothing-costs (c .before .args .flag) (c .before .args .size * unsigned (c .before .args .w) + c .before .args .mass) (c .if1 .taken)
 
--- src/lib.rt:633:5
 weigh-requires : tie.Need-weigh-requires
 weigh-requires c κs = w-within (c .before .args .w) (c .before .pre)
 
--- src/lib.rt:626:1
 returns-2 : tie.Need-returns-2
 returns-2 c = let a = c .before .before .args in weighed (a .flag) (a .size) (a .mass) (a .w) (c .weigh .result) (c .before .if1 .left) (omega arith) (omega arith) (c .before .before .pre) (omega arith) (omega arith) (c .weigh .ensures)
 

@@ -18,31 +18,24 @@ Inv-loop s₀ k₀ s k = (k ≤ length s) × (length s ≡ length s₀) × Empti
 abbrev μ-loop : tie.MeasureT-loop
 μ-loop s₀ k₀ s k = length s₀ - k
 
--- src/lib.rt:806:5
 loop-holds : tie.Need-loop-holds Inv-loop μ-loop
 loop-holds c = (omega arith, refl, λ k h. absurd (omega arith))
 
--- src/lib.rt:807:9
 put-flow-requires : tie.Need-put-flow-requires Inv-loop μ-loop
 put-flow-requires c κs = search needs
 
--- src/lib.rt:808:9
 add-k : tie.Need-add-k Inv-loop μ-loop
 add-k c = let l = c .before .before .before .before .before .loop in let e = l .inv .1 in search needs
 
--- src/lib.rt:806:5
 loop-less : tie.Need-loop-less Inv-loop μ-loop
 loop-less c = search needs
 
--- src/lib.rt:806:5
 loop-again : tie.Need-loop-again Inv-loop μ-loop
 loop-again c = let l = c .before .before .before .before .before .loop in let e = l .inv .1 in (omega arith, omega arith, rw (c .before .before .put-flow .ensures) (emptied-next (l .s) (l .k) (omega arith) (l .inv .2)))
 
--- src/lib.rt:802:1
 same-length : tie.Need-same-length Inv-loop μ-loop
 same-length c = let l = c .before .loop in let e = l .inv .1 in search needs
 
--- src/lib.rt:802:1
 returns : tie.Need-returns Inv-loop μ-loop
 returns c = let l = c .before .loop in let e = l .inv .1 in cleared (l .s) (length (c .before .before .before .args .s .now)) e (λ k h. l .inv .2 k (omega arith))
 

@@ -18,31 +18,24 @@ Inv-loop flow₀ n k₀ flow k = (k ≤ n) × (length flow ≡ length flow₀) �
 abbrev μ-loop : tie.MeasureT-loop
 μ-loop flow₀ n k₀ flow k = n - k
 
--- src/lib.rt:674:5
 loop-holds : tie.Need-loop-holds Inv-loop μ-loop
 loop-holds c = (omega arith, refl, λ k h. absurd (omega arith), refl)
 
--- src/lib.rt:675:9
 put-flow-requires : tie.Need-put-flow-requires Inv-loop μ-loop
 put-flow-requires c κs = let h = c .before .before .loop .inv .1 in omega arith
 
--- src/lib.rt:676:9
 add-k : tie.Need-add-k Inv-loop μ-loop
 add-k c = search needs
 
--- src/lib.rt:674:5
 loop-less : tie.Need-loop-less Inv-loop μ-loop
 loop-less c = search needs
 
--- src/lib.rt:674:5
 loop-again : tie.Need-loop-again Inv-loop μ-loop
 loop-again c = let b = c .before .before .before .before .before .before .before in let l = c .before .before .before .before .before .loop in (omega arith, omega arith, rw (c .before .before .put-flow .ensures) (emptied-next (l .flow) (l .k) (omega arith) (l .inv .2)), rw (c .before .before .put-flow .ensures) (drop-set-lt (b .args .n) (l .flow) (l .k) 0 (omega arith)) ∙ l .inv .3)
 
--- src/lib.rt:669:1
 same-length : tie.Need-same-length Inv-loop μ-loop
 same-length c = let h = c .before .loop .inv .1 in search needs
 
--- src/lib.rt:669:1
 returns : tie.Need-returns Inv-loop μ-loop
 returns c = let l = c .before .loop in let b = c .before .before .before in emptied-over (b .args .flow .now) (l .flow) (b .args .n) (omega arith) (λ k h. l .inv .2 k (omega arith)) (l .inv .3)
 

@@ -20,55 +20,42 @@ Inv-loop demand flow left₀ r c j₀ left j = (j ≤ c) × ColumnsLeft r c dema
 abbrev μ-loop : tie.MeasureT-loop
 μ-loop demand flow left₀ r c j₀ left j = c - j
 
--- src/lib.rt:488:5
 loop-holds : tie.Need-loop-holds Inv-loop μ-loop
 loop-holds c = (omega arith, record { size = c .before .before .pre .3; demands = λ i h. absurd (omega arith); taken = λ k h. absurd (omega arith) })
 
--- src/lib.rt:489:13
 sum-every-requires : tie.Need-sum-every-requires Inv-loop μ-loop
 sum-every-requires c κs = (c .before .before .before .before .pre .0, c .before .before .before .before .pre .1, λ i hi. column-reads (c .before .before .before .before .args .r) (c .before .before .before .before .args .c) (c .before .before .before .before .args .flow .now) (c .before .before .before .before .pre .4) (c .before .loop .j) (omega arith) i hi)
 
--- src/lib.rt:490:24
 add-put-left : tie.Need-add-put-left Inv-loop μ-loop
 add-put-left c = search needs
 
--- src/lib.rt:490:41
 mul-num : tie.Need-mul-num Inv-loop μ-loop
 mul-num c = search needs
 
--- src/lib.rt:490:41
 shared-slice-read-num : tie.Need-shared-slice-read-num Inv-loop μ-loop
 shared-slice-read-num c = search needs
 
--- src/lib.rt:490:37
 num-requires : tie.Need-num-requires Inv-loop μ-loop
 num-requires c κs = search needs
 
--- src/lib.rt:490:32
 less-requires : tie.Need-less-requires Inv-loop μ-loop
 less-requires c κs = search needs
 
--- src/lib.rt:490:9
 put-left-requires : tie.Need-put-left-requires Inv-loop μ-loop
 put-left-requires c κs = search needs
 
--- src/lib.rt:491:24
 add-put-left-2 : tie.Need-add-put-left-2 Inv-loop μ-loop
 add-put-left-2 c = search needs
 
--- src/lib.rt:491:9
 put-left-requires-2 : tie.Need-put-left-requires-2 Inv-loop μ-loop
 put-left-requires-2 c κs = search needs
 
--- src/lib.rt:492:9
 add-j : tie.Need-add-j Inv-loop μ-loop
 add-j c = search needs
 
--- src/lib.rt:488:5
 loop-less : tie.Need-loop-less Inv-loop μ-loop
 loop-less c = search needs
 
--- src/lib.rt:488:5
 loop-again : tie.Need-loop-again Inv-loop μ-loop
 loop-again c = let a = c .before .before .before .before .before .before .before .before .before .before .before .before .args in let l = c .before .before .before .before .before .before .before .before .before .loop in
     let s : c .before .before .before .before .before .before .before .sum-every .result ≡ columnSum (a .flow .now) (a .r) (a .c) (l .j) = c .before .before .before .before .before .before .before .sum-every .ensures in
@@ -76,7 +63,6 @@ loop-again c = let a = c .before .before .before .before .before .before .before
     = c .put-left2 .ensures ∙ (λ k. set ((c .before .before .put-left .ensures ∙ ap (λ (x : ℕ). set (l .left) (65 + l .j) x) (c .before .before .before .less .ensures ∙ (λ k. c .before .before .before .before .num .ensures k - s k))) k) (130 + l .j) (s k)) in
     (omega arith, rw e (columns-turn (a .r) (a .c) (a .demand .now) (a .flow .now) (l .left) (l .j) (omega arith) (l .inv .1)))
 
--- src/lib.rt:483:1
 returns : tie.Need-returns Inv-loop μ-loop
 returns c = let l = c .before .loop in let e : l .j ≡ c .before .before .before .before .args .c = omega arith in rw e at (l .inv .1)
 

@@ -21,54 +21,42 @@ Inv-loop supply flow left₀ r c i₀ left i = (i ≤ r) × RowsLeft r c supply 
 abbrev μ-loop : tie.MeasureT-loop
 μ-loop supply flow left₀ r c i₀ left i = r - i
 
--- src/lib.rt:475:5
 loop-holds : tie.Need-loop-holds Inv-loop μ-loop
 loop-holds c = (omega arith, record { size = c .before .before .pre .3; supplies = λ i h. absurd (omega arith); other = λ k h. refl })
 
--- src/lib.rt:476:33
 mul-sum-every : tie.Need-mul-sum-every Inv-loop μ-loop
 mul-sum-every c = let a = c .before .before .before .before .args in let h = row-fits (c .before .loop .i) (a .r) (a .c) (omega arith) in let q = c .before .before .before .before .pre .4 .room in search needs
 
--- src/lib.rt:476:13
 sum-every-requires : tie.Need-sum-every-requires Inv-loop μ-loop
 sum-every-requires c κs = (c .before .before .before .before .pre .1, omega arith, λ j hj. row-reads (c .before .before .before .before .args .r) (c .before .before .before .before .args .c) (c .before .before .before .before .args .flow .now) (c .before .before .before .before .pre .4) (c .before .loop .i) (omega arith) j hj)
 
--- src/lib.rt:477:36
 mul-num : tie.Need-mul-num Inv-loop μ-loop
 mul-num c = search needs
 
--- src/lib.rt:477:36
 shared-slice-read-num : tie.Need-shared-slice-read-num Inv-loop μ-loop
 shared-slice-read-num c = search needs
 
--- src/lib.rt:477:32
 num-requires : tie.Need-num-requires Inv-loop μ-loop
 num-requires c κs = search needs
 
--- src/lib.rt:477:27
 less-requires : tie.Need-less-requires Inv-loop μ-loop
 less-requires c κs = search needs
 
--- src/lib.rt:477:9
 put-left-requires : tie.Need-put-left-requires Inv-loop μ-loop
 put-left-requires c κs = search needs
 
--- src/lib.rt:478:9
 add-i : tie.Need-add-i Inv-loop μ-loop
 add-i c = search needs
 
--- src/lib.rt:475:5
 loop-less : tie.Need-loop-less Inv-loop μ-loop
 loop-less c = search needs
 
--- src/lib.rt:475:5
 loop-again : tie.Need-loop-again Inv-loop μ-loop
 loop-again c = let a = c .before .before .before .before .before .before .before .before .before .before .args in let l = c .before .before .before .before .before .before .before .loop in
     let e : c .put-left .last .0 ≡ set (l .left) (l .i) (getD (a .supply .now) (l .i) 0 - rowSum (a .flow .now) (a .c) (l .i))
     = c .put-left .ensures ∙ ap (λ (x : ℕ). set (l .left) (l .i) x) (c .before .less .ensures ∙ (λ k. c .before .before .num .ensures k - c .before .before .before .before .before .sum-every .ensures k)) in
     (omega arith, rw e (rows-turn (a .r) (a .c) (a .supply .now) (a .flow .now) (a .left .now) (l .left) (l .i) (omega arith) (l .inv .1)))
 
--- src/lib.rt:470:1
 returns : tie.Need-returns Inv-loop μ-loop
 returns c = let l = c .before .loop in let e : l .i ≡ c .before .before .before .before .args .r = omega arith in rw e at (l .inv .1)
 

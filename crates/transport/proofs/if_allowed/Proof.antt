@@ -9,15 +9,12 @@ use Rattle.transport.proofs.if_allowed.Reads as reads
 use Rattle.transport.proofs.if_allowed.Lts as lts
 use Rattle.transport.proofs.wide32.Reads as wide32-reads
 
--- src/lib.rt:584:9
 returns : tie.Need-returns
 returns c = (rw (eq-eqb (c .before .args .flag) 0 (c .if1 .taken)) refl, omega arith)
 
--- src/lib.rt:586:5
 wide32-requires : tie.Need-wide32-requires
 wide32-requires c κs = search needs
 
--- src/lib.rt:580:1
 returns-2 : tie.Need-returns-2
 returns-2 c = (rw (ne-eqb (c .before .before .args .flag) 0 (c .before .if1 .left)) (c .wide32 .ensures .0), c .wide32 .ensures .1)
 

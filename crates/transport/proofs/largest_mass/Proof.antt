@@ -22,45 +22,35 @@ Inv-loop masses allowed v₀ i₀ v i = (i ≤ length masses) × ((z : List ℕ)
 abbrev μ-loop : tie.MeasureT-loop
 μ-loop masses allowed v₀ i₀ v i = length masses - i
 
--- src/lib.rt:602:5
 loop-holds : tie.Need-loop-holds Inv-loop μ-loop
 loop-holds c = (omega arith, (λ z. largest-start z (c .before .before .args .masses .now) (c .before .before .args .allowed .now) (length (c .before .before .args .masses .now))), omega arith)
 
--- src/lib.rt:603:34
 shared-slice-read-if-allowed : tie.Need-shared-slice-read-if-allowed Inv-loop μ-loop
 shared-slice-read-if-allowed c = search needs
 
--- src/lib.rt:603:46
 mul-if-allowed : tie.Need-mul-if-allowed Inv-loop μ-loop
 mul-if-allowed c = search needs
 
--- src/lib.rt:603:46
 shared-slice-read-if-allowed-2 : tie.Need-shared-slice-read-if-allowed-2 Inv-loop μ-loop
 shared-slice-read-if-allowed-2 c = search needs
 
--- src/lib.rt:603:23
 if-allowed-requires : tie.Need-if-allowed-requires Inv-loop μ-loop
 if-allowed-requires c κs = search needs
 
--- src/lib.rt:603:9
 larger-requires : tie.Need-larger-requires Inv-loop μ-loop
 larger-requires c κs = search needs
 
--- src/lib.rt:604:9
 add-i : tie.Need-add-i Inv-loop μ-loop
 add-i c = search needs
 
--- src/lib.rt:602:5
 loop-less : tie.Need-loop-less Inv-loop μ-loop
 loop-less c = search needs
 
--- src/lib.rt:602:5
 loop-again : tie.Need-loop-again Inv-loop μ-loop
 loop-again c = let l = c .before .before .before .before .before .loop in let m = c .before .before .before .before .before .before .before .before .args .masses .now in let f = c .before .before .before .before .before .before .before .before .args .allowed .now in
     let e : c .larger .result ≡ max (l .v) (ifAllowed f (l .i) (getD m (l .i) 0)) = c .larger .ensures ∙ ap (λ (z : ℕ). max (l .v) z) (c .before .if-allowed .ensures .0) in
     (omega arith, (λ z. rw e (largest-next z m f (length m) (l .i) (l .v) (largest (map massOf (cellsFrom z m f (length m) 0))) (omega arith) (l .inv .1 z))), omega (arith, c .larger .ensures, c .before .if-allowed .ensures .1))
 
--- src/lib.rt:596:1
 returns : tie.Need-returns Inv-loop μ-loop
 returns c = let l = c .before .loop in let m = c .before .before .before .before .args .masses .now in let f = c .before .before .before .before .args .allowed .now in ((λ z. largest-end z m f (length m) (l .i) (l .v) (largest (map massOf (cellsFrom z m f (length m) 0))) (omega arith) (l .inv .1 z)), l .inv .2)
 

@@ -8,15 +8,12 @@ use Rattle.transport.proofs.place.Tie as tie
 use Rattle.transport.proofs.place.Reads as reads
 use Rattle.transport.proofs.place.Lts as lts
 
--- src/lib.rt:338:5
 mul-result : tie.Need-mul-result
 mul-result c = let a = c .args in let h = place-fits (a .i) (a .j) (a .c) (omega arith) (omega arith) (omega arith) in search needs
 
--- src/lib.rt:338:5
 add-result : tie.Need-add-result
 add-result c = let a = c .args in let h = place-fits (a .i) (a .j) (a .c) (omega arith) (omega arith) (omega arith) in search needs
 
--- src/lib.rt:334:1
 returns : tie.Need-returns
 returns c = refl
 

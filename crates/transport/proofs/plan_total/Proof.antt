@@ -18,60 +18,46 @@ Inv-loop plan per allowed t₀ i₀ t i = (i ≤ length plan) × Summed plan per
 abbrev μ-loop : tie.MeasureT-loop
 μ-loop plan per allowed t₀ i₀ t i = length plan - i
 
--- src/lib.rt:659:5
 loop-holds : tie.Need-loop-holds Inv-loop μ-loop
 loop-holds c = (omega arith, summed-start (c .before .before .before .args .plan .now) (c .before .before .before .args .per .now) (c .before .before .before .args .allowed .now) (length (c .before .before .before .args .plan .now)))
 
--- src/lib.rt:660:24
 mul-wide32 : tie.Need-mul-wide32 Inv-loop μ-loop
 mul-wide32 c = search needs
 
--- src/lib.rt:660:24
 shared-slice-read-wide32 : tie.Need-shared-slice-read-wide32 Inv-loop μ-loop
 shared-slice-read-wide32 c = search needs
 
--- src/lib.rt:660:17
 wide32-requires : tie.Need-wide32-requires Inv-loop μ-loop
 wide32-requires c κs = search needs
 
--- src/lib.rt:660:46
 shared-slice-read-if-allowed : tie.Need-shared-slice-read-if-allowed Inv-loop μ-loop
 shared-slice-read-if-allowed c = search needs
 
--- src/lib.rt:660:58
 mul-if-allowed : tie.Need-mul-if-allowed Inv-loop μ-loop
 mul-if-allowed c = search needs
 
--- src/lib.rt:660:58
 shared-slice-read-if-allowed-2 : tie.Need-shared-slice-read-if-allowed-2 Inv-loop μ-loop
 shared-slice-read-if-allowed-2 c = search needs
 
--- src/lib.rt:660:35
 if-allowed-requires : tie.Need-if-allowed-requires Inv-loop μ-loop
 if-allowed-requires c κs = search needs
 
--- src/lib.rt:660:17
 mul-x : tie.Need-mul-x Inv-loop μ-loop
 mul-x c = let h = product-fits (c .before .before .before .wide32 .result) (c .if-allowed .result) (c .before .before .before .wide32 .ensures .1) (c .if-allowed .ensures .1) in record { fits = h }
 
--- src/lib.rt:661:9
 wrapping-add-requires : tie.Need-wrapping-add-requires Inv-loop μ-loop
 wrapping-add-requires c κs = search needs
 
--- src/lib.rt:662:9
 add-i : tie.Need-add-i Inv-loop μ-loop
 add-i c = record { fits = next-lt (c .before .before .before .before .before .before .loop-test .taken) (c .before .before .before .before .before .before .before .before .before .before .before .pre .2) }
 
--- src/lib.rt:659:5
 loop-less : tie.Need-loop-less Inv-loop μ-loop
 loop-less c = search needs
 
--- src/lib.rt:659:5
 loop-again : tie.Need-loop-again Inv-loop μ-loop
 loop-again c = let h = product-fits (c .before .before .before .before .wide32 .result) (c .before .if-allowed .result) (c .before .before .before .before .wide32 .ensures .1) (c .before .if-allowed .ensures .1) in let a = c .before .before .before .before .before .before .before .before .before .before .before .args in let l = c .before .before .before .before .before .before .before .loop in
     (omega arith, rw (c .wrapping-add .ensures) (summed-turn (a .plan .now) (a .per .now) (a .allowed .now) (length (a .plan .now)) (l .i) (l .t) (c .before .before .before .before .wide32 .result * c .before .if-allowed .result) (omega arith) (c .before .before .before .before .before .before .before .before .before .before .before .pre .2) h (λ i. c .before .before .before .before .wide32 .ensures .0 i * c .before .if-allowed .ensures .0 i) (l .inv .1)))
 
--- src/lib.rt:653:1
 returns : tie.Need-returns Inv-loop μ-loop
 returns c = let a = c .before .before .before .before .before .args in let l = c .before .loop in summed-end (a .plan .now) (a .per .now) (a .allowed .now) (length (a .plan .now)) (l .i) (l .t) (omega arith) (l .inv .1)
 

@@ -12,31 +12,24 @@ use Rattle.transport.proofs.put_cost.Reads as put-cost-reads
 mul-at : tie.Need-mul-at
 mul-at c = search needs
 
--- src/lib.rt:620:5
 put-cost-requires : tie.Need-put-cost-requires
 put-cost-requires c κs = search needs
 
--- src/lib.rt:621:21
 add-put-cost : tie.Need-add-put-cost
 add-put-cost c = search needs
 
--- src/lib.rt:621:5
 put-cost-requires-2 : tie.Need-put-cost-requires-2
 put-cost-requires-2 c κs = search needs
 
--- src/lib.rt:622:21
 add-put-cost-2 : tie.Need-add-put-cost-2
 add-put-cost-2 c = search needs
 
--- src/lib.rt:622:5
 put-cost-requires-3 : tie.Need-put-cost-requires-3
 put-cost-requires-3 c κs = search needs
 
--- src/lib.rt:616:1
 same-length : tie.Need-same-length
 same-length c = search needs
 
--- src/lib.rt:616:1
 returns : tie.Need-returns
 returns c = c .before .before .put-cost3 .ensures ∙ ap (λ (g : List ℕ). set g (3 * c .before .before .before .before .before .before .before .before .before .before .before .before .before .args .k + 2) (c .before .before .before .before .before .before .before .before .before .before .before .before .before .args .cap)) (c .before .before .before .before .before .before .put-cost2 .ensures ∙ ap (λ (g : List ℕ). set g (3 * c .before .before .before .before .before .before .before .before .before .before .before .before .before .args .k + 1) (c .before .before .before .before .before .before .before .before .before .before .before .before .before .args .d .hi)) (c .before .before .before .before .before .before .before .before .before .before .put-cost .ensures))
 

@@ -19,43 +19,33 @@ Inv-loop flow₀ path r c from n a₀ flow a = (a ≤ 131) × (length flow ≡ l
 abbrev μ-loop : tie.MeasureT-loop
 μ-loop flow₀ path r c from n a₀ flow a = 131 - a
 
--- src/lib.rt:434:5
 loop-holds : tie.Need-loop-holds Inv-loop μ-loop
 loop-holds c = (c .before .pre .3, refl, c .before .pre .4, (λ k hk. room-first (getD (c .before .args .flow .now) k 0) (c .before .args .from) (c .before .args .n) (c .before .pre .5 k hk)), refl)
 
--- src/lib.rt:435:29
 mul-send-on : tie.Need-mul-send-on Inv-loop μ-loop
 mul-send-on c = search needs
 
--- src/lib.rt:435:29
 element-copy-out-send-on : tie.Need-element-copy-out-send-on Inv-loop μ-loop
 element-copy-out-send-on c = search needs
 
--- src/lib.rt:435:52
 add-send-on : tie.Need-add-send-on Inv-loop μ-loop
 add-send-on c = search needs
 
--- src/lib.rt:435:47
 mul-send-on-2 : tie.Need-mul-send-on-2 Inv-loop μ-loop
 mul-send-on-2 c = search needs
 
--- src/lib.rt:435:47
 element-copy-out-send-on-2 : tie.Need-element-copy-out-send-on-2 Inv-loop μ-loop
 element-copy-out-send-on-2 c = search needs
 
--- src/lib.rt:435:9
 send-on-requires : tie.Need-send-on-requires Inv-loop μ-loop
 send-on-requires c κs = let a = c .before .before .before .before .before .before .args in let l = c .before .before .before .before .loop in (c .before .before .before .before .before .before .pre .0, c .before .before .before .before .before .before .pre .1, omega arith, step-here (a .path .now) (a .r) (a .c) (l .a) (omega arith) (l .inv .2), λ k hk. room-here (getD (l .flow) k 0) (l .a) (a .n) (omega arith) (l .inv .3 k hk))
 
--- src/lib.rt:436:9
 add-a : tie.Need-add-a Inv-loop μ-loop
 add-a c = search needs
 
--- src/lib.rt:434:5
 loop-less : tie.Need-loop-less Inv-loop μ-loop
 loop-less c = search needs
 
--- src/lib.rt:434:5
 loop-again : tie.Need-loop-again Inv-loop μ-loop
 loop-again c = let a = c .before .before .before .before .before .before .before .before .before .args in let l = c .before .before .before .before .before .before .before .loop in (
   omega arith,
@@ -65,11 +55,9 @@ loop-again c = let a = c .before .before .before .before .before .before .before
   ap (λ (f : List ℕ). sent (a .r) (a .c) (a .n) (here (a .path .now) (l .a + 1)) f) (c .before .before .send-on .ensures) ∙ sym (sent-turn (a .path .now) (a .r) (a .c) (a .n) (l .a) (l .flow) (omega arith)) ∙ l .inv .4,
 )
 
--- src/lib.rt:429:1
 same-length : tie.Need-same-length Inv-loop μ-loop
 same-length c = search needs
 
--- src/lib.rt:429:1
 returns : tie.Need-returns Inv-loop μ-loop
 returns c = let a = c .before .before .before .args in let l = c .before .loop in sym (sent-end (a .path .now) (a .r) (a .c) (a .n) (l .a) (l .flow) (omega arith)) ∙ l .inv .4
 

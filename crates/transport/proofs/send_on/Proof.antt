@@ -20,100 +20,76 @@ forward-cell d = let h = d .before .before .before .before .pre .3 .fromRow (ome
 back-cell : (d : tie.After-place2) → d .place2 .result < d .before .before .before .before .before .args .r * d .before .before .before .before .before .args .c
 back-cell d = let h = d .before .before .before .before .before .pre .3 .fromColumn (omega arith) in let q = d .before .before .before .before .before .pre .3 .toRow (omega arith) (d .before .if3 .left) in rw (d .place2 .ensures) (digits-lt (omega arith) (omega arith))
 
--- src/lib.rt:388:9
 returns : tie.Need-returns
 returns c = let a = c .before .before .args in sent-source (a .r) (a .c) (a .n) (a .u) (a .v) (a .flow .now) (c .if1 .taken)
 
--- src/lib.rt:391:23
 sub-place : tie.Need-sub-place
 sub-place c = search needs
 
--- src/lib.rt:391:30
 sub-place-2 : tie.Need-sub-place-2
 sub-place-2 c = let h = c .before .before .before .pre .3 .fromRow (omega arith) (c .if2 .taken) in search needs
 
--- src/lib.rt:391:30
 sub-place-3 : tie.Need-sub-place-3
 sub-place-3 c = let h = c .before .before .before .pre .3 .fromRow (omega arith) (c .if2 .taken) in search needs
 
--- src/lib.rt:391:13
 place-requires : tie.Need-place-requires
 place-requires c κs = let h = c .before .before .before .pre .3 .fromRow (omega arith) (c .if2 .taken) in (omega arith, omega arith, omega arith)
 
--- src/lib.rt:392:17
 mul-x : tie.Need-mul-x
 mul-x c = let h = forward-cell c in search needs
 
--- src/lib.rt:392:17
 slice-read-x : tie.Need-slice-read-x
 slice-read-x c = let h = forward-cell (c .before) in search needs
 
--- src/lib.rt:392:17
 add-x : tie.Need-add-x
 add-x c = record { fits = c .before .before .before .before .before .pre .4 (c .before .place .result) (forward-cell (c .before)) }
 
--- src/lib.rt:393:9
 put-flow-requires : tie.Need-put-flow-requires
 put-flow-requires c κs = let h = forward-cell (c .before .before) in search needs
 
--- src/lib.rt:394:9
 same-length : tie.Need-same-length
 same-length c = search needs
 
--- src/lib.rt:394:9
 returns-2 : tie.Need-returns-2
 returns-2 c = let a = c .before .before .before .before .before .before .before .before .before .args in
     c .before .before .put-flow .ensures ∙ ap (λ (k : ℕ). set (a .flow .now) k (getD (a .flow .now) k 0 + a .n)) (c .before .before .before .before .before .place .ensures) ∙ sent-row (a .r) (a .c) (a .n) (a .u) (a .v) (a .flow .now) (c .before .before .before .before .before .before .before .if1 .left) (c .before .before .before .before .before .before .if2 .taken)
 
--- src/lib.rt:396:13
 add-if3 : tie.Need-add-if3
 add-if3 c = search needs
 
--- src/lib.rt:396:13
 add-if3-2 : tie.Need-add-if3-2
 add-if3-2 c = search needs
 
--- src/lib.rt:397:9
 returns-3 : tie.Need-returns-3
 returns-3 c = let a = c .before .before .before .before .args in sent-sink (a .r) (a .c) (a .n) (a .u) (a .v) (a .flow .now) (c .before .before .if1 .left) (omega arith) (c .if3 .taken)
 
--- src/lib.rt:399:19
 sub-place-4 : tie.Need-sub-place-4
 sub-place-4 c = let h = c .before .before .before .before .pre .3 .fromColumn (omega arith) in let q = c .before .before .before .before .pre .3 .toRow (omega arith) (c .if3 .left) in search needs
 
--- src/lib.rt:399:26
 sub-place-5 : tie.Need-sub-place-5
 sub-place-5 c = search needs
 
--- src/lib.rt:399:26
 sub-place-6 : tie.Need-sub-place-6
 sub-place-6 c = search needs
 
--- src/lib.rt:399:9
 place-requires-2 : tie.Need-place-requires-2
 place-requires-2 c κs = let h = c .before .before .before .before .pre .3 .fromColumn (omega arith) in let q = c .before .before .before .before .pre .3 .toRow (omega arith) (c .if3 .left) in (omega arith, omega arith, omega arith)
 
--- src/lib.rt:400:18
 mul-less : tie.Need-mul-less
 mul-less c = let h = back-cell c in search needs
 
--- src/lib.rt:400:18
 slice-read-less : tie.Need-slice-read-less
 slice-read-less c = let h = back-cell (c .before) in search needs
 
--- src/lib.rt:400:9
 less-requires : tie.Need-less-requires
 less-requires c κs = search needs
 
--- src/lib.rt:401:5
 put-flow-requires-2 : tie.Need-put-flow-requires-2
 put-flow-requires-2 c κs = let h = back-cell (c .before .before .before) in search needs
 
--- src/lib.rt:383:1
 same-length-2 : tie.Need-same-length-2
 same-length-2 c = search needs
 
--- src/lib.rt:383:1
 returns-4 : tie.Need-returns-4
 returns-4 c = let a = c .before .before .before .before .before .before .before .before .before .before .before .args in
     c .before .before .put-flow2 .ensures ∙ ap (λ (x : ℕ). set (a .flow .now) (c .before .before .before .before .before .before .place2 .result) x) (c .before .before .before .before .less .ensures) ∙ ap (λ (k : ℕ). set (a .flow .now) k (getD (a .flow .now) k 0 - a .n)) (c .before .before .before .before .before .before .place2 .ensures) ∙ sent-back (a .r) (a .c) (a .n) (a .u) (a .v) (a .flow .now) (c .before .before .before .before .before .before .before .before .before .if1 .left) (omega arith) (c .before .before .before .before .before .before .before .if3 .left)

@@ -9,31 +9,24 @@ use Rattle.transport.proofs.shaped.Tie as tie
 use Rattle.transport.proofs.shaped.Reads as reads
 use Rattle.transport.proofs.shaped.Lts as lts
 
--- src/lib.rt:772:9
 returns : tie.Need-returns
 returns c = rw (lt-leb (c .before .args .r) 65 (omega arith)) refl
 
--- src/lib.rt:775:9
 returns-2 : tie.Need-returns-2
 returns-2 c = rw (le-leb (c .before .before .args .r) 65 (omega arith), lt-leb (c .before .before .args .c) 65 (omega arith)) refl
 
--- src/lib.rt:777:13
 mul-n : tie.Need-mul-n
 mul-n c = let h = cells-fit (c .before .before .args .r) (c .before .before .args .c) (omega arith) (omega arith) in search needs
 
--- src/lib.rt:779:9
 returns-3 : tie.Need-returns-3
 returns-3 c = rw (le-leb (c .before .before .before .args .r) 65 (omega arith), le-leb (c .before .before .before .args .c) 65 (omega arith), ne-eqb (c .before .before .before .args .s) (c .before .before .before .args .r * c .before .before .before .args .c) (c .if3 .taken)) refl
 
--- src/lib.rt:782:9
 returns-4 : tie.Need-returns-4
 returns-4 c = rw (le-leb (c .before .before .before .before .args .r) 65 (omega arith), le-leb (c .before .before .before .before .args .c) 65 (omega arith), eq-eqb (c .before .before .before .before .args .s) (c .before .before .before .before .args .r * c .before .before .before .before .args .c) (c .before .if3 .left), ne-eqb (c .before .before .before .before .args .m) (c .before .before .before .before .args .r * c .before .before .before .before .args .c) (c .if4 .taken)) refl
 
--- src/lib.rt:785:9
 returns-5 : tie.Need-returns-5
 returns-5 c = rw (le-leb (c .before .before .before .before .before .args .r) 65 (omega arith), le-leb (c .before .before .before .before .before .args .c) 65 (omega arith), eq-eqb (c .before .before .before .before .before .args .s) (c .before .before .before .before .before .args .r * c .before .before .before .before .before .args .c) (c .before .before .if3 .left), eq-eqb (c .before .before .before .before .before .args .m) (c .before .before .before .before .before .args .r * c .before .before .before .before .before .args .c) (c .before .if4 .left), ne-eqb (c .before .before .before .before .before .args .a) (c .before .before .before .before .before .args .r * c .before .before .before .before .before .args .c) (c .if5 .taken)) refl
 
--- src/lib.rt:768:1
 returns-6 : tie.Need-returns-6
 returns-6 c = rw (le-leb (c .before .before .before .before .before .args .r) 65 (omega arith), le-leb (c .before .before .before .before .before .args .c) 65 (omega arith), eq-eqb (c .before .before .before .before .before .args .s) (c .before .before .before .before .before .args .r * c .before .before .before .before .before .args .c) (c .before .before .if3 .left), eq-eqb (c .before .before .before .before .before .args .m) (c .before .before .before .before .before .args .r * c .before .before .before .before .before .args .c) (c .before .if4 .left), eq-eqb (c .before .before .before .before .before .args .a) (c .before .before .before .before .before .args .r * c .before .before .before .before .before .args .c) (c .if5 .left)) refl
 

@@ -11,54 +11,43 @@ use Rattle.transport.proofs.empty_plan.Reads as empty-plan-reads
 use Rattle.transport.proofs.solve_even.Reads as solve-even-reads
 use Rattle.transport.proofs.total.Reads as total-reads
 
--- src/lib.rt:748:9
 total-requires : tie.Need-total-requires
 total-requires c κs = search needs
 
--- src/lib.rt:749:9
 total-requires-2 : tie.Need-total-requires-2
 total-requires-2 c κs = search needs
 
--- src/lib.rt:751:9
 returns : tie.Need-returns
 returns c =
     let a = c .before .before .before .before .before .before .before .before .before .before .args in
     none-row (a .supply .now) (a .demand .now) (a .sizes .now) (a .masses .now) (a .allowed .now) (a .costs .now) (a .flow .now) (c .if1 .taken)
 
--- src/lib.rt:754:9
 returns-2 : tie.Need-returns-2
 returns-2 c =
     let a = c .before .before .before .before .before .before .before .before .before .before .before .args in
     none-column (a .supply .now) (a .demand .now) (a .sizes .now) (a .masses .now) (a .allowed .now) (a .costs .now) (a .flow .now) (c .if2 .taken)
 
--- src/lib.rt:757:9
 solve-even-requires : tie.Need-solve-even-requires
 solve-even-requires c κs = search needs
 
--- src/lib.rt:757:9
 same-length : tie.Need-same-length
 same-length c = search needs
 
--- src/lib.rt:757:9
 same-length-2 : tie.Need-same-length-2
 same-length-2 c = search needs
 
--- src/lib.rt:757:9
 returns-3 : tie.Need-returns-3
 returns-3 c =
     search needs
 
--- src/lib.rt:759:5
 empty-plan-requires : tie.Need-empty-plan-requires
 empty-plan-requires c κs =
     let Z = c .before .before .before .before .before .before .before .before .before .before .before .before .before .pre in
     omega (arith, Z .sizesLong, Z .flowLong)
 
--- src/lib.rt:736:1
 same-length-3 : tie.Need-same-length-3
 same-length-3 c = search needs
 
--- src/lib.rt:736:1
 returns-4 : tie.Need-returns-4
 returns-4 c =
     let a = c .before .before .before .before .before .before .before .before .before .before .before .before .before .before .before .before .args in

@@ -31,39 +31,31 @@ begun d =
     let q = d .before .before .before .before .before .before .before .largest-mass .ensures .0 (a .sizes .now) in
     (start-of (a .supply .now) (a .demand .now) (a .sizes .now) (a .masses .now) (a .allowed .now) (a .costs .now) (a .flow .now) Z s (a .f) w g y (d .before .before .before .before .before .before .before .before .before .before .before .before .before .before .before .pre .1) v q (d .before .before .before .before .before .before .weight .ensures .0) (d .before .before .before .before .lay .ensures .0) E, start-problem (a .supply .now) (a .demand .now) (a .sizes .now) (a .masses .now) (a .allowed .now) (a .costs .now) (a .flow .now) Z s (a .f) w g y (d .before .before .before .before .before .before .before .before .before .before .before .before .before .before .before .pre .1) v q (d .before .before .before .before .before .before .weight .ensures .0) (d .before .before .before .before .lay .ensures .0) E)
 
--- src/lib.rt:725:23
 largest-mass-requires : tie.Need-largest-mass-requires
 largest-mass-requires c κs = search needs
 
--- src/lib.rt:725:9
 weight-requires : tie.Need-weight-requires
 weight-requires c κs = search needs
 
--- src/lib.rt:726:5
 lay-requires : tie.Need-lay-requires
 lay-requires c κs = search needs
 
--- src/lib.rt:727:5
 empty-plan-requires : tie.Need-empty-plan-requires
 empty-plan-requires c κs =
     let Z = c .before .before .before .before .before .before .before .before .before .before .before .before .before .before .pre .0 in
     omega (arith, Z .sizesLong, Z .flowLong)
 
--- src/lib.rt:728:8
 send-all-requires : tie.Need-send-all-requires
 send-all-requires c κs =
     let Z = c .before .before .before .before .before .before .before .before .before .before .before .before .before .before .before .before .before .before .before .pre .0 in
     (Z .rows, Z .columns, omega (arith, c .before .before .before .before .before .before .before .before .lay .ensures .0 .size, Z .sizesLong), omega (arith, Z .flowLong), c .before .before .before .before .before .before .before .before .before .before .before .before .before .before .before .before .before .before .before .pre .1, begun (c .before .before .before .before) .0)
 
--- src/lib.rt:729:9
 same-length : tie.Need-same-length
 same-length c = search needs
 
--- src/lib.rt:729:9
 same-length-2 : tie.Need-same-length-2
 same-length-2 c = search needs
 
--- src/lib.rt:729:9
 returns : tie.Need-returns
 returns c =
     let a = c .before .before .before .before .before .before .before .before .before .before .before .before .before .before .before .before .before .before .before .before .before .before .before .args in
@@ -78,21 +70,17 @@ returns c =
     let k = c .before .before .before .send-all .ensures .1 ∙ ap (λ (n : ℕ). drop n (d .empty-plan .last .0)) (sym (r .0 .sizesLong)) ∙ over-rest (a .flow .now) (d .empty-plan .last .0) (length (a .sizes .now)) (d .empty-plan .ensures) ∙ ap (λ (n : ℕ). drop n (a .flow .now)) (r .0 .sizesLong) in
     solved-plan (a .supply .now) (a .demand .now) (a .sizes .now) (a .masses .now) (a .allowed .now) (a .costs .now) (a .flow .now) (r .0) (r .4) (r .5) (sym (r .1) ∙ r .3) w g ew (d .before .before .before .before .lay .ensures .1) y k (omega (arith, r .0 .flowLong)) (rw (c .if1 .taken) at P)
 
--- src/lib.rt:731:5
 empty-plan-requires-2 : tie.Need-empty-plan-requires-2
 empty-plan-requires-2 c κs =
     let Z = c .before .before .before .before .before .before .before .before .before .before .before .before .before .before .before .before .before .before .before .before .before .before .before .before .pre .0 in
     omega (arith, Z .sizesLong, Z .flowLong)
 
--- src/lib.rt:712:1
 same-length-3 : tie.Need-same-length-3
 same-length-3 c = search needs
 
--- src/lib.rt:712:1
 same-length-4 : tie.Need-same-length-4
 same-length-4 c = search needs
 
--- src/lib.rt:712:1
 returns-2 : tie.Need-returns-2
 returns-2 c =
     let a = c .before .before .before .before .before .before .before .before .before .before .before .before .before .before .before .before .before .before .before .before .before .before .before .before .before .before .before .args in

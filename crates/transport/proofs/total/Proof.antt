@@ -18,39 +18,30 @@ Inv-loop s t₀ i₀ t i = (i ≤ length s) × (t + sum (drop i s) ≡ sum s) ×
 abbrev μ-loop : tie.MeasureT-loop
 μ-loop s t₀ i₀ t i = length s - i
 
--- src/lib.rt:566:5
 loop-holds : tie.Need-loop-holds Inv-loop μ-loop
 loop-holds c = (omega arith, sum-start (c .before .args .s .now), omega arith)
 
--- src/lib.rt:567:21
 mul-wide32 : tie.Need-mul-wide32 Inv-loop μ-loop
 mul-wide32 c = search needs
 
--- src/lib.rt:567:21
 shared-slice-read-wide32 : tie.Need-shared-slice-read-wide32 Inv-loop μ-loop
 shared-slice-read-wide32 c = search needs
 
--- src/lib.rt:567:14
 wide32-requires : tie.Need-wide32-requires Inv-loop μ-loop
 wide32-requires c κs = search needs
 
--- src/lib.rt:567:9
 add-t : tie.Need-add-t Inv-loop μ-loop
 add-t c = let l = c .before .before .before .loop in let w = c .wide32 .ensures .1 in record { fits = omega arith }
 
--- src/lib.rt:568:9
 add-i : tie.Need-add-i Inv-loop μ-loop
 add-i c = search needs
 
--- src/lib.rt:566:5
 loop-less : tie.Need-loop-less Inv-loop μ-loop
 loop-less c = search needs
 
--- src/lib.rt:566:5
 loop-again : tie.Need-loop-again Inv-loop μ-loop
 loop-again c = let l = c .before .before .before .loop in let s = c .before .before .before .before .before .args .s .now in (omega arith, (rw (c .wide32 .ensures .0) (sum-next s (l .i) (l .t) (omega arith) (l .inv .1))), omega (arith, c .wide32 .ensures .1))
 
--- src/lib.rt:560:1
 returns : tie.Need-returns Inv-loop μ-loop
 returns c = let l = c .before .loop in let s = c .before .before .before .args .s .now in let e = sum-end s (l .i) (l .t) (omega arith) (l .inv .1) in (e, omega arith)
 

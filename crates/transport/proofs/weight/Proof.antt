@@ -8,15 +8,12 @@ use Rattle.transport.proofs.weight.Reads as reads
 use Rattle.transport.proofs.weight.Lts as lts
 use Rattle.wide.proofs.Wide.weight.Reads as weight-reads
 
--- src/lib.rt:685:21
 cast-weight : tie.Need-cast-weight
 cast-weight c = search needs
 
--- src/lib.rt:685:5
 weight-requires : tie.Need-weight-requires
 weight-requires c κs = search needs
 
--- src/lib.rt:681:1
 returns : tie.Need-returns
 returns c = let a = c .before .args in weight-is (a .f) (a .v) (c .weight .result) (c .before .pre .0) (c .before .pre .1) (omega arith) (omega arith) (c .weight .ensures)
 

@@ -5,31 +5,24 @@ use Rattle.turns.specs.Cells.{some-column, row-in, column-in, cell-is, w
 use Rattle.turns.proofs.cell.Statement.{statement}
 use Rattle.turns.proofs.cell.Tie as tie
 
--- src/lib.rt:82:41
 div-class-at : tie.Need-div-class-at
 div-class-at c = let b = c .before .before .args in omega (arith, some-column (b .rows) (b .cols) (b .k) (c .before .before .pre .4))
 
--- src/lib.rt:82:17
 class-at-requires : tie.Need-class-at-requires
 class-at-requires c κs = let b = c .before .before in let h = row-in (b .args .rows) (b .args .cols) (b .args .k) (b .pre .4) in (b .pre .0, omega (arith, h, b .pre .2))
 
--- src/lib.rt:82:9
 num-requires : tie.Need-num-requires
 num-requires c κs = search needs
 
--- src/lib.rt:83:42
 rem-class-at : tie.Need-rem-class-at
 rem-class-at c = let b = c .before .before .before .before .args in omega (arith, some-column (b .rows) (b .cols) (b .k) (c .before .before .before .before .pre .4))
 
--- src/lib.rt:83:17
 class-at-requires-2 : tie.Need-class-at-requires-2
 class-at-requires-2 c κs = let b = c .before .before .before .before in let h = column-in (b .args .rows) (b .args .cols) (b .args .k) (b .pre .4) in (b .pre .1, omega (arith, h, b .pre .3))
 
--- src/lib.rt:83:9
 num-requires-2 : tie.Need-num-requires-2
 num-requires-2 c κs = search needs
 
--- src/lib.rt:78:1
 returns : tie.Need-returns
 returns c =
     let b = c .before .before .before .before .before .before in

@@ -8,23 +8,18 @@ use Rattle.turns.specs.Better.{high-not, low-not, words-one, better-word
 use Rattle.turns.proofs.cheaper.Statement.{statement}
 use Rattle.turns.proofs.cheaper.Tie as tie
 
--- src/lib.rt:137:9
 returns : tie.Need-returns
 returns c = let a = c .before .before .args in (high-not (a .size) (a .mass) (a .b .size) (a .b .mass) (omega arith) (omega arith), λ e. false-true e)
 
--- src/lib.rt:140:9
 returns-2 : tie.Need-returns-2
 returns-2 c = let a = c .before .before .before .before .args in (low-not (a .size) (a .mass) (a .b .size) (a .b .mass) (omega arith), λ e. false-true e)
 
--- src/lib.rt:142:21
 add-better : tie.Need-add-better
 add-better c = search needs
 
--- src/lib.rt:142:5
 better-requires : tie.Need-better-requires
 better-requires c κs = search needs
 
--- src/lib.rt:131:1
 returns-3 : tie.Need-returns-3
 returns-3 c =
     let b = c .before .before .before .before .before .before in let a = b .args in

@@ -7,47 +7,36 @@ use Rattle.turns.specs.Ending.{takes-full, takes-to}
 use Rattle.turns.proofs.end_turn.Statement.{statement}
 use Rattle.turns.proofs.end_turn.Tie as tie
 
--- src/lib.rt:661:9
 turn-term-requires : tie.Need-turn-term-requires
 turn-term-requires c κs = search needs
 
--- src/lib.rt:663:26
 enum-told : tie.Need-enum-told
 enum-told c = search needs
 
--- src/lib.rt:664:27
 enum-told-2 : tie.Need-enum-told-2
 enum-told-2 c = search needs
 
--- src/lib.rt:665:23
 enum-known-e : tie.Need-enum-known-e
 enum-known-e c = search needs
 
--- src/lib.rt:666:19
 short-requires : tie.Need-short-requires
 short-requires c κs = search needs
 
--- src/lib.rt:667:19
 short-requires-2 : tie.Need-short-requires-2
 short-requires-2 c κs = search needs
 
--- src/lib.rt:669:22
 changed-requires : tie.Need-changed-requires
 changed-requires c κs = search needs
 
--- src/lib.rt:640:1
 same-length : tie.Need-same-length
 same-length c = search needs
 
--- src/lib.rt:640:1
 same-length-2 : tie.Need-same-length-2
 same-length-2 c = search needs
 
--- src/lib.rt:640:1
 same-length-3 : tie.Need-same-length-3
 same-length-3 c = search needs
 
--- src/lib.rt:640:1
 returns : tie.Need-returns
 returns c =
     let b = c .before .before .before .before .before .before .before .before .before .before .before .before .before .before .before .before .before .before in
@@ -59,37 +48,29 @@ returns c =
     let d = rw (c .enum-told .given .1) at (the-turn-term .ensures) in
     (takes-full t q of (a .l, a .r) (a .terms .now) (a .runs .now) _ _ _ _ (a .best) (b .pre .8) E.Full d refl, d .listIs)
 
--- src/lib.rt:640:1
 same-length-4 : tie.Need-same-length-4
 same-length-4 c = search needs
 
--- src/lib.rt:640:1
 same-length-5 : tie.Need-same-length-5
 same-length-5 c = search needs
 
--- src/lib.rt:640:1
 same-length-6 : tie.Need-same-length-6
 same-length-6 c = search needs
 
--- src/lib.rt:640:1
 returns-2 : tie.Need-returns-2
 returns-2 c =
     let u = rw (c .enum-told2 .given .1) at (c .before .before .before .before .before .before .before .before .turn-term .ensures) in
     (λ h w. u .0 w, u .1)
 
--- src/lib.rt:640:1
 same-length-7 : tie.Need-same-length-7
 same-length-7 c = search needs
 
--- src/lib.rt:640:1
 same-length-8 : tie.Need-same-length-8
 same-length-8 c = search needs
 
--- src/lib.rt:640:1
 same-length-9 : tie.Need-same-length-9
 same-length-9 c = search needs
 
--- src/lib.rt:640:1
 returns-3 : tie.Need-returns-3
 returns-3 c =
     let b = c .before .before .before .before .before .before .before .before .before .before .before .before .before .before .before .before .before .before .before .before .before .before in

@@ -4,35 +4,27 @@ use Rattle.terms.specs.ShortLaws.{unless-map}
 use Rattle.turns.proofs.intern_action.Statement.{statement}
 use Rattle.turns.proofs.intern_action.Tie as tie
 
--- src/lib.rt:554:42
 kind-requires : tie.Need-kind-requires
 kind-requires c κs = search needs
 
--- src/lib.rt:554:9
 is-commutative-requires : tie.Need-is-commutative-requires
 is-commutative-requires c κs = search needs
 
--- src/lib.rt:555:55
 low-requires : tie.Need-low-requires
 low-requires c κs = search needs
 
--- src/lib.rt:555:5
 intern-action-result-requires : tie.Need-intern-action-result-requires
 intern-action-result-requires c κs = let b = c .before .before .before .before .before .before .before .before .before .before in (b .pre .3, b .pre .4, b .pre .5, b .pre .6, omega (arith, c .low .ensures, b .pre .2))
 
--- src/lib.rt:542:1
 same-length : tie.Need-same-length
 same-length c = search needs
 
--- src/lib.rt:542:1
 same-length-2 : tie.Need-same-length-2
 same-length-2 c = search needs
 
--- src/lib.rt:542:1
 same-length-3 : tie.Need-same-length-3
 same-length-3 c = search needs
 
--- src/lib.rt:542:1
 returns : tie.Need-returns
 returns c =
     let b = c .before .before .before .before .before .before .before .before .before .before .before .before .before .before .before .before .before in

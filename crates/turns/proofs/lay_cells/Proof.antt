@@ -19,11 +19,9 @@ Inv-loop index pairs n left rows right cols sizes₀ masses₀ count k₀ sizes 
 abbrev μ-loop : tie.MeasureT-loop
 μ-loop index pairs n left rows right cols sizes₀ masses₀ count k₀ sizes masses k = count - k
 
--- src/lib.rt:104:17
 mul-count : tie.Need-mul-count Inv-loop μ-loop
 mul-count c = let b = c .before .before .before .before .before .before in record { fits = omega (arith, cells-fit (b .args .rows) (b .args .cols) (b .pre .3) (b .pre .4)) }
 
--- src/lib.rt:106:5
 loop-holds : tie.Need-loop-holds Inv-loop μ-loop
 loop-holds c =
     let b = c .before .before .before .before .before .before in
@@ -32,41 +30,33 @@ loop-holds c =
     let m = pairOf (held (a .rows) (a .left .now)) (held (a .cols) (a .right .now)) in
     (omega arith, refl, cells-fit (a .rows) (a .cols) (b .pre .3) (b .pre .4), laid-none (sizesAt q m) (a .sizes .now), laid-none (massesAt q m) (a .masses .now))
 
--- src/lib.rt:107:13
 cell-requires : tie.Need-cell-requires Inv-loop μ-loop
 cell-requires c κs = let b = c .before .before .before .before .before .before .before .before in (b .pre .1, b .pre .2, b .pre .3, b .pre .4, omega (arith, c .before .loop .inv .1, c .loop-test .taken))
 
--- src/lib.rt:108:24
 size-of-requires : tie.Need-size-of-requires Inv-loop μ-loop
 size-of-requires c κs =
     let b = c .before .before .before .before .before .before .before .before .before .before in
     let a = b .args in
     let j = cell-joined (pairOf (held (a .rows) (a .left .now)) (held (a .cols) (a .right .now))) (b .pre .5) (c .before .before .before .loop .k) (omega (arith, c .before .before .before .loop .inv .1, c .before .before .loop-test .taken, (cell-count (a .left .now) (a .right .now) (a .rows) (a .cols) (c .before .before .before .loop .k) (b .pre .1) (b .pre .2) (b .pre .3) (b .pre .4) (omega (arith, c .before .before .before .loop .inv .1, c .before .before .loop-test .taken))))) (c .before .cell .result .left) (c .before .cell .result .right) (c .before .cell .ensures) in (b .pre .0, j)
 
--- src/lib.rt:108:9
 put4-requires : tie.Need-put4-requires Inv-loop μ-loop
 put4-requires c κs = let b = c .before .before .before .before .before .before .before .before .before .before .before in let a = b .args in omega (arith, c .before .before .before .before .loop .inv .1, c .before .before .before .before .loop .inv .3 .long, b .pre .6, c .before .before .before .loop-test .taken)
 
--- src/lib.rt:109:25
 mass-of-requires : tie.Need-mass-of-requires Inv-loop μ-loop
 mass-of-requires c κs =
     let b = c .before .before .before .before .before .before .before .before .before .before .before .before .before .before .before in
     let a = b .args in
     let j = cell-joined (pairOf (held (a .rows) (a .left .now)) (held (a .cols) (a .right .now))) (b .pre .5) (c .before .before .before .before .before .before .before .before .loop .k) (omega (arith, c .before .before .before .before .before .before .before .before .loop .inv .1, c .before .before .before .before .before .before .before .loop-test .taken, (cell-count (a .left .now) (a .right .now) (a .rows) (a .cols) (c .before .before .before .before .before .before .before .before .loop .k) (b .pre .1) (b .pre .2) (b .pre .3) (b .pre .4) (omega (arith, c .before .before .before .before .before .before .before .before .loop .inv .1, c .before .before .before .before .before .before .before .loop-test .taken))))) (c .before .before .before .before .before .before .cell .result .left) (c .before .before .before .before .before .before .cell .result .right) (c .before .before .before .before .before .before .cell .ensures) in (b .pre .0, j)
 
--- src/lib.rt:109:9
 put4-requires-2 : tie.Need-put4-requires-2 Inv-loop μ-loop
 put4-requires-2 c κs = let b = c .before .before .before .before .before .before .before .before .before .before .before .before .before .before .before .before in let a = b .args in omega (arith, c .before .before .before .before .before .before .before .before .before .loop .inv .1, c .before .before .before .before .before .before .before .before .before .loop .inv .4 .long, b .pre .7, c .before .before .before .before .before .before .before .before .loop-test .taken)
 
--- src/lib.rt:110:9
 add-k : tie.Need-add-k Inv-loop μ-loop
 add-k c = record { fits = omega (arith, c .before .before .before .before .before .before .before .before .before .before .before .before .loop .inv .2, c .before .before .before .before .before .before .before .before .before .before .before .loop-test .taken) }
 
--- src/lib.rt:106:5
 loop-less : tie.Need-loop-less Inv-loop μ-loop
 loop-less c = search needs
 
--- src/lib.rt:106:5
 loop-again : tie.Need-loop-again Inv-loop μ-loop
 loop-again c =
     let b = c .before .before .before .before .before .before .before .before .before .before .before .before .before .before .before .before .before .before .before in
@@ -87,15 +77,12 @@ loop-again c =
           (cell-value (λ p. q p .1) (cellPairs m) (c .before .before .before .before .before .before .before .before .before .before .before .before .loop .k) l (c .before .before .before .before .before .before .before .before .before .before .cell .result .left) (c .before .before .before .before .before .before .before .before .before .before .cell .result .right) (c .before .before .before .before .before .before .before .before .before .before .cell .ensures) (c .before .before .before .mass-of .result) (c .before .before .before .mass-of .ensures)) (c .before .before .before .before .before .before .before .before .before .before .before .before .loop .inv .4)),
     )
 
--- src/lib.rt:88:1
 same-length : tie.Need-same-length Inv-loop μ-loop
 same-length c = c .before .loop .inv .3 .long
 
--- src/lib.rt:88:1
 same-length-2 : tie.Need-same-length-2 Inv-loop μ-loop
 same-length-2 c = c .before .loop .inv .4 .long
 
--- src/lib.rt:88:1
 returns : tie.Need-returns Inv-loop μ-loop
 returns c =
     let b = c .before .before .before .before .before .before .before .before in

@@ -14,31 +14,24 @@ Inv-loop mono n margin₀ i₀ margin i = (i ≤ n) × Laid (counts (held n mono
 abbrev μ-loop : tie.MeasureT-loop
 μ-loop mono n margin₀ i₀ margin i = n - i
 
--- src/lib.rt:65:5
 loop-holds : tie.Need-loop-holds Inv-loop μ-loop
 loop-holds c = let b = c .before .before in (omega arith, laid-none (counts (held (b .args .n) (b .args .mono .now))) (b .args .margin .now))
 
--- src/lib.rt:66:31
 count-at-requires : tie.Need-count-at-requires Inv-loop μ-loop
 count-at-requires c κs = search needs
 
--- src/lib.rt:66:25
 short-requires : tie.Need-short-requires Inv-loop μ-loop
 short-requires c κs = let b = c .before .before .before .before .before .before in rw (c .count-at .ensures) (counts-fit (b .args .mono .now) (b .args .n) (b .pre .0) (b .pre .1) (b .pre .2) (c .before .before .before .loop .i) (omega (arith, c .before .before .loop-test .taken)))
 
--- src/lib.rt:66:9
 put4-requires : tie.Need-put4-requires Inv-loop μ-loop
 put4-requires c κs = let b = c .before .before .before .before .before .before .before in omega (arith, c .before .before .before .before .loop .inv .1 .long, b .pre .3, b .pre .1, c .before .before .before .loop-test .taken)
 
--- src/lib.rt:67:9
 add-i : tie.Need-add-i Inv-loop μ-loop
 add-i c = search needs
 
--- src/lib.rt:65:5
 loop-less : tie.Need-loop-less Inv-loop μ-loop
 loop-less c = search needs
 
--- src/lib.rt:65:5
 loop-again : tie.Need-loop-again Inv-loop μ-loop
 loop-again c =
     let b = c .before .before .before .before .before .before .before .before .before .before in let a = b .args in (
@@ -48,11 +41,9 @@ loop-again c =
           (c .before .before .before .short .ensures ∙ c .before .before .before .before .count-at .ensures ∙ counts-at (a .mono .now) (a .n) (b .pre .0) (b .pre .1) (c .before .before .before .before .before .before .before .loop .i) (omega (arith, c .before .before .before .before .before .before .loop-test .taken))) (c .before .before .before .before .before .before .before .loop .inv .1)),
     )
 
--- src/lib.rt:60:1
 same-length : tie.Need-same-length Inv-loop μ-loop
 same-length c = c .before .loop .inv .1 .long
 
--- src/lib.rt:60:1
 returns : tie.Need-returns Inv-loop μ-loop
 returns c =
     let b = c .before .before .before .before in let a = b .args in

@@ -6,39 +6,30 @@ use lib.ListN.{set}
 use Rattle.turns.proofs.list_cell.Statement.{statement}
 use Rattle.turns.proofs.list_cell.Tie as tie
 
--- src/lib.rt:159:9
 returns : tie.Need-returns
 returns c = rw (eq-eqb (c .before .before .before .before .args .x) 0 (c .if1 .taken)) (refl, refl)
 
--- src/lib.rt:161:19
 mul-put8 : tie.Need-mul-put8
 mul-put8 c = search needs
 
--- src/lib.rt:161:36
 term-of-requires : tie.Need-term-of-requires
 term-of-requires c κs = search needs
 
--- src/lib.rt:161:31
 num8-requires : tie.Need-num8-requires
 num8-requires c κs = search needs
 
--- src/lib.rt:161:19
 add-put8 : tie.Need-add-put8
 add-put8 c = search needs
 
--- src/lib.rt:161:5
 put8-requires : tie.Need-put8-requires
 put8-requires c κs = search needs
 
--- src/lib.rt:162:5
 add-result : tie.Need-add-result
 add-result c = search needs
 
--- src/lib.rt:146:1
 same-length : tie.Need-same-length
 same-length c = search needs
 
--- src/lib.rt:146:1
 returns-2 : tie.Need-returns-2
 returns-2 c =
     let a = c .before .before .before .before .before .before .before .before .before .before .args in

@@ -19,26 +19,21 @@ Inv-loop index pairs n left rows right cols x list₀ m₀ k₀ list m k = Liste
 abbrev μ-loop : tie.MeasureT-loop
 μ-loop index pairs n left rows right cols x list₀ m₀ k₀ list m k = length x - k
 
--- src/lib.rt:184:5
 loop-holds : tie.Need-loop-holds Inv-loop μ-loop
 loop-holds c =
     let b = c .before .before .before .before .before .before in
     let a = b .args in
     listed-none (termIn (a .index .now) (a .pairs .now)) (cellPairs (pairOf (held (a .rows) (a .left .now)) (held (a .cols) (a .right .now)))) (a .x .now) (a .list .now)
 
--- src/lib.rt:185:13
 cell-requires : tie.Need-cell-requires Inv-loop μ-loop
 cell-requires c κs = let b = c .before .before .before .before .before .before .before .before in let a = b .args in (b .pre .1, b .pre .2, b .pre .3, b .pre .4, omega (arith, b .pre .6, c .loop-test .taken))
 
--- src/lib.rt:186:43
 mul-list-cell : tie.Need-mul-list-cell Inv-loop μ-loop
 mul-list-cell c = search needs
 
--- src/lib.rt:186:43
 shared-slice-read-list-cell : tie.Need-shared-slice-read-list-cell Inv-loop μ-loop
 shared-slice-read-list-cell c = search needs
 
--- src/lib.rt:186:9
 list-cell-requires : tie.Need-list-cell-requires Inv-loop μ-loop
 list-cell-requires c κs =
     let b = c .before .before .before .before .before .before .before .before .before .before .before in
@@ -46,18 +41,15 @@ list-cell-requires c κs =
     let m = pairOf (held (a .rows) (a .left .now)) (held (a .cols) (a .right .now)) in
     let j = cell-joined m (b .pre .5) (c .before .before .before .before .loop .k) (omega (arith, b .pre .6, c .before .before .before .loop-test .taken, (cells-length m ∙ (λ i. held-length (a .left .now) (a .rows) (b .pre .1) (b .pre .3) i * held-length (a .right .now) (a .cols) (b .pre .2) (b .pre .4) i)))) (c .before .before .cell .result .left) (c .before .before .cell .result .right) (c .before .before .cell .ensures) in (b .pre .0, j, b .pre .7 (c .before .before .before .before .loop .k) (c .before .before .before .loop-test .taken), omega (arith, c .before .before .before .before .loop .inv .few, c .before .before .before .before .loop .inv .long, b .pre .8, b .pre .6, c .before .before .before .loop-test .taken))
 
--- src/lib.rt:187:9
 add-k : tie.Need-add-k Inv-loop μ-loop
 add-k c =
     let b = c .before .before .before .before .before .before .before .before .before .before .before .before .before .before in
     let a = b .args in
     record { fits = omega (arith, c .before .before .before .before .before .before .loop-test .taken, b .pre .6, cells-fit (a .rows) (a .cols) (b .pre .3) (b .pre .4)) }
 
--- src/lib.rt:184:5
 loop-less : tie.Need-loop-less Inv-loop μ-loop
 loop-less c = search needs
 
--- src/lib.rt:184:5
 loop-again : tie.Need-loop-again Inv-loop μ-loop
 loop-again c =
     let b = c .before .before .before .before .before .before .before .before .before .before .before .before .before .before in
@@ -66,11 +58,9 @@ loop-again c =
     let of = termIn (a .index .now) (a .pairs .now) in
     rw (c .before .before .list-cell .ensures .0, c .before .before .list-cell .ensures .1) (listed-more of (cellPairs m) (a .x .now) (a .list .now) (c .before .before .before .before .before .before .before .loop .k) (c .before .before .before .before .before .before .before .loop .m) (c .before .before .before .before .before .before .before .loop .list) (c .before .before .before .before .before .before .before .loop .inv) (omega (arith, b .pre .6, (cells-length m ∙ (λ i. held-length (a .left .now) (a .rows) (b .pre .1) (b .pre .3) i * held-length (a .right .now) (a .cols) (b .pre .2) (b .pre .4) i)))) (omega (arith, b .pre .6, b .pre .8)) (c .before .before .before .before .before .before .loop-test .taken) (getD (a .x .now) (c .before .before .before .before .before .before .before .loop .k) 0) (of (with (c .before .before .before .before .before .cell .result .left) (c .before .before .before .before .before .cell .result .right))) refl (ap of (c .before .before .before .before .before .cell .ensures)))
 
--- src/lib.rt:166:1
 same-length : tie.Need-same-length Inv-loop μ-loop
 same-length c = c .before .loop .inv .long
 
--- src/lib.rt:166:1
 returns : tie.Need-returns Inv-loop μ-loop
 returns c =
     let b = c .before .before .before .before .before .before .before .before in

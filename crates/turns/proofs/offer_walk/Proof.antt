@@ -9,35 +9,27 @@ use Rattle.turns.specs.Walking.{offers-none, offers-one, one-joined, fou
 use Rattle.turns.proofs.offer_walk.Statement.{statement}
 use Rattle.turns.proofs.offer_walk.Tie as tie
 
--- src/lib.rt:421:55
 slice-aggregate-monomials : tie.Need-slice-aggregate-monomials
 slice-aggregate-monomials c = search needs
 
--- src/lib.rt:421:66
 slice-aggregate-monomials-2 : tie.Need-slice-aggregate-monomials-2
 slice-aggregate-monomials-2 c = search needs
 
--- src/lib.rt:421:9
 monomials-requires : tie.Need-monomials-requires
 monomials-requires c κs = search needs
 
--- src/lib.rt:423:28
 enum-told : tie.Need-enum-told
 enum-told c = search needs
 
--- src/lib.rt:424:22
 enum-known-p : tie.Need-enum-known-p
 enum-known-p c = search needs
 
--- src/lib.rt:429:13
 slice-aggregate-offer-transport : tie.Need-slice-aggregate-offer-transport
 slice-aggregate-offer-transport c = search needs
 
--- src/lib.rt:431:13
 slice-aggregate-offer-transport-2 : tie.Need-slice-aggregate-offer-transport-2
 slice-aggregate-offer-transport-2 c = search needs
 
--- src/lib.rt:424:37
 offer-transport-requires : tie.Need-offer-transport-requires
 offer-transport-requires c κs =
     let b = c .before .before .before .before .before .before .before .before .before .before .before .before .before .before .before .before .before .before .before .before .before .before .before .before in
@@ -45,7 +37,6 @@ offer-transport-requires c κs =
     let t = tablesOf (a .s .now) in
     (b .pre .5, omega (arith, c .before .before .before .before .before .before .before .before .before .before .before .before .monomials .kept), omega (arith, c .before .before .before .before .before .before .before .before .before .before .before .before .monomials .kept), found-few t (a .l) (a .r) (a .w) _ _ _ _ (c .before .before .before .before .before .before .before .before .before .before .before .before .monomials .result) (c .before .before .before .before .before .before .before .before .before .before .before .before .monomials .ensures) (c .before .before .before .before .before .before .before .before .p .given .0 .0) (c .before .before .before .before .before .before .before .before .p .given .0 .1 .0) (c .before .before .before .before .before .before .before .before .p .given .1) .0, found-few t (a .l) (a .r) (a .w) _ _ _ _ (c .before .before .before .before .before .before .before .before .before .before .before .before .monomials .result) (c .before .before .before .before .before .before .before .before .before .before .before .before .monomials .ensures) (c .before .before .before .before .before .before .before .before .p .given .0 .0) (c .before .before .before .before .before .before .before .before .p .given .0 .1 .0) (c .before .before .before .before .before .before .before .before .p .given .1) .1, one-joined (actionsAt t (a .l) (a .r) (a .w)) _ (b .pre .6) (found-one t (a .l) (a .r) (a .w) _ _ _ _ (c .before .before .before .before .before .before .before .before .before .before .before .before .monomials .result) (c .before .before .before .before .before .before .before .before .before .before .before .before .monomials .ensures) (c .before .before .before .before .before .before .before .before .p .given .0 .0) (c .before .before .before .before .before .before .before .before .p .given .0 .1 .0) (c .before .before .before .before .before .before .before .before .p .given .1)), found-left t (a .l) (a .r) (a .w) _ _ _ _ (c .before .before .before .before .before .before .before .before .before .before .before .before .monomials .result) (c .before .before .before .before .before .before .before .before .before .before .before .before .monomials .ensures) (c .before .before .before .before .before .before .before .before .p .given .0 .0) (c .before .before .before .before .before .before .before .before .p .given .0 .1 .0) (c .before .before .before .before .before .before .before .before .p .given .1), found-right t (a .l) (a .r) (a .w) _ _ _ _ (c .before .before .before .before .before .before .before .before .before .before .before .before .monomials .result) (c .before .before .before .before .before .before .before .before .before .before .before .before .monomials .ensures) (c .before .before .before .before .before .before .before .before .p .given .0 .0) (c .before .before .before .before .before .before .before .before .p .given .0 .1 .0) (c .before .before .before .before .before .before .before .before .p .given .1), b .pre .7)
 
--- src/lib.rt:395:1
 returns : tie.Need-returns
 returns c =
     let b = c .before .before .before .before .before .before .before .before .before .before .before .before .before .before .before .before in
@@ -54,27 +45,21 @@ returns c =
     let t = tablesOf (a .s .now) in
     offers-none (qualityIn (a .index .now) (a .pairs .now)) (termIn (a .index .now) (a .pairs .now)) (actionsAt t (a .l) (a .r) (a .w)) (workOf (a .sizes .now) (a .masses .now) (a .costs .now) (a .flow .now) (a .list .now) (a .best)) (found-none t (a .l) (a .r) (a .w) _ _ _ _ (the-monomials .result) (the-monomials .ensures) (c .enum-told .given .1))
 
--- src/lib.rt:395:1
 same-length : tie.Need-same-length
 same-length c = search needs
 
--- src/lib.rt:395:1
 same-length-2 : tie.Need-same-length-2
 same-length-2 c = search needs
 
--- src/lib.rt:395:1
 same-length-3 : tie.Need-same-length-3
 same-length-3 c = search needs
 
--- src/lib.rt:395:1
 same-length-4 : tie.Need-same-length-4
 same-length-4 c = search needs
 
--- src/lib.rt:395:1
 same-length-5 : tie.Need-same-length-5
 same-length-5 c = search needs
 
--- src/lib.rt:395:1
 returns-2 : tie.Need-returns-2
 returns-2 c =
     let b = c .before .before .before .before .before .before .before .before .before .before .before .before .before .before .before .before .before .before .before .before .before .before .before .before .before .before .before .before .before .before .before .before .before .before .before in

@@ -13,53 +13,41 @@ Inv-loop x per t₀ i₀ t i = (i ≤ length x) × Summed x per i t
 abbrev μ-loop : tie.MeasureT-loop
 μ-loop x per t₀ i₀ t i = length x - i
 
--- src/lib.rt:122:5
 loop-holds : tie.Need-loop-holds Inv-loop μ-loop
 loop-holds c = let b = c .before .before in (omega arith, summed-none (b .args .x .now) (b .args .per .now))
 
--- src/lib.rt:123:17
 mul-y : tie.Need-mul-y Inv-loop μ-loop
 mul-y c = search needs
 
--- src/lib.rt:123:17
 shared-slice-read-y : tie.Need-shared-slice-read-y Inv-loop μ-loop
 shared-slice-read-y c = search needs
 
--- src/lib.rt:123:29
 mul-num8 : tie.Need-mul-num8 Inv-loop μ-loop
 mul-num8 c = search needs
 
--- src/lib.rt:123:29
 shared-slice-read-num8 : tie.Need-shared-slice-read-num8 Inv-loop μ-loop
 shared-slice-read-num8 c = search needs
 
--- src/lib.rt:123:24
 num8-requires : tie.Need-num8-requires Inv-loop μ-loop
 num8-requires c κs = search needs
 
--- src/lib.rt:123:17
 mul-y-2 : tie.Need-mul-y-2 Inv-loop μ-loop
 mul-y-2 c = let b = c .before .before .before .before .before .before .before in record { fits = product-fits (getD (b .args .x .now) (c .before .before .before .before .loop .i) 0) (c .num8 .result) (b .pre .2 (c .before .before .before .before .loop .i) (c .before .before .before .loop-test .taken)) (c .num8 .ensures .1) }
 
--- src/lib.rt:124:9
 wrapping-add-requires : tie.Need-wrapping-add-requires Inv-loop μ-loop
 wrapping-add-requires c κs = search needs
 
--- src/lib.rt:125:9
 add-i : tie.Need-add-i Inv-loop μ-loop
 add-i c = record { fits = omega (arith, c .before .before .before .before .loop-test .taken, c .before .before .before .before .before .before .before .before .pre .1) }
 
--- src/lib.rt:122:5
 loop-less : tie.Need-loop-less Inv-loop μ-loop
 loop-less c = search needs
 
--- src/lib.rt:122:5
 loop-again : tie.Need-loop-again Inv-loop μ-loop
 loop-again c =
     let b = c .before .before .before .before .before .before .before .before in let a = b .args in
     (omega arith, rw (c .wrapping-add .ensures) (summed-more (a .x .now) (a .per .now) (b .pre .0) (b .pre .1) (c .before .before .before .before .before .loop .i) (c .before .before .before .before .before .loop .t) (c .before .before .before .before .before .loop .inv .1) (getD (a .x .now) (c .before .before .before .before .before .loop .i) 0) (c .before .num8 .result) (c .before .before .before .before .loop-test .taken) refl (c .before .num8 .ensures .0) (b .pre .2 (c .before .before .before .before .before .loop .i) (c .before .before .before .before .loop-test .taken)) (c .before .num8 .ensures .1)))
 
--- src/lib.rt:116:1
 returns : tie.Need-returns Inv-loop μ-loop
 returns c = let b = c .before .before .before .before in let a = b .args in summed-all (a .x .now) (a .per .now) (b .pre .0) (b .pre .1) (c .before .loop .i) (c .before .loop .t) (c .before .loop .inv .1) (omega (arith, c .loop-test .left))
 

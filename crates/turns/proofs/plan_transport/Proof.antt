@@ -5,58 +5,45 @@ use Rattle.turns.specs.OfferLaws.{tried-is}
 use Rattle.turns.proofs.plan_transport.Statement.{statement}
 use Rattle.turns.proofs.plan_transport.Tie as tie
 
--- src/lib.rt:287:28
 slice-aggregate-lay-margin : tie.Need-slice-aggregate-lay-margin
 slice-aggregate-lay-margin c = search needs
 
--- src/lib.rt:287:5
 lay-margin-requires : tie.Need-lay-margin-requires
 lay-margin-requires c κs = search needs
 
--- src/lib.rt:288:29
 slice-aggregate-lay-margin-2 : tie.Need-slice-aggregate-lay-margin-2
 slice-aggregate-lay-margin-2 c = search needs
 
--- src/lib.rt:288:5
 lay-margin-requires-2 : tie.Need-lay-margin-requires-2
 lay-margin-requires-2 c κs = search needs
 
--- src/lib.rt:289:5
 lay-cells-requires : tie.Need-lay-cells-requires
 lay-cells-requires c κs = search needs
 
--- src/lib.rt:291:9
 slice-aggregate-solve : tie.Need-slice-aggregate-solve
 slice-aggregate-solve c = search needs
 
--- src/lib.rt:293:9
 slice-aggregate-solve-2 : tie.Need-slice-aggregate-solve-2
 slice-aggregate-solve-2 c = search needs
 
--- src/lib.rt:290:5
 solve-requires : tie.Need-solve-requires
 solve-requires c κs =
     let b = c .before .before .before .before .before .before .before .before .before .before .before .before .before .before .before .before .before .before .before .before .before .before .before .before .before .before .before .before in
     let a = b .args in
     (b .pre .3, b .pre .4, omega (arith, c .before .before .before .before .before .before .before .before .before .before .before .before .before .before .before .before .before .lay-margin .kept), omega (arith, c .before .before .before .before .before .before .before .before .before .before .before .before .before .before .lay-margin2 .kept), b .pre .9, omega (arith, c .before .before .before .before .before .before .before .before .before .before .lay-cells .kept, b .pre .10), omega (arith, c .before .before .before .before .before .before .before .before .before .before .lay-cells .kept, b .pre .11), b .pre .12, b .pre .13)
 
--- src/lib.rt:265:1
 same-length : tie.Need-same-length
 same-length c = search needs
 
--- src/lib.rt:265:1
 same-length-2 : tie.Need-same-length-2
 same-length-2 c = search needs
 
--- src/lib.rt:265:1
 same-length-3 : tie.Need-same-length-3
 same-length-3 c = search needs
 
--- src/lib.rt:265:1
 same-length-4 : tie.Need-same-length-4
 same-length-4 c = search needs
 
--- src/lib.rt:265:1
 returns : tie.Need-returns
 returns c =
     let b = c .before .before .before .before .before .before .before .before .before .before .before .before .before .before .before .before .before .before .before .before .before .before .before .before .before .before .before .before .before .before .before .before .before in

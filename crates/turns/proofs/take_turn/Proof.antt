@@ -9,19 +9,15 @@ use Rattle.turns.specs.Ending.{taken-map, turn-leaves}
 use Rattle.turns.proofs.take_turn.Statement.{statement}
 use Rattle.turns.proofs.take_turn.Tie as tie
 
--- src/lib.rt:699:9
 turn-requires : tie.Need-turn-requires
 turn-requires c κs = let b = c .before .before .before .before .before .before .before .before .before .before .before .before .before .before .before .before in (b .pre .0, b .pre .1, b .pre .2, b .pre .3, b .pre .4, b .pre .5, b .pre .8)
 
--- src/lib.rt:715:27
 enum-told : tie.Need-enum-told
 enum-told c = search needs
 
--- src/lib.rt:716:21
 enum-known-o : tie.Need-enum-known-o
 enum-known-o c = search needs
 
--- src/lib.rt:716:30
 end-turn-requires : tie.Need-end-turn-requires
 end-turn-requires c κs =
     let b = c .before .before .before .before .before .before .before .before .before .before .before .before .before .before .before .before .before .before .before .before .before .before .before .before .before .before .before .before .before .before .before .before .before in
@@ -30,61 +26,47 @@ end-turn-requires c κs =
     let u = rw (the-o .given .1) at (the-turn .ensures) in
     (b .pre .0, b .pre .1, b .pre .2, b .pre .3, b .pre .4, b .pre .6, b .pre .7, omega (arith, the-turn .kept, b .pre .5 .runsLong), u .0, u .2, u .3, b .pre .8)
 
--- src/lib.rt:675:1
 same-length : tie.Need-same-length
 same-length c = search needs
 
--- src/lib.rt:675:1
 same-length-2 : tie.Need-same-length-2
 same-length-2 c = search needs
 
--- src/lib.rt:675:1
 same-length-3 : tie.Need-same-length-3
 same-length-3 c = search needs
 
--- src/lib.rt:675:1
 same-length-4 : tie.Need-same-length-4
 same-length-4 c = search needs
 
--- src/lib.rt:675:1
 same-length-5 : tie.Need-same-length-5
 same-length-5 c = search needs
 
--- src/lib.rt:675:1
 returns : tie.Need-returns
 returns c =
     let u : 4225 ≤ length (c .before .before .before .before .before .before .before .before .before .before .before .before .before .before .before .before .before .before .before .before .before .before .before .before .before .before .before .before .before .args .sizes .now) → ⊥ = rw (c .enum-told .given .1) at (c .before .before .before .before .before .before .before .before .before .before .before .before .turn .ensures) in
     (λ h w. u h, (refl, refl))
 
--- src/lib.rt:675:1
 same-length-6 : tie.Need-same-length-6
 same-length-6 c = search needs
 
--- src/lib.rt:675:1
 same-length-7 : tie.Need-same-length-7
 same-length-7 c = search needs
 
--- src/lib.rt:675:1
 same-length-8 : tie.Need-same-length-8
 same-length-8 c = search needs
 
--- src/lib.rt:675:1
 same-length-9 : tie.Need-same-length-9
 same-length-9 c = search needs
 
--- src/lib.rt:675:1
 same-length-10 : tie.Need-same-length-10
 same-length-10 c = search needs
 
--- src/lib.rt:675:1
 same-length-11 : tie.Need-same-length-11
 same-length-11 c = search needs
 
--- src/lib.rt:675:1
 same-length-12 : tie.Need-same-length-12
 same-length-12 c = search needs
 
--- src/lib.rt:675:1
 returns-2 : tie.Need-returns-2
 returns-2 c =
     let b = c .before .before .before .before .before .before .before .before .before .before .before .before .before .before .before .before .before .before .before .before .before .before .before .before .before .before .before .before .before .before .before .before .before .before .before .before .before .before .before .before in

@@ -9,35 +9,27 @@ use Rattle.turns.specs.Ending.{turn-done, turn-left, turn-fits}
 use Rattle.turns.proofs.turn.Statement.{statement}
 use Rattle.turns.proofs.turn.Tie as tie
 
--- src/lib.rt:522:9
 best-aligned-requires : tie.Need-best-aligned-requires
 best-aligned-requires c κs = let b = c .before .before .before .before .before .before .before .before .before in (b .pre .0, b .pre .1, b .pre .2, b .pre .3, b .pre .4, b .pre .6)
 
--- src/lib.rt:523:5
 offer-transports-requires : tie.Need-offer-transports-requires
 offer-transports-requires c κs = let b = c .before .before .before .before .before .before .before .before .before .before .before .before .before .before .before in (b .pre .0, b .pre .1, b .pre .2, b .pre .3, b .pre .4, b .pre .5, b .pre .6)
 
--- src/lib.rt:500:1
 same-length : tie.Need-same-length
 same-length c = search needs
 
--- src/lib.rt:500:1
 same-length-2 : tie.Need-same-length-2
 same-length-2 c = search needs
 
--- src/lib.rt:500:1
 same-length-3 : tie.Need-same-length-3
 same-length-3 c = search needs
 
--- src/lib.rt:500:1
 same-length-4 : tie.Need-same-length-4
 same-length-4 c = search needs
 
--- src/lib.rt:500:1
 same-length-5 : tie.Need-same-length-5
 same-length-5 c = search needs
 
--- src/lib.rt:500:1
 returns : tie.Need-returns
 returns c =
     let b = c .before .before .before .before .before .before .before .before .before .before .before .before .before .before .before .before .before .before .before .before .before .before .before .before .before .before in

@@ -17,26 +17,21 @@ use Rattle.turns.specs.Ending.{known-below, over-front, act-fits, act-be
 use Rattle.turns.proofs.turn_term.Statement.{statement}
 use Rattle.turns.proofs.turn_term.Tie as tie
 
--- src/lib.rt:579:41
 enum-told : tie.Need-enum-told
 enum-told c = search needs
 
--- src/lib.rt:579:41
 term-of-requires : tie.Need-term-of-requires
 term-of-requires c κs =
     let b = c .before .before .before .before .before .before .before .before in
     let a = b .args in
     (b .pre .4, place-fits (a .s .now) (a .im) (b .pre .0) (b .pre .1) (length (a .index .now)) (b .pre .9) (a .l) (a .r) (b .pre .2) (b .pre .3))
 
--- src/lib.rt:579:36
 num4-requires : tie.Need-num4-requires
 num4-requires c κs = search needs
 
--- src/lib.rt:580:22
 enum-known-how : tie.Need-enum-known-how
 enum-known-how c = search needs
 
--- src/lib.rt:581:17
 list-action-requires : tie.Need-list-action-requires
 list-action-requires c κs =
     let b = c .before .before .before .before .before .before .before .before .before .before in
@@ -44,7 +39,6 @@ list-action-requires c κs =
     let t = tablesOf (a .s .now) in
     let h : Chosen t (termIn (a .index .now) (a .pairs .now)) (a .list .now) (H.Aligned (c .before .before .how .given .0 .0)) (turnOf t (qualityIn (a .index .now) (a .pairs .now)) (a .l, a .r) .choice) = rw (c .before .before .how .given .1) at (b .pre .8) in (b .pre .0, b .pre .1, h .0, b .pre .4, b .pre .7, b .pre .9)
 
--- src/lib.rt:582:34
 op-requires : tie.Need-op-requires
 op-requires c κs =
     let b = c .before .before .before .before .before .before .before .before .before .before .before .before .before in
@@ -53,7 +47,6 @@ op-requires c κs =
     let t = tablesOf (a .s .now) in
     let h : Chosen t (termIn (a .index .now) (a .pairs .now)) (a .list .now) (H.Aligned (the-how .given .0 .0)) (turnOf t (qualityIn (a .index .now) (a .pairs .now)) (a .l, a .r) .choice) = rw (the-how .given .1) at (b .pre .8) in (b .pre .0, b .pre .1, h .0)
 
--- src/lib.rt:582:13
 intern-action-requires : tie.Need-intern-action-requires
 intern-action-requires c κs =
     let b = c .before .before .before .before .before .before .before .before .before .before .before .before .before .before .before .before .before in
@@ -65,11 +58,9 @@ intern-action-requires c κs =
     let g = turn-placed t (b .pre .1) q (a .l, a .r) (actionAt t (c .before .before .before .before .before .before .before .before .before .how .given .0 .0) .op) (actionAt t (c .before .before .before .before .before .before .before .before .before .how .given .0 .0) .pairs) (ones (actionAt t (c .before .before .before .before .before .before .before .before .before .how .given .0 .0) .pairs)) (h .1) in
     (b .pre .0, c .before .before .before .op .ensures .1, omega (arith, c .before .before .before .op .ensures .1, operations-many (a .s .now) (a .im) (b .pre .0), b .pre .1 .counts .fewOperations), b .pre .5, act-fits t of (a .terms .now) (a .runs .now) (b .pre .5) (known-below (b .pre .4) (b .pre .6)) (of (a .l, a .r)) (turnOf t q (a .l, a .r) .choice) (a .list .now) (actionAt t (c .before .before .before .before .before .before .before .before .before .how .given .0 .0) .op) (actionAt t (c .before .before .before .before .before .before .before .before .before .how .given .0 .0) .pairs) (ones (actionAt t (c .before .before .before .before .before .before .before .before .before .how .given .0 .0) .pairs)) (h .1) _ (c .before .before .before .before .before .before .list-action .ensures .1) (c .before .before .before .before .before .before .list-action .result) (c .before .before .before .before .before .before .list-action .ensures .0), act-below t of (a .terms .now) (a .runs .now) (b .pre .5) (known-below (b .pre .4) (b .pre .6)) (of (a .l, a .r)) (turnOf t q (a .l, a .r) .choice) (a .list .now) (actionAt t (c .before .before .before .before .before .before .before .before .before .how .given .0 .0) .op) (actionAt t (c .before .before .before .before .before .before .before .before .before .how .given .0 .0) .pairs) (ones (actionAt t (c .before .before .before .before .before .before .before .before .before .how .given .0 .0) .pairs)) (h .1) _ (c .before .before .before .before .before .before .list-action .ensures .1) (c .before .before .before .before .before .before .list-action .result) (c .before .before .before .before .before .before .list-action .ensures .0), act-light t of (a .terms .now) (a .runs .now) (b .pre .5) (known-below (b .pre .4) (b .pre .6)) (of (a .l, a .r)) (turnOf t q (a .l, a .r) .choice) (a .list .now) (actionAt t (c .before .before .before .before .before .before .before .before .before .how .given .0 .0) .op) (actionAt t (c .before .before .before .before .before .before .before .before .before .how .given .0 .0) .pairs) (ones (actionAt t (c .before .before .before .before .before .before .before .before .before .how .given .0 .0) .pairs)) (h .1) _ (c .before .before .before .before .before .before .list-action .ensures .1) (c .before .before .before .before .before .before .list-action .result) (c .before .before .before .before .before .before .list-action .ensures .0) (g .counted) (g .few))
 
--- src/lib.rt:584:19
 enum-known-how-2 : tie.Need-enum-known-how-2
 enum-known-how-2 c = search needs
 
--- src/lib.rt:584:28
 intern-action-requires-2 : tie.Need-intern-action-requires-2
 intern-action-requires-2 c κs =
     let b = c .before .before .before .before .before .before .before .before .before .before .before .before in
@@ -81,7 +72,6 @@ intern-action-requires-2 c κs =
     let g = turn-placed t (b .pre .1) q (a .l, a .r) (c .before .before .before .before .how2 .given .0 .0) (h .places) (h .plan) (h .is) in
     (b .pre .0, omega (arith, g .operation, operations-many (a .s .now) (a .im) (b .pre .0)), omega (arith, g .operation, b .pre .1 .counts .fewOperations), b .pre .5, act-fits t of (a .terms .now) (a .runs .now) (b .pre .5) (known-below (b .pre .4) (b .pre .6)) (of (a .l, a .r)) (turnOf t q (a .l, a .r) .choice) (a .list .now) (c .before .before .before .before .how2 .given .0 .0) (h .places) (h .plan) (h .is) (a .list .now) (over-front (a .list .now) (runsOver of (h .places) (h .plan)) (c .before .before .before .before .how2 .given .0 .1 .0) (h .runs) (h .many)) (c .before .before .before .before .how2 .given .0 .1 .0) (h .many), act-below t of (a .terms .now) (a .runs .now) (b .pre .5) (known-below (b .pre .4) (b .pre .6)) (of (a .l, a .r)) (turnOf t q (a .l, a .r) .choice) (a .list .now) (c .before .before .before .before .how2 .given .0 .0) (h .places) (h .plan) (h .is) (a .list .now) (over-front (a .list .now) (runsOver of (h .places) (h .plan)) (c .before .before .before .before .how2 .given .0 .1 .0) (h .runs) (h .many)) (c .before .before .before .before .how2 .given .0 .1 .0) (h .many), act-light t of (a .terms .now) (a .runs .now) (b .pre .5) (known-below (b .pre .4) (b .pre .6)) (of (a .l, a .r)) (turnOf t q (a .l, a .r) .choice) (a .list .now) (c .before .before .before .before .how2 .given .0 .0) (h .places) (h .plan) (h .is) (a .list .now) (over-front (a .list .now) (runsOver of (h .places) (h .plan)) (c .before .before .before .before .how2 .given .0 .1 .0) (h .runs) (h .many)) (c .before .before .before .before .how2 .given .0 .1 .0) (h .many) (g .counted) (g .few))
 
--- src/lib.rt:559:1
 returns : tie.Need-returns
 returns c =
     let b = c .before .before .before .before .before .before .before .before .before .before in
@@ -90,19 +80,15 @@ returns c =
     let t = tablesOf (a .s .now) in
     ended-stay t of (a .terms .now) (a .runs .now) (b .pre .5) (known-below (b .pre .4) (b .pre .6)) (of (a .l, a .r)) (turnOf t (qualityIn (a .index .now) (a .pairs .now)) (a .l, a .r) .choice) (a .list .now) (rw (c .before .before .enum-told .given .1) at (b .pre .8)) (c .num4 .result) (c .num4 .ensures ∙ c .before .term-of .ensures)
 
--- src/lib.rt:559:1
 same-length : tie.Need-same-length
 same-length c = search needs
 
--- src/lib.rt:559:1
 same-length-2 : tie.Need-same-length-2
 same-length-2 c = search needs
 
--- src/lib.rt:559:1
 same-length-3 : tie.Need-same-length-3
 same-length-3 c = search needs
 
--- src/lib.rt:559:1
 returns-2 : tie.Need-returns-2
 returns-2 c =
     let b = c .before .before .before .before .before .before .before .before .before .before .before .before .before .before .before .before .before .before .before .before .before .before .before .before in
@@ -116,19 +102,15 @@ returns-2 c =
     let h : Chosen t of (a .list .now) (H.Aligned (the-how .given .0 .0)) (turnOf t q (a .l, a .r) .choice) = rw (the-how .given .1) at (b .pre .8) in
     unless-map (a .terms .now) (a .runs .now) (the-intern-action .result) (λ z. z) (λ A. ended-act t of (a .terms .now) (a .runs .now) (b .pre .5) (known-below (b .pre .4) (b .pre .6)) (of (a .l, a .r)) (turnOf t q (a .l, a .r) .choice) (a .list .now) (actionAt t (the-how .given .0 .0) .op) (actionAt t (the-how .given .0 .0) .pairs) (ones (actionAt t (the-how .given .0 .0) .pairs)) (h .1) _ (the-list-action .ensures .1) (the-list-action .result) (the-list-action .ensures .0) _ _ _ (the-intern-action .result) (rw (c .before .before .before .before .before .before .before .before .before .before .op .ensures .0) at A)) (the-intern-action .ensures)
 
--- src/lib.rt:559:1
 same-length-4 : tie.Need-same-length-4
 same-length-4 c = search needs
 
--- src/lib.rt:559:1
 same-length-5 : tie.Need-same-length-5
 same-length-5 c = search needs
 
--- src/lib.rt:559:1
 same-length-6 : tie.Need-same-length-6
 same-length-6 c = search needs
 
--- src/lib.rt:559:1
 returns-3 : tie.Need-returns-3
 returns-3 c =
     let b = c .before .before .before .before .before .before .before .before .before .before .before .before .before .before .before .before .before .before .before in

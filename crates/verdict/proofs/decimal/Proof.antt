@@ -8,31 +8,24 @@ Inv-loop n unit₀ unit = Unit
 abbrev μ-loop : tie.MeasureT-loop
 μ-loop n unit₀ unit = unit
 
--- src/main.rt:16:5
 loop-holds : tie.Need-loop-holds Inv-loop μ-loop
 loop-holds c = tt
 
--- src/main.rt:18:19
 div-digit : tie.Need-div-digit Inv-loop μ-loop
 div-digit c = search needs
 
--- src/main.rt:18:13
 digit-requires : tie.Need-digit-requires Inv-loop μ-loop
 digit-requires c κs = search needs
 
--- src/main.rt:16:5
 loop-less : tie.Need-loop-less Inv-loop μ-loop
 loop-less c = search needs
 
--- src/main.rt:16:5
 loop-again : tie.Need-loop-again Inv-loop μ-loop
 loop-again c = tt
 
--- src/main.rt:22:5
 digit-requires-2 : tie.Need-digit-requires-2 Inv-loop μ-loop
 digit-requires-2 c κs = search needs
 
--- src/main.rt:14:1
 returns : tie.Need-returns Inv-loop μ-loop
 returns c = tt
 

@@ -4,17 +4,14 @@ use borrow.Author.Needs.{needs}
 use Rattle.ac_repr.proofs.pairs.first.Statement.{statement}
 use Rattle.ac_repr.proofs.pairs.first.Tie as tie
 
--- src/pairs.rt:180:9
 returns : tie.Need-returns
 returns c =
     let b = c .before .before in
     first-none (tablesOf (b .args .s .now)) (b .args .l) (b .args .r) (c .if1 .taken)
 
--- src/pairs.rt:182:5
 from-op-requires : tie.Need-from-op-requires
 from-op-requires c κs = search needs
 
--- src/pairs.rt:175:1
 returns-2 : tie.Need-returns-2
 returns-2 c =
     let b = c .before .before .before in

@@ -14,29 +14,23 @@ Inv-loop s im l r o from i₀ i = Ahead (tablesOf s) l r o i
 abbrev μ-loop : tie.MeasureT-loop
 μ-loop s im l r o from i₀ i = im .operations - i
 
--- src/pairs.rt:162:9
 first-member-requires : tie.Need-first-member-requires Inv-loop μ-loop
 first-member-requires c κs = search needs
 
--- src/pairs.rt:163:9
 next-op-requires : tie.Need-next-op-requires Inv-loop μ-loop
 next-op-requires c κs = search needs
 
--- src/pairs.rt:164:5
 loop-holds : tie.Need-loop-holds Inv-loop μ-loop
 loop-holds c =
     let b = c .before .before .before in
     ahead (tablesOf (b .args .s .now)) (b .args .l) (b .args .r) (b .args .o) (c .next-op .result) (b .args .im .operations) (sym (operations-many (b .args .s .now) (b .args .im) (b .pre .0))) (c .next-op .ensures)
 
--- src/pairs.rt:165:13
 in-rows-requires : tie.Need-in-rows-requires Inv-loop μ-loop
 in-rows-requires c κs = search needs
 
--- src/pairs.rt:167:22
 enum-known-x : tie.Need-enum-known-x Inv-loop μ-loop
 enum-known-x c = search needs
 
--- src/pairs.rt:168:17
 returns : tie.Need-returns Inv-loop μ-loop
 returns c =
     let x = c .before .before .before in
@@ -45,26 +39,21 @@ returns c =
     ops-at (tablesOf (b .args .s .now)) (b .args .l) (b .args .r) (b .args .o) (l .loop .i) (l .loop .inv) (c .before .x .given .0 .0) (x .in-rows .result) (l .before .before .first-member .result)
     (rw (operations-many (b .args .s .now) (b .args .im) (b .pre .0)) (x .before .if1 .taken)) (l .before .before .first-member .ensures .0) (c .before .x .given .1) (x .in-rows .ensures)
 
--- src/pairs.rt:171:42
 enum-told : tie.Need-enum-told Inv-loop μ-loop
 enum-told c = search needs
 
--- src/pairs.rt:171:42
 add-next-op : tie.Need-add-next-op Inv-loop μ-loop
 add-next-op c = search needs
 
--- src/pairs.rt:171:17
 next-op-requires-2 : tie.Need-next-op-requires-2 Inv-loop μ-loop
 next-op-requires-2 c κs = search needs
 
--- src/pairs.rt:164:5
 loop-less : tie.Need-loop-less Inv-loop μ-loop
 loop-less c =
     let l = c .before .before .before .before .before .before in
     let b = l .before .before .before .before in
     omega (arith, c .before .before .before .before .if1 .taken, ahead (tablesOf (b .args .s .now)) (b .args .l) (b .args .r) (l .loop .i + 1) (c .next-op2 .result) (b .args .im .operations) (sym (operations-many (b .args .s .now) (b .args .im) (b .pre .0))) (c .next-op2 .ensures) .low)
 
--- src/pairs.rt:164:5
 loop-again : tie.Need-loop-again Inv-loop μ-loop
 loop-again c =
     let x = c .before .before .before in
@@ -74,7 +63,6 @@ loop-again c =
     (rw (operations-many (b .args .s .now) (b .args .im) (b .pre .0)) (x .before .if1 .taken)) (l .before .before .first-member .ensures .0) (c .before .enum-told .given .1) (x .in-rows .ensures)
     (ahead (tablesOf (b .args .s .now)) (b .args .l) (b .args .r) (l .loop .i + 1) (c .next-op2 .result) (b .args .im .operations) (sym (operations-many (b .args .s .now) (b .args .im) (b .pre .0))) (c .next-op2 .ensures))
 
--- src/pairs.rt:158:1
 returns-2 : tie.Need-returns-2 Inv-loop μ-loop
 returns-2 c =
     let l = c .before .before in

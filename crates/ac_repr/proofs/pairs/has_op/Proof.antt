@@ -16,25 +16,21 @@ Inv-loop s im c op span i₀ i = (i ≤ span .to) × (any (ofOp op) (slice i (sp
 abbrev μ-loop : tie.MeasureT-loop
 μ-loop s im c op span i₀ i = span .to - i
 
--- src/pairs.rt:64:9
 members-of-requires : tie.Need-members-of-requires Inv-loop μ-loop
 members-of-requires c κs = search needs
 
--- src/pairs.rt:66:5
 loop-holds : tie.Need-loop-holds Inv-loop μ-loop
 loop-holds c =
     let d = c in
     let b = c .before .before in
     (span-rises (b .args .s .now) (b .args .im) (b .args .c) (d .members-of .result) (b .pre .0) (b .pre .1) (b .pre .2) (d .members-of .ensures .0), span-any (b .args .s .now) (b .args .im) (b .args .c) (d .members-of .result) (b .pre .0) (b .pre .1) (b .pre .2) (d .members-of .ensures .0) (b .args .op))
 
--- src/pairs.rt:67:12
 member-op-requires : tie.Need-member-op-requires Inv-loop μ-loop
 member-op-requires c κs =
     let d = c .before .before .before in
     let b = d .before .before in
     (b .pre .0, omega (arith, span-members (b .args .s .now) (b .args .im) (b .args .c) (d .members-of .result) (b .pre .0) (b .pre .1) (b .pre .2) (d .members-of .ensures .0), c .if1 .taken))
 
--- src/pairs.rt:68:13
 returns : tie.Need-returns Inv-loop μ-loop
 returns c =
     let l = c .before .before .before .before in
@@ -42,15 +38,12 @@ returns c =
     let b = d .before .before in
     sym (any-stop (tablesOf (b .args .s .now)) (b .args .op) (l .loop .i) (d .members-of .result .to) (c .before .member-op .result) (c .before .before .if1 .taken) (span-within (b .args .s .now) (b .args .im) (b .args .c) (d .members-of .result) (b .pre .0) (b .pre .1) (b .pre .2) (d .members-of .ensures .0)) (c .before .member-op .ensures .0) (c .if2 .taken)) ∙ l .loop .inv .1
 
--- src/pairs.rt:70:9
 add-i : tie.Need-add-i Inv-loop μ-loop
 add-i c = search needs
 
--- src/pairs.rt:66:5
 loop-less : tie.Need-loop-less Inv-loop μ-loop
 loop-less c = search needs
 
--- src/pairs.rt:66:5
 loop-again : tie.Need-loop-again Inv-loop μ-loop
 loop-again c =
     let l = c .before .before .before .before in
@@ -60,7 +53,6 @@ loop-again c =
       rw add-one (sym (any-more (tablesOf (b .args .s .now)) (b .args .op) (l .loop .i) (d .members-of .result .to) (c .before .member-op .result) (c .before .before .if1 .taken) (span-within (b .args .s .now) (b .args .im) (b .args .c) (d .members-of .result) (b .pre .0) (b .pre .1) (b .pre .2) (d .members-of .ensures .0)) (c .before .member-op .ensures .0) (c .if2 .left)) ∙ l .loop .inv .1),
     )
 
--- src/pairs.rt:60:1
 returns-2 : tie.Need-returns-2 Inv-loop μ-loop
 returns-2 c =
     let l = c .before .before in

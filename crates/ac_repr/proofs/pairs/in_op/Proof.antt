@@ -5,25 +5,20 @@ use borrow.Author.Needs.{needs}
 use Rattle.ac_repr.proofs.pairs.in_op.Statement.{statement}
 use Rattle.ac_repr.proofs.pairs.in_op.Tie as tie
 
--- src/pairs.rt:141:9
 members-of-requires : tie.Need-members-of-requires
 members-of-requires c κs = search needs
 
--- src/pairs.rt:142:8
 has-place-requires : tie.Need-has-place-requires
 has-place-requires c κs =
     let b = c .before .before in
     (b .pre .0, span-members (b .args .s .now) (b .args .im) (b .args .l) (c .members-of .result) (b .pre .0) (b .pre .1) (b .pre .2) (c .members-of .ensures .0), b .pre .4)
 
--- src/pairs.rt:143:13
 in-row-requires : tie.Need-in-row-requires
 in-row-requires c κs = search needs
 
--- src/pairs.rt:145:22
 enum-known-x : tie.Need-enum-known-x
 enum-known-x c = search needs
 
--- src/pairs.rt:146:17
 returns : tie.Need-returns
 returns c =
     let x = c .before .before .before in
@@ -32,19 +27,15 @@ returns c =
     let b = d .before .before in
     op-row (tablesOf (b .args .s .now)) (b .args .l) (b .args .r) (b .args .w) (d .members-of .result .to) (h .has-place .result) (span-end (b .args .s .now) (b .args .im) (b .args .l) (d .members-of .result) (b .pre .0) (b .pre .1) (b .pre .2) (d .members-of .ensures .0)) (h .has-place .ensures) (c .before .x .given .0 .0) (x .in-row .result) (x .before .if1 .taken) (c .before .x .given .1) (x .in-row .ensures)
 
--- src/pairs.rt:149:51
 enum-told : tie.Need-enum-told
 enum-told c = search needs
 
--- src/pairs.rt:149:51
 add-in-rows : tie.Need-add-in-rows
 add-in-rows c = search needs
 
--- src/pairs.rt:149:17
 in-rows-requires : tie.Need-in-rows-requires
 in-rows-requires c κs = search needs
 
--- src/pairs.rt:149:17
 returns-2 : tie.Need-returns-2
 returns-2 c =
     let x = c .before .before .before .before in
@@ -53,15 +44,12 @@ returns-2 c =
     let b = d .before .before in
     op-rows (tablesOf (b .args .s .now)) (b .args .l) (b .args .r) (b .args .w) (d .members-of .result .to) (h .has-place .result) (span-end (b .args .s .now) (b .args .im) (b .args .l) (d .members-of .result) (b .pre .0) (b .pre .1) (b .pre .2) (d .members-of .ensures .0)) (h .has-place .ensures) (x .in-row .result) (c .in-rows .result) (x .before .if1 .taken) (c .before .before .enum-told .given .1) (x .in-row .ensures) (c .in-rows .ensures)
 
--- src/pairs.rt:153:32
 add-in-rows-2 : tie.Need-add-in-rows-2
 add-in-rows-2 c = search needs
 
--- src/pairs.rt:153:5
 in-rows-requires-2 : tie.Need-in-rows-requires-2
 in-rows-requires-2 c κs = search needs
 
--- src/pairs.rt:137:1
 returns-3 : tie.Need-returns-3
 returns-3 c =
     let h = c .before .before .before in

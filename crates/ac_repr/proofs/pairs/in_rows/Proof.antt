@@ -5,32 +5,26 @@ use borrow.Author.Needs.{needs}
 use Rattle.ac_repr.proofs.pairs.in_rows.Statement.{statement}
 use Rattle.ac_repr.proofs.pairs.in_rows.Tie as tie
 
--- src/pairs.rt:127:9
 members-of-requires : tie.Need-members-of-requires
 members-of-requires c κs = search needs
 
--- src/pairs.rt:128:9
 next-place-requires : tie.Need-next-place-requires
 next-place-requires c κs =
     let b = c .before .before in
     (b .pre .0, span-members (b .args .s .now) (b .args .im) (b .args .l) (c .members-of .result) (b .pre .0) (b .pre .1) (b .pre .2) (c .members-of .ensures .0), b .pre .4, c .members-of .ensures .1)
 
--- src/pairs.rt:130:9
 returns : tie.Need-returns
 returns c =
     let d = c .before .before .before in
     let b = d .before .before in
     rows-end (tablesOf (b .args .s .now)) (b .args .l) (b .args .r) (b .args .op) (b .args .x) (d .members-of .result .to) (c .before .before .next-place .result) (span-end (b .args .s .now) (b .args .im) (b .args .l) (d .members-of .result) (b .pre .0) (b .pre .1) (b .pre .2) (d .members-of .ensures .0)) (c .before .before .next-place .ensures) (c .if1 .taken)
 
--- src/pairs.rt:132:9
 first-member-requires : tie.Need-first-member-requires
 first-member-requires c κs = search needs
 
--- src/pairs.rt:133:5
 in-row-requires : tie.Need-in-row-requires
 in-row-requires c κs = search needs
 
--- src/pairs.rt:123:1
 returns-2 : tie.Need-returns-2
 returns-2 c =
     let d = c .before .before .before .before .before in

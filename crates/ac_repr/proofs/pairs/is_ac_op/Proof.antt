@@ -5,36 +5,29 @@ use borrow.Author.Needs.{needs}
 use Rattle.ac_repr.proofs.pairs.is_ac_op.Statement.{statement}
 use Rattle.ac_repr.proofs.pairs.is_ac_op.Tie as tie
 
--- src/pairs.rt:79:19
 kind-requires : tie.Need-kind-requires
 kind-requires c κs = search needs
 
--- src/pairs.rt:79:9
 is-ac-requires : tie.Need-is-ac-requires
 is-ac-requires c κs = search needs
 
--- src/pairs.rt:80:9
 returns : tie.Need-returns
 returns c =
     let b = c .before .before .before .before in
     op-other (tablesOf (b .args .s .now)) (b .args .l) (b .args .r) (b .args .op) (c .before .before .kind .result) (c .before .is-ac .result) (c .before .before .kind .ensures .0) (c .before .is-ac .ensures) (not-true _ (c .if1 .taken))
 
--- src/pairs.rt:82:8
 has-op-requires : tie.Need-has-op-requires
 has-op-requires c κs = search needs
 
--- src/pairs.rt:83:9
 returns-2 : tie.Need-returns-2
 returns-2 c =
     let b = c .before .before .before .before .before .before in
     op-left (tablesOf (b .args .s .now)) (b .args .l) (b .args .r) (b .args .op) (c .before .before .before .before .kind .result) (c .before .before .before .is-ac .result) (c .before .before .before .before .kind .ensures .0) (c .before .before .before .is-ac .ensures)
     (c .before .has-op .result) (not-false _ (c .before .before .if1 .left)) (c .before .has-op .ensures) (c .if2 .taken)
 
--- src/pairs.rt:85:5
 has-op-requires-2 : tie.Need-has-op-requires-2
 has-op-requires-2 c κs = search needs
 
--- src/pairs.rt:75:1
 returns-3 : tie.Need-returns-3
 returns-3 c =
     let b = c .before .before .before .before .before .before .before in

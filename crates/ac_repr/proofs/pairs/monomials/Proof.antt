@@ -6,19 +6,15 @@ use borrow.Author.Needs.{needs}
 use Rattle.ac_repr.proofs.pairs.monomials.Statement.{statement}
 use Rattle.ac_repr.proofs.pairs.monomials.Tie as tie
 
--- src/pairs.rt:226:9
 of-place-requires : tie.Need-of-place-requires
 of-place-requires c κs = search needs
 
--- src/pairs.rt:227:9
 of-place-requires-2 : tie.Need-of-place-requires-2
 of-place-requires-2 c κs = search needs
 
--- src/pairs.rt:228:9
 identity-requires : tie.Need-identity-requires
 identity-requires c κs = search needs
 
--- src/pairs.rt:229:5
 pad-pair-requires : tie.Need-pad-pair-requires
 pad-pair-requires c κs =
     let v = c .before .before .before .before .before in
@@ -28,15 +24,12 @@ pad-pair-requires c κs =
     (u .of-place .last .1 .1 .1 .1 .0) (v .of-place2 .last .1 .1 .1 .1 .0) (u .of-place .result) (v .of-place2 .result)
     (u .of-place .kept .1 .1 .1 .1 .0 ∙ b .pre .5) (v .of-place2 .kept .1 .1 .1 .1 .0 ∙ b .pre .6) (u .of-place .ensures) (v .of-place2 .ensures)
 
--- src/pairs.rt:212:1
 same-length : tie.Need-same-length
 same-length c = search needs
 
--- src/pairs.rt:212:1
 same-length-2 : tie.Need-same-length-2
 same-length-2 c = search needs
 
--- src/pairs.rt:212:1
 returns : tie.Need-returns
 returns c =
     let p = c .before .before .before .before in

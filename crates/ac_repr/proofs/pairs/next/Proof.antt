@@ -8,42 +8,34 @@ use borrow.Author.Needs.{needs}
 use Rattle.ac_repr.proofs.pairs.next.Statement.{statement}
 use Rattle.ac_repr.proofs.pairs.next.Tie as tie
 
--- src/pairs.rt:198:16
 add-t8 : tie.Need-add-t8
 add-t8 c =
     let b = c .before .before in
     record { fits = omega (arith, (end-small (b .args .s .now) (b .args .im) (b .args .r) (b .pre .0) (b .pre .1) (b .pre .3)), b .pre .4 .2) }
 
--- src/pairs.rt:190:9
 in-op-requires : tie.Need-in-op-requires
 in-op-requires c κs =
     let b = c .before .before in
     (b .pre .0, b .pre .1, b .pre .2, b .pre .3, rw (← (operations-many (b .args .s .now) (b .args .im) (b .pre .0))) (b .pre .4 .0), omega (arith, (end-small (b .args .s .now) (b .args .im) (b .args .l) (b .pre .0) (b .pre .1) (b .pre .2)), b .pre .4 .1))
 
--- src/pairs.rt:202:18
 enum-known-x : tie.Need-enum-known-x
 enum-known-x c = search needs
 
--- src/pairs.rt:203:43
 enum-told : tie.Need-enum-told
 enum-told c = search needs
 
--- src/pairs.rt:203:43
 add-from-op : tie.Need-add-from-op
 add-from-op c = search needs
 
--- src/pairs.rt:203:22
 from-op-requires : tie.Need-from-op-requires
 from-op-requires c κs = search needs
 
--- src/pairs.rt:186:1
 returns : tie.Need-returns
 returns c =
     let x = c .before .before .before in
     let b = x .before .before .before in
     next-at (tablesOf (b .args .s .now)) (b .args .l) (b .args .r) (afterOf (b .args .w)) (c .before .x .given .0 .0) (x .in-op .result) (b .pre .4 .0) (c .before .x .given .1) (x .in-op .ensures)
 
--- src/pairs.rt:186:1
 returns-2 : tie.Need-returns-2
 returns-2 c =
     let x = c .before .before .before .before in

@@ -13,37 +13,30 @@ Inv-loop s im l r o i₀ i = firstFrom (acOp (tablesOf s) l r) i (im .operations
 abbrev μ-loop : tie.MeasureT-loop
 μ-loop s im l r o i₀ i = im .operations - i
 
--- src/pairs.rt:94:5
 loop-holds : tie.Need-loop-holds Inv-loop μ-loop
 loop-holds c = refl
 
--- src/pairs.rt:95:12
 is-ac-op-requires : tie.Need-is-ac-op-requires Inv-loop μ-loop
 is-ac-op-requires c κs = search needs
 
--- src/pairs.rt:96:13
 returns : tie.Need-returns Inv-loop μ-loop
 returns c =
     let l = c .before .before .before .before in
     let b = l .before .before in
     turn-stop (acOp (tablesOf (b .args .s .now)) (b .args .l) (b .args .r)) (b .args .o) (b .args .im .operations) (l .loop .i) (l .loop .inv) (c .before .is-ac-op .result) (c .before .before .if1 .taken) (c .before .is-ac-op .ensures) (c .if2 .taken)
 
--- src/pairs.rt:98:9
 add-i : tie.Need-add-i Inv-loop μ-loop
 add-i c = search needs
 
--- src/pairs.rt:94:5
 loop-less : tie.Need-loop-less Inv-loop μ-loop
 loop-less c = search needs
 
--- src/pairs.rt:94:5
 loop-again : tie.Need-loop-again Inv-loop μ-loop
 loop-again c =
     let l = c .before .before .before .before in
     let b = l .before .before in
     turn-more (acOp (tablesOf (b .args .s .now)) (b .args .l) (b .args .r)) (b .args .o) (b .args .im .operations) (l .loop .i) (l .loop .inv) (c .before .is-ac-op .result) (c .before .before .if1 .taken) (c .before .is-ac-op .ensures) (c .if2 .left)
 
--- src/pairs.rt:89:1
 returns-2 : tie.Need-returns-2 Inv-loop μ-loop
 returns-2 c =
     let l = c .before .before in

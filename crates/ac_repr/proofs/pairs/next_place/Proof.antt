@@ -14,37 +14,30 @@ Inv-loop s im end op x i₀ i = firstFrom (hasPlace (tablesOf s) end op) i (suc 
 abbrev μ-loop : tie.MeasureT-loop
 μ-loop s im end op x i₀ i = suc end - i
 
--- src/pairs.rt:50:5
 loop-holds : tie.Need-loop-holds Inv-loop μ-loop
 loop-holds c = refl
 
--- src/pairs.rt:51:12
 has-place-requires : tie.Need-has-place-requires Inv-loop μ-loop
 has-place-requires c κs = search needs
 
--- src/pairs.rt:52:13
 returns : tie.Need-returns Inv-loop μ-loop
 returns c =
     let l = c .before .before .before in
     let b = l .before .before in
     turn-stop (hasPlace (tablesOf (b .args .s .now)) (b .args .end) (b .args .op)) (b .args .x) (suc (b .args .end)) (l .loop .i) (l .loop .inv) (c .before .has-place .result) (omega arith) (c .before .has-place .ensures) (c .if1 .taken)
 
--- src/pairs.rt:54:9
 add-i : tie.Need-add-i Inv-loop μ-loop
 add-i c = search needs
 
--- src/pairs.rt:50:5
 loop-less : tie.Need-loop-less Inv-loop μ-loop
 loop-less c = search needs
 
--- src/pairs.rt:50:5
 loop-again : tie.Need-loop-again Inv-loop μ-loop
 loop-again c =
     let l = c .before .before .before in
     let b = l .before .before in
     turn-more (hasPlace (tablesOf (b .args .s .now)) (b .args .end) (b .args .op)) (b .args .x) (suc (b .args .end)) (l .loop .i) (l .loop .inv) (c .before .has-place .result) (omega arith) (c .before .has-place .ensures) (c .if1 .left)
 
--- src/pairs.rt:45:1
 returns-2 : tie.Need-returns-2 Inv-loop μ-loop
 returns-2 c =
     let l = c .before in

@@ -15,15 +15,12 @@ Inv-loop s im last c from n i₀ i = (i ≤ n) × (from + n ≤ im .members) × 
 abbrev μ-loop : tie.MeasureT-loop
 μ-loop s im last c from n i₀ i = n - i
 
--- src/literals.rt:105:9
 first-member-requires : tie.Need-first-member-requires Inv-loop μ-loop
 first-member-requires c κs = search needs
 
--- src/literals.rt:106:9
 member-count-requires : tie.Need-member-count-requires Inv-loop μ-loop
 member-count-requires c κs = search needs
 
--- src/literals.rt:108:5
 loop-holds : tie.Need-loop-holds Inv-loop μ-loop
 loop-holds c =
     let a = c .before .before .before in
@@ -33,20 +30,16 @@ loop-holds c =
       class-start (tablesOf s) (a .args .c),
     )
 
--- src/literals.rt:109:40
 add-member-doubled : tie.Need-add-member-doubled Inv-loop μ-loop
 add-member-doubled c = search needs
 
--- src/literals.rt:109:50
 add-member-doubled-2 : tie.Need-add-member-doubled-2 Inv-loop μ-loop
 add-member-doubled-2 c = search needs
 
--- src/literals.rt:109:12
 member-doubled-requires : tie.Need-member-doubled-requires Inv-loop μ-loop
 member-doubled-requires c κs =
     let a = c .before .before .before .before .before in (a .pre .0, omega arith, a .pre .2, a .pre .3)
 
--- src/literals.rt:110:13
 returns : tie.Need-returns Inv-loop μ-loop
 returns c =
     let l = c .before .before .before in
@@ -56,15 +49,12 @@ returns c =
     sym (l .loop .inv .2
     ∙ class-stop (tablesOf s) (a .args .c) (class-there s (a .args .im) (a .pre .0) (a .pre .2) (a .pre .1)) (a .pre .2 .classesFollow) (l .loop .i) (g .first-member .ensures .0) (l .before .member-count .ensures .0) (omega arith) (c .before .member-doubled .ensures) (c .if1 .taken))
 
--- src/literals.rt:112:9
 add-i : tie.Need-add-i Inv-loop μ-loop
 add-i c = search needs
 
--- src/literals.rt:108:5
 loop-less : tie.Need-loop-less Inv-loop μ-loop
 loop-less c = search needs
 
--- src/literals.rt:108:5
 loop-again : tie.Need-loop-again Inv-loop μ-loop
 loop-again c =
     let l = c .before .before .before in
@@ -77,7 +67,6 @@ loop-again c =
           ∙ sym (class-go (tablesOf s) (a .args .c) (class-there s (a .args .im) (a .pre .0) (a .pre .2) (a .pre .1)) (a .pre .2 .classesFollow) (l .loop .i) (g .first-member .ensures .0) (l .before .member-count .ensures .0) (omega arith) (c .before .member-doubled .ensures) (c .if1 .left)),
     )
 
--- src/literals.rt:101:1
 returns-2 : tie.Need-returns-2 Inv-loop μ-loop
 returns-2 c =
     let l = c .before in

@@ -15,15 +15,12 @@ Inv-loop s im last c₀ c = (c ≤ im .classes) × (doubledAt (tablesOf s) (tabl
 abbrev μ-loop : tie.MeasureT-loop
 μ-loop s im last c₀ c = im .classes - c
 
--- src/literals.rt:123:5
 loop-holds : tie.Need-loop-holds Inv-loop μ-loop
 loop-holds c = (omega arith, omega arith)
 
--- src/literals.rt:124:12
 class-doubled-requires : tie.Need-class-doubled-requires Inv-loop μ-loop
 class-doubled-requires c κs = search needs
 
--- src/literals.rt:125:13
 returns : tie.Need-returns Inv-loop μ-loop
 returns c =
     let l = c .before .before .before .before in
@@ -35,15 +32,12 @@ returns c =
       doubled-here (tablesOf s) (tablesOf s .classes) (l .loop .c) _ (omega (arith, classes-many s (a .args .im) (a .pre .0))) (sym (c .before .class-doubled .ensures) ∙ c .if2 .taken),
     )
 
--- src/literals.rt:127:9
 add-c : tie.Need-add-c Inv-loop μ-loop
 add-c c = search needs
 
--- src/literals.rt:123:5
 loop-less : tie.Need-loop-less Inv-loop μ-loop
 loop-less c = search needs
 
--- src/literals.rt:123:5
 loop-again : tie.Need-loop-again Inv-loop μ-loop
 loop-again c =
     let l = c .before .before .before .before in
@@ -57,7 +51,6 @@ loop-again c =
       ),
     )
 
--- src/literals.rt:118:1
 returns-2 : tie.Need-returns-2 Inv-loop μ-loop
 returns-2 c =
     let l = c .before .before in

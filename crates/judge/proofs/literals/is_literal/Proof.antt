@@ -4,27 +4,22 @@ use borrow.Author.Needs.{needs}
 use Rattle.judge.proofs.literals.is_literal.Statement.{statement}
 use Rattle.judge.proofs.literals.is_literal.Tie as tie
 
--- src/literals.rt:20:8
 member-value-requires : tie.Need-member-value-requires
 member-value-requires c κs = search needs
 
--- src/literals.rt:21:9
 returns : tie.Need-returns
 returns c =
     let a = c .before .before .before in other-value (tablesOf (a .args .s .now)) (theMember (tablesOf (a .args .s .now)) (a .args .m)) (a .args .o) (a .args .v) (a .pre .2) (c .before .member-value .ensures .0) (c .if1 .taken)
 
--- src/literals.rt:23:8
 member-op-requires : tie.Need-member-op-requires
 member-op-requires c κs = search needs
 
--- src/literals.rt:24:9
 returns-2 : tie.Need-returns-2
 returns-2 c =
     let d = c .before .before in
     let a = d .before .before .before in
     other-op (tablesOf (a .args .s .now)) (theMember (tablesOf (a .args .s .now)) (a .args .m)) (a .args .o) (a .args .v) (a .pre .2) (d .before .member-value .ensures .0) (d .if1 .left) (c .before .member-op .ensures .0) (c .if2 .taken)
 
--- src/literals.rt:16:1
 returns-3 : tie.Need-returns-3
 returns-3 c =
     let d = c .before .before in

@@ -17,15 +17,12 @@ Inv-loop s im o v from m₀ m = any (isLiteral (tablesOf s) (o, v)) (drop from (
 abbrev μ-loop : tie.MeasureT-loop
 μ-loop s im o v from m₀ m = im .members - m
 
--- src/literals.rt:35:5
 loop-holds : tie.Need-loop-holds Inv-loop μ-loop
 loop-holds c = refl
 
--- src/literals.rt:36:12
 is-literal-requires : tie.Need-is-literal-requires Inv-loop μ-loop
 is-literal-requires c κs = search needs
 
--- src/literals.rt:37:13
 returns : tie.Need-returns Inv-loop μ-loop
 returns c =
     let l = c .before .before .before .before in
@@ -34,15 +31,12 @@ returns c =
     sym (l .loop .inv
     ∙ any-stop (isLiteral (tablesOf s) (a .args .o, a .args .v)) (tablesOf s .members) (l .loop .m) _ (omega (arith, members-many s (a .args .im) (a .pre .0))) (sym (c .before .is-literal .ensures) ∙ c .if2 .taken))
 
--- src/literals.rt:39:9
 add-m : tie.Need-add-m Inv-loop μ-loop
 add-m c = search needs
 
--- src/literals.rt:35:5
 loop-less : tie.Need-loop-less Inv-loop μ-loop
 loop-less c = search needs
 
--- src/literals.rt:35:5
 loop-again : tie.Need-loop-again Inv-loop μ-loop
 loop-again c =
     let l = c .before .before .before .before in
@@ -51,7 +45,6 @@ loop-again c =
     l .loop .inv
     ∙ sym (any-go (isLiteral (tablesOf s) (a .args .o, a .args .v)) (tablesOf s .members) (l .loop .m) _ (omega (arith, members-many s (a .args .im) (a .pre .0))) (sym (c .before .is-literal .ensures) ∙ c .if2 .left))
 
--- src/literals.rt:30:1
 returns-2 : tie.Need-returns-2 Inv-loop μ-loop
 returns-2 c =
     let l = c .before .before in

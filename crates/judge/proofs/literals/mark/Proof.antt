@@ -15,47 +15,36 @@ Inv-loop s im last₀ m₀ last m = (m ≤ im .members) × (length last ≡ SLOT
 abbrev μ-loop : tie.MeasureT-loop
 μ-loop s im last₀ m₀ last m = im .members - m
 
--- src/literals.rt:76:5
 loop-holds : tie.Need-loop-holds Inv-loop μ-loop
 loop-holds c = (omega arith, c .before .pre .2, λ j h. absurd (omega arith))
 
--- src/literals.rt:77:23
 member-op-requires : tie.Need-member-op-requires Inv-loop μ-loop
 member-op-requires c κs = search needs
 
--- src/literals.rt:77:44
 member-value-requires : tie.Need-member-value-requires Inv-loop μ-loop
 member-value-requires c κs = search needs
 
--- src/literals.rt:77:13
 slot-requires : tie.Need-slot-requires Inv-loop μ-loop
 slot-requires c κs = search needs
 
--- src/literals.rt:78:27
 add-narrow : tie.Need-add-narrow Inv-loop μ-loop
 add-narrow c = search needs
 
--- src/literals.rt:78:20
 narrow-requires : tie.Need-narrow-requires Inv-loop μ-loop
 narrow-requires c κs = search needs
 
--- src/literals.rt:78:9
 mul-last : tie.Need-mul-last Inv-loop μ-loop
 mul-last c = search needs
 
--- src/literals.rt:78:9
 element-write-last : tie.Need-element-write-last Inv-loop μ-loop
 element-write-last c = search needs
 
--- src/literals.rt:79:9
 add-m : tie.Need-add-m Inv-loop μ-loop
 add-m c = search needs
 
--- src/literals.rt:76:5
 loop-less : tie.Need-loop-less Inv-loop μ-loop
 loop-less c = search needs
 
--- src/literals.rt:76:5
 loop-again : tie.Need-loop-again Inv-loop μ-loop
 loop-again c =
     let d = c .before in
@@ -69,7 +58,6 @@ loop-again c =
           (slot-is (d .slot .ensures .0) (d .before .before .member-op .ensures .0) (d .before .member-value .ensures .0)) (l .loop .inv .2)),
     )
 
--- src/literals.rt:71:1
 returns : tie.Need-returns Inv-loop μ-loop
 returns c =
     let l = c .before .before in

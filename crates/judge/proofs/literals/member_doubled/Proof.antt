@@ -6,43 +6,34 @@ use borrow.Author.Needs.{needs}
 use Rattle.judge.proofs.literals.member_doubled.Statement.{statement}
 use Rattle.judge.proofs.literals.member_doubled.Tie as tie
 
--- src/literals.rt:88:9
 member-op-requires : tie.Need-member-op-requires
 member-op-requires c κs = search needs
 
--- src/literals.rt:89:8
 kind-requires : tie.Need-kind-requires
 kind-requires c κs =
     let a = c .before .before in (a .pre .0, op-there (a .args .s .now) (a .args .im) (a .pre .0) (a .pre .2) (a .pre .1) (c .member-op .ensures .0))
 
--- src/literals.rt:90:9
 returns : tie.Need-returns
 returns c =
     let a = c .before .before .before .before in
     let s = a .args .s .now in
     no-literal (tablesOf s) (theMember (tablesOf s) (a .args .m)) (a .args .to) (c .before .before .member-op .ensures .0) (c .before .kind .ensures .0) (c .if1 .taken)
 
--- src/literals.rt:92:9
 member-value-requires : tie.Need-member-value-requires
 member-value-requires c κs = search needs
 
--- src/literals.rt:93:9
 slot-requires : tie.Need-slot-requires
 slot-requires c κs = search needs
 
--- src/literals.rt:94:13
 mul-wide : tie.Need-mul-wide
 mul-wide c = search needs
 
--- src/literals.rt:94:13
 element-copy-out-wide : tie.Need-element-copy-out-wide
 element-copy-out-wide c = search needs
 
--- src/literals.rt:94:8
 wide-requires : tie.Need-wide-requires
 wide-requires c κs = search needs
 
--- src/literals.rt:95:9
 returns-2 : tie.Need-returns-2
 returns-2 c =
     let e = c .before .before .before .before in
@@ -52,13 +43,11 @@ returns-2 c =
     a-literal (tablesOf s) (theMember (tablesOf s) (a .args .m)) (a .args .to) (d .before .before .member-op .ensures .0) (d .before .kind .ensures .0) (d .if1 .left) (e .member-value .ensures .0)
     (sym (unmarked (tablesOf s) (a .args .last .now) (d .before .before .member-op .result) (e .member-value .result) (a .args .to) (a .pre .3) (slot-low (a .args .last .now) (d .before .before .member-op .result) (e .member-value .result) (c .before .before .before .slot .ensures .0) (c .before .wide .ensures) (c .if2 .taken))))
 
--- src/literals.rt:97:5
 literal-from-requires : tie.Need-literal-from-requires
 literal-from-requires c κs =
     let d = c .before .before .before .before .before in
     let a = d .before .before .before .before in (a .pre .0, sym (d .before .kind .ensures .0) ∙ d .if1 .left)
 
--- src/literals.rt:84:1
 returns-3 : tie.Need-returns-3
 returns-3 c =
     let e = c .before .before .before .before .before in

@@ -16,15 +16,12 @@ Inv-loop s im c₀ c = (c ≤ im .classes) × (all (bestRight (tablesOf s)) (tab
 abbrev μ-loop : tie.MeasureT-loop
 μ-loop s im c₀ c = im .classes - c
 
--- src/bests.rt:66:5
 loop-holds : tie.Need-loop-holds Inv-loop μ-loop
 loop-holds c = (omega arith, refl)
 
--- src/bests.rt:67:13
 best-right-requires : tie.Need-best-right-requires Inv-loop μ-loop
 best-right-requires c κs = search needs
 
--- src/bests.rt:68:13
 returns : tie.Need-returns Inv-loop μ-loop
 returns c =
     let l = c .before .before .before .before in
@@ -33,15 +30,12 @@ returns c =
     sym (l .loop .inv .1
     ∙ all-stop (bestRight (tablesOf s)) (tablesOf s .classes) (l .loop .c) _ (omega (arith, classes-many s (a .args .im) (a .pre .0))) (failed (c .before .best-right .ensures) (c .if2 .taken)))
 
--- src/bests.rt:70:9
 add-c : tie.Need-add-c Inv-loop μ-loop
 add-c c = search needs
 
--- src/bests.rt:66:5
 loop-less : tie.Need-loop-less Inv-loop μ-loop
 loop-less c = search needs
 
--- src/bests.rt:66:5
 loop-again : tie.Need-loop-again Inv-loop μ-loop
 loop-again c =
     let l = c .before .before .before .before in
@@ -52,7 +46,6 @@ loop-again c =
           ∙ sym (all-go (bestRight (tablesOf s)) (tablesOf s .classes) (l .loop .c) _ (omega (arith, classes-many s (a .args .im) (a .pre .0))) (passed (c .before .best-right .ensures) (c .if2 .left))),
     )
 
--- src/bests.rt:61:1
 returns-2 : tie.Need-returns-2 Inv-loop μ-loop
 returns-2 c =
     let l = c .before .before in

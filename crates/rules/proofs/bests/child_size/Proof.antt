@@ -7,25 +7,20 @@ use borrow.Author.Needs.{needs}
 use Rattle.rules.proofs.bests.child_size.Statement.{statement}
 use Rattle.rules.proofs.bests.child_size.Tie as tie
 
--- src/bests.rt:17:5
 child-times-requires : tie.Need-child-times-requires
 child-times-requires c κs = search needs
 
--- src/bests.rt:17:46
 child-class-requires : tie.Need-child-class-requires
 child-class-requires c κs = search needs
 
--- src/bests.rt:17:29
 best-size-requires : tie.Need-best-size-requires
 best-size-requires c κs =
     let b = c .before .before .before in (b .pre .0, omega (arith, ap (λ (k : ℕ). k) (c .child-class .ensures .0), b .pre .2))
 
--- src/bests.rt:17:5
 mul-result : tie.Need-mul-result
 mul-result c =
     record { fits = omega (arith, product-le (c .before .before .child-times .result) (c .best-size .result) (omega arith) (omega arith)) }
 
--- src/bests.rt:13:1
 returns : tie.Need-returns
 returns c =
     let b = c .before .before .before .before in

@@ -18,15 +18,12 @@ Inv-loop s im m size from n sum₀ i₀ sum i = (i ≤ n) × (from + n ≤ im .c
 abbrev μ-loop : tie.MeasureT-loop
 μ-loop s im m size from n sum₀ i₀ sum i = n - i
 
--- src/bests.rt:25:9
 first-child-requires : tie.Need-first-child-requires Inv-loop μ-loop
 first-child-requires c κs = search needs
 
--- src/bests.rt:26:9
 child-count-requires : tie.Need-child-count-requires Inv-loop μ-loop
 child-count-requires c κs = search needs
 
--- src/bests.rt:29:5
 loop-holds : tie.Need-loop-holds Inv-loop μ-loop
 loop-holds c =
     let a = c .before .before .before in
@@ -37,11 +34,9 @@ loop-holds c =
       size-start (tablesOf s) (childrenOf (tablesOf s) (theMember (tablesOf s) (a .args .m))),
     )
 
--- src/bests.rt:30:39
 add-child-size : tie.Need-add-child-size Inv-loop μ-loop
 add-child-size c = search needs
 
--- src/bests.rt:30:21
 child-size-requires : tie.Need-child-size-requires Inv-loop μ-loop
 child-size-requires c κs =
     let l = c .before in
@@ -53,11 +48,9 @@ child-size-requires c κs =
           (g .first-child .ensures .0) (omega (arith, l .before .child-count .ensures .0)),
     )
 
--- src/bests.rt:30:15
 add-sum : tie.Need-add-sum Inv-loop μ-loop
 add-sum c = search needs
 
--- src/bests.rt:32:13
 returns : tie.Need-returns Inv-loop μ-loop
 returns c =
     let l = c .before .before .before in
@@ -72,15 +65,12 @@ returns c =
       own-sum (tablesOf s) (theMember (tablesOf s) (a .args .m)) (own-within s (a .args .im) (a .pre .0) (a .pre .3) (a .pre .1)) (l .loop .i) (g .first-child .ensures .0) (omega (arith, l .before .child-count .ensures .0)) (childSize (tablesOf s)),
     ))
 
--- src/bests.rt:34:9
 add-i : tie.Need-add-i Inv-loop μ-loop
 add-i c = search needs
 
--- src/bests.rt:29:5
 loop-less : tie.Need-loop-less Inv-loop μ-loop
 loop-less c = search needs
 
--- src/bests.rt:29:5
 loop-again : tie.Need-loop-again Inv-loop μ-loop
 loop-again c =
     let l = c .before .before .before in
@@ -98,7 +88,6 @@ loop-again c =
       ),
     )
 
--- src/bests.rt:21:1
 returns-2 : tie.Need-returns-2 Inv-loop μ-loop
 returns-2 c =
     let l = c .before in

@@ -5,22 +5,18 @@ use borrow.Author.Needs.{needs}
 use Rattle.rules.proofs.children.child_right.Statement.{statement}
 use Rattle.rules.proofs.children.child_right.Tie as tie
 
--- src/children.rt:18:8
 child-class-requires : tie.Need-child-class-requires
 child-class-requires c κs = search needs
 
--- src/children.rt:19:9
 returns : tie.Need-returns
 returns c =
     let d = c .before .before in
     let b = d .before .before in
     class-wrong (tablesOf (b .args .s .now)) (b .args .k) (theChild (tablesOf (b .args .s .now)) (b .args .i)) (classes-many (b .args .s .now) (b .args .im) (b .pre .0)) (d .child-class .ensures .0) (c .if1 .taken)
 
--- src/children.rt:21:9
 child-times-requires : tie.Need-child-times-requires
 child-times-requires c κs = search needs
 
--- src/children.rt:23:9
 returns-2 : tie.Need-returns-2
 returns-2 c =
     let e = c .before .before in
@@ -28,7 +24,6 @@ returns-2 c =
     let b = d .before .before in
     none-wrong (tablesOf (b .args .s .now)) (b .args .k) (theChild (tablesOf (b .args .s .now)) (b .args .i)) (classes-many (b .args .s .now) (b .args .im) (b .pre .0)) (d .child-class .ensures .0) (e .if1 .left) (c .before .child-times .ensures .0) (c .if2 .taken)
 
--- src/children.rt:26:9
 returns-3 : tie.Need-returns-3
 returns-3 c =
     let e = c .before .before .before in
@@ -36,7 +31,6 @@ returns-3 c =
     let b = d .before .before in
     one-right (tablesOf (b .args .s .now)) (b .args .k) (theChild (tablesOf (b .args .s .now)) (b .args .i)) (classes-many (b .args .s .now) (b .args .im) (b .pre .0)) (d .child-class .ensures .0) (e .if1 .left) (c .before .before .child-times .ensures .0) (c .before .if2 .left) (c .if3 .taken)
 
--- src/children.rt:14:1
 returns-4 : tie.Need-returns-4
 returns-4 c =
     let e = c .before .before .before in

@@ -17,15 +17,12 @@ Inv-loop s im m₀ m = (m ≤ im .members) × (childrenRight (tablesOf s) ≡ al
 abbrev μ-loop : tie.MeasureT-loop
 μ-loop s im m₀ m = im .members - m
 
--- src/children.rt:64:5
 loop-holds : tie.Need-loop-holds Inv-loop μ-loop
 loop-holds c = (omega arith, children-right (tablesOf (c .before .args .s .now)))
 
--- src/children.rt:65:13
 member-children-right-requires : tie.Need-member-children-right-requires Inv-loop μ-loop
 member-children-right-requires c κs = search needs
 
--- src/children.rt:66:13
 returns : tie.Need-returns Inv-loop μ-loop
 returns c =
     let l = c .before .before .before .before in
@@ -34,15 +31,12 @@ returns c =
     sym (l .loop .inv .1
     ∙ all-stop (memberChildrenRight (tablesOf s)) (tablesOf s .members) (l .loop .m) _ (omega (arith, members-many s (a .args .im) (a .pre .0))) (failed (c .before .member-children-right .ensures) (c .if2 .taken)))
 
--- src/children.rt:68:9
 add-m : tie.Need-add-m Inv-loop μ-loop
 add-m c = search needs
 
--- src/children.rt:64:5
 loop-less : tie.Need-loop-less Inv-loop μ-loop
 loop-less c = search needs
 
--- src/children.rt:64:5
 loop-again : tie.Need-loop-again Inv-loop μ-loop
 loop-again c =
     let l = c .before .before .before .before in
@@ -53,7 +47,6 @@ loop-again c =
           ∙ sym (all-go (memberChildrenRight (tablesOf s)) (tablesOf s .members) (l .loop .m) _ (omega (arith, members-many s (a .args .im) (a .pre .0))) (passed (c .before .member-children-right .ensures) (c .if2 .left))),
     )
 
--- src/children.rt:59:1
 returns-2 : tie.Need-returns-2 Inv-loop μ-loop
 returns-2 c =
     let l = c .before .before in

@@ -5,24 +5,19 @@ use borrow.Author.Needs.{needs}
 use Rattle.rules.proofs.children.member_children_right.Statement.{statement}
 use Rattle.rules.proofs.children.member_children_right.Tie as tie
 
--- src/children.rt:52:25
 member-op-requires : tie.Need-member-op-requires
 member-op-requires c κs = search needs
 
--- src/children.rt:52:9
 kind-requires : tie.Need-kind-requires
 kind-requires c κs =
     let b = c .before .before in (b .pre .0, op-room (b .args .s .now) (b .args .im) (b .pre .0) (b .pre .2) (b .pre .1) (c .member-op .ensures .0))
 
--- src/children.rt:53:24
 child-count-requires : tie.Need-child-count-requires
 child-count-requires c κs = search needs
 
--- src/children.rt:53:9
 arity-right-requires : tie.Need-arity-right-requires
 arity-right-requires c κs = search needs
 
--- src/children.rt:54:9
 returns : tie.Need-returns
 returns c =
     let d = c .before .before in
@@ -30,11 +25,9 @@ returns c =
     arity-wrong (tablesOf (b .args .s .now)) (theMember (tablesOf (b .args .s .now)) (b .args .m)) (d .before .before .member-op .ensures .0) (d .before .kind .ensures .0) (d .child-count .ensures .0)
     (failed (c .before .arity-right .ensures) (c .if1 .taken))
 
--- src/children.rt:56:5
 own-right-requires : tie.Need-own-right-requires
 own-right-requires c κs = search needs
 
--- src/children.rt:48:1
 returns-2 : tie.Need-returns-2
 returns-2 c =
     let e = c .before in

@@ -16,30 +16,24 @@ Inv-loop s im k m from n i₀ i = (i ≤ n) × (from + n ≤ im .children) × (a
 abbrev μ-loop : tie.MeasureT-loop
 μ-loop s im k m from n i₀ i = n - i
 
--- src/children.rt:35:9
 first-child-requires : tie.Need-first-child-requires Inv-loop μ-loop
 first-child-requires c κs = search needs
 
--- src/children.rt:36:9
 child-count-requires : tie.Need-child-count-requires Inv-loop μ-loop
 child-count-requires c κs = search needs
 
--- src/children.rt:38:5
 loop-holds : tie.Need-loop-holds Inv-loop μ-loop
 loop-holds c =
     let a = c .before .before .before in
     let s = a .args .s .now in
     (omega arith, own-room s (a .args .im) (a .pre .0) (a .pre .2) (a .pre .1) (c .before .first-child .ensures .0) (c .child-count .ensures .0), refl)
 
--- src/children.rt:39:35
 add-child-right : tie.Need-add-child-right Inv-loop μ-loop
 add-child-right c = search needs
 
--- src/children.rt:39:13
 child-right-requires : tie.Need-child-right-requires Inv-loop μ-loop
 child-right-requires c κs = search needs
 
--- src/children.rt:40:13
 returns : tie.Need-returns Inv-loop μ-loop
 returns c =
     let l = c .before .before .before in
@@ -50,15 +44,12 @@ returns c =
     ∙ own-stop (tablesOf s) (theMember (tablesOf s) (a .args .m)) (own-within s (a .args .im) (a .pre .0) (a .pre .2) (a .pre .1)) (l .loop .i) (g .first-child .ensures .0) (omega (arith, l .before .child-count .ensures .0)) (childRight (tablesOf s) (a .args .k))
     (failed (c .before .child-right .ensures) (c .if1 .taken)))
 
--- src/children.rt:42:9
 add-i : tie.Need-add-i Inv-loop μ-loop
 add-i c = search needs
 
--- src/children.rt:38:5
 loop-less : tie.Need-loop-less Inv-loop μ-loop
 loop-less c = search needs
 
--- src/children.rt:38:5
 loop-again : tie.Need-loop-again Inv-loop μ-loop
 loop-again c =
     let l = c .before .before .before in
@@ -72,7 +63,6 @@ loop-again c =
           (passed (c .before .child-right .ensures) (c .if1 .left))),
     )
 
--- src/children.rt:31:1
 returns-2 : tie.Need-returns-2 Inv-loop μ-loop
 returns-2 c =
     let l = c .before in

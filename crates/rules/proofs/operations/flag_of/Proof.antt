@@ -3,15 +3,12 @@ use borrow.Author.Needs.{needs}
 use Rattle.rules.proofs.operations.flag_of.Statement.{statement}
 use Rattle.rules.proofs.operations.flag_of.Tie as tie
 
--- src/operations.rt:16:8
 is-commutative-requires : tie.Need-is-commutative-requires
 is-commutative-requires c κs = search needs
 
--- src/operations.rt:17:9
 returns : tie.Need-returns
 returns c = rw (← c .before .is-commutative .ensures, c .if1 .taken) refl
 
--- src/operations.rt:13:1
 returns-2 : tie.Need-returns-2
 returns-2 c = rw (← c .before .is-commutative .ensures, c .if1 .left) refl
 

@@ -6,21 +6,17 @@ use borrow.Author.Needs.{needs}
 use Rattle.rules.proofs.operations.identity_right.Statement.{statement}
 use Rattle.rules.proofs.operations.identity_right.Tie as tie
 
--- src/operations.rt:27:9
 returns : tie.Need-returns
 returns c = rw (eq-eqb (c .before .args .e) 65535 (c .if1 .taken)) refl
 
--- src/operations.rt:29:9
 is-ac-requires : tie.Need-is-ac-requires
 is-ac-requires c κs = search needs
 
--- src/operations.rt:30:9
 returns-2 : tie.Need-returns-2
 returns-2 c =
     let a = c .before .before .before .args in
     identity-kind (a .k) (a .e) (a .classes) (c .before .before .if1 .left) (failed (c .before .is-ac .ensures) (c .if2 .taken))
 
--- src/operations.rt:23:1
 returns-3 : tie.Need-returns-3
 returns-3 c =
     let a = c .before .before .before .args in

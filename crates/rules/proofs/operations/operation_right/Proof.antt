@@ -4,24 +4,19 @@ use borrow.Author.Needs.{needs}
 use Rattle.rules.proofs.operations.operation_right.Statement.{statement}
 use Rattle.rules.proofs.operations.operation_right.Tie as tie
 
--- src/operations.rt:39:9
 kind-requires : tie.Need-kind-requires
 kind-requires c κs = search needs
 
--- src/operations.rt:41:9
 returns : tie.Need-returns
 returns c =
     let b = c .before .before .before in kind-wrong (b .args .im .classes) (theOperation (tablesOf (b .args .s .now)) (b .args .o)) (c .before .kind .ensures .0) (c .if1 .taken)
 
--- src/operations.rt:43:8
 flag-requires : tie.Need-flag-requires
 flag-requires c κs = search needs
 
--- src/operations.rt:43:26
 flag-of-requires : tie.Need-flag-of-requires
 flag-of-requires c κs = search needs
 
--- src/operations.rt:44:9
 returns-2 : tie.Need-returns-2
 returns-2 c =
     let d = c .before .before .before in
@@ -29,15 +24,12 @@ returns-2 c =
     flag-wrong (b .args .im .classes) (theOperation (tablesOf (b .args .s .now)) (b .args .o)) (d .before .kind .ensures .0) (d .if1 .left)
     (c .before .before .flag .ensures .0) (c .before .flag-of .ensures) (c .if2 .taken)
 
--- src/operations.rt:46:23
 identity-requires : tie.Need-identity-requires
 identity-requires c κs = search needs
 
--- src/operations.rt:46:5
 identity-right-requires : tie.Need-identity-right-requires
 identity-right-requires c κs = search needs
 
--- src/operations.rt:35:1
 returns-3 : tie.Need-returns-3
 returns-3 c =
     let e = c .before .before in

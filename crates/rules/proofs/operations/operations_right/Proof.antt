@@ -17,15 +17,12 @@ Inv-loop s im o₀ o = (o ≤ im .operations) × (all (operationRight (length (t
 abbrev μ-loop : tie.MeasureT-loop
 μ-loop s im o₀ o = im .operations - o
 
--- src/operations.rt:54:5
 loop-holds : tie.Need-loop-holds Inv-loop μ-loop
 loop-holds c = (omega arith, refl)
 
--- src/operations.rt:55:13
 operation-right-requires : tie.Need-operation-right-requires Inv-loop μ-loop
 operation-right-requires c κs = search needs
 
--- src/operations.rt:56:13
 returns : tie.Need-returns Inv-loop μ-loop
 returns c =
     let l = c .before .before .before .before in
@@ -36,15 +33,12 @@ returns c =
     ∙ all-stop (operationRight (length (tablesOf s .classes))) (tablesOf s .operations) (l .loop .o) _ (omega (arith, operations-many s (a .args .im) (a .pre)))
     (failed (c .before .operation-right .ensures ∙ ap (λ (k : ℕ). operationRight k (theOperation (tablesOf s) (l .loop .o))) (sym n)) (c .if2 .taken)))
 
--- src/operations.rt:58:9
 add-o : tie.Need-add-o Inv-loop μ-loop
 add-o c = search needs
 
--- src/operations.rt:54:5
 loop-less : tie.Need-loop-less Inv-loop μ-loop
 loop-less c = search needs
 
--- src/operations.rt:54:5
 loop-again : tie.Need-loop-again Inv-loop μ-loop
 loop-again c =
     let l = c .before .before .before .before in
@@ -57,7 +51,6 @@ loop-again c =
           (passed (c .before .operation-right .ensures ∙ ap (λ (k : ℕ). operationRight k (theOperation (tablesOf s) (l .loop .o))) (sym n)) (c .if2 .left))),
     )
 
--- src/operations.rt:49:1
 returns-2 : tie.Need-returns-2 Inv-loop μ-loop
 returns-2 c =
     let l = c .before .before in

@@ -19,15 +19,12 @@ Inv-loop s im c from n last₀ i₀ last i = (i ≤ n) × (from + n ≤ im .memb
 abbrev μ-loop : tie.MeasureT-loop
 μ-loop s im c from n last₀ i₀ last i = n - i
 
--- src/spans.rt:100:9
 first-member-requires : tie.Need-first-member-requires Inv-loop μ-loop
 first-member-requires c κs = search needs
 
--- src/spans.rt:101:9
 member-count-requires : tie.Need-member-count-requires Inv-loop μ-loop
 member-count-requires c κs = search needs
 
--- src/spans.rt:104:5
 loop-holds : tie.Need-loop-holds Inv-loop μ-loop
 loop-holds c =
     let a = c .before .before .before in
@@ -37,15 +34,12 @@ loop-holds c =
       sym (rises-start (map (λ m. m .op) (membersIn (tablesOf s) (theClass (tablesOf s) (a .args .c))))),
     )
 
--- src/spans.rt:105:34
 add-member-op : tie.Need-add-member-op Inv-loop μ-loop
 add-member-op c = search needs
 
--- src/spans.rt:105:13
 member-op-requires : tie.Need-member-op-requires Inv-loop μ-loop
 member-op-requires c κs = search needs
 
--- src/spans.rt:107:13
 returns : tie.Need-returns Inv-loop μ-loop
 returns c =
     let l = c .before .before .before in
@@ -56,15 +50,12 @@ returns c =
     ∙ order-stop (tablesOf s) (theClass (tablesOf s) (a .args .c)) (classes-within (tablesOf s) (a .pre .2) (a .args .c) (omega (arith, classes-many s (a .args .im) (a .pre .0)))) (l .loop .last) (l .loop .i) (g .first-member .ensures .0) (omega (arith, l .before .member-count .ensures .0)) (c .before .member-op .ensures .0)
     (c .if1 .taken))
 
--- src/spans.rt:110:9
 add-i : tie.Need-add-i Inv-loop μ-loop
 add-i c = search needs
 
--- src/spans.rt:104:5
 loop-less : tie.Need-loop-less Inv-loop μ-loop
 loop-less c = search needs
 
--- src/spans.rt:104:5
 loop-again : tie.Need-loop-again Inv-loop μ-loop
 loop-again c =
     let l = c .before .before .before in
@@ -78,7 +69,6 @@ loop-again c =
           (c .if1 .left)),
     )
 
--- src/spans.rt:96:1
 returns-2 : tie.Need-returns-2 Inv-loop μ-loop
 returns-2 c =
     let l = c .before in

@@ -19,15 +19,12 @@ Inv-loop s im at₀ c₀ at c = (c ≤ im .classes) × (at < 131072) × (spansFo
 abbrev μ-loop : tie.MeasureT-loop
 μ-loop s im at₀ c₀ at c = im .classes - c
 
--- src/spans.rt:21:5
 loop-holds : tie.Need-loop-holds Inv-loop μ-loop
 loop-holds c = (omega arith, omega arith, refl)
 
--- src/spans.rt:22:12
 first-member-requires : tie.Need-first-member-requires Inv-loop μ-loop
 first-member-requires c κs = search needs
 
--- src/spans.rt:23:13
 returns : tie.Need-returns Inv-loop μ-loop
 returns c =
     let l = c .before .before .before .before in
@@ -37,23 +34,18 @@ returns c =
     ∙ span-stop (length (tablesOf s .members)) (l .loop .at) (classSpans (tablesOf s)) (l .loop .c) (omega (arith, class-spans-length (tablesOf s), classes-many s (a .args .im) (a .pre)))
     (class-span (tablesOf s) (l .loop .c)) (c .before .first-member .ensures .0) (c .if2 .taken))
 
--- src/spans.rt:25:19
 member-count-requires : tie.Need-member-count-requires Inv-loop μ-loop
 member-count-requires c κs = search needs
 
--- src/spans.rt:25:14
 add-at : tie.Need-add-at Inv-loop μ-loop
 add-at c = search needs
 
--- src/spans.rt:26:9
 add-c : tie.Need-add-c Inv-loop μ-loop
 add-c c = search needs
 
--- src/spans.rt:21:5
 loop-less : tie.Need-loop-less Inv-loop μ-loop
 loop-less c = search needs
 
--- src/spans.rt:21:5
 loop-again : tie.Need-loop-again Inv-loop μ-loop
 loop-again c =
     let d = c .before .before in
@@ -67,7 +59,6 @@ loop-again c =
           (class-span (tablesOf s) (l .loop .c)) (d .first-member .ensures .0) (c .member-count .ensures .0) (c .before .if2 .left)),
     )
 
--- src/spans.rt:15:1
 returns-2 : tie.Need-returns-2 Inv-loop μ-loop
 returns-2 c =
     let l = c .before .before .before in

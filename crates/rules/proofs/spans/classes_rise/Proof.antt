@@ -17,15 +17,12 @@ Inv-loop s im c₀ c = (c ≤ im .classes) × (all (λ c. rises (map (λ m. m .o
 abbrev μ-loop : tie.MeasureT-loop
 μ-loop s im c₀ c = im .classes - c
 
--- src/spans.rt:120:5
 loop-holds : tie.Need-loop-holds Inv-loop μ-loop
 loop-holds c = (omega arith, refl)
 
--- src/spans.rt:121:13
 class-rises-requires : tie.Need-class-rises-requires Inv-loop μ-loop
 class-rises-requires c κs = search needs
 
--- src/spans.rt:122:13
 returns : tie.Need-returns Inv-loop μ-loop
 returns c =
     let l = c .before .before .before .before in
@@ -34,15 +31,12 @@ returns c =
     sym (l .loop .inv .1
     ∙ all-stop (λ c. rises (map (λ m. m .op) (membersIn (tablesOf s) c))) (tablesOf s .classes) (l .loop .c) _ (omega (arith, classes-many s (a .args .im) (a .pre .0))) (failed (c .before .class-rises .ensures) (c .if2 .taken)))
 
--- src/spans.rt:124:9
 add-c : tie.Need-add-c Inv-loop μ-loop
 add-c c = search needs
 
--- src/spans.rt:120:5
 loop-less : tie.Need-loop-less Inv-loop μ-loop
 loop-less c = search needs
 
--- src/spans.rt:120:5
 loop-again : tie.Need-loop-again Inv-loop μ-loop
 loop-again c =
     let l = c .before .before .before .before in
@@ -53,7 +47,6 @@ loop-again c =
           ∙ sym (all-go (λ c. rises (map (λ m. m .op) (membersIn (tablesOf s) c))) (tablesOf s .classes) (l .loop .c) _ (omega (arith, classes-many s (a .args .im) (a .pre .0))) (passed (c .before .class-rises .ensures) (c .if2 .left))),
     )
 
--- src/spans.rt:115:1
 returns-2 : tie.Need-returns-2 Inv-loop μ-loop
 returns-2 c =
     let l = c .before .before in

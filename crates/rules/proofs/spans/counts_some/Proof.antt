@@ -18,15 +18,12 @@ Inv-loop s im c₀ c = (c ≤ im .classes) × (all (λ c. leb 1 (c .count)) (tab
 abbrev μ-loop : tie.MeasureT-loop
 μ-loop s im c₀ c = im .classes - c
 
--- src/spans.rt:54:5
 loop-holds : tie.Need-loop-holds Inv-loop μ-loop
 loop-holds c = (omega arith, refl)
 
--- src/spans.rt:55:12
 member-count-requires : tie.Need-member-count-requires Inv-loop μ-loop
 member-count-requires c κs = search needs
 
--- src/spans.rt:56:13
 returns : tie.Need-returns Inv-loop μ-loop
 returns c =
     let l = c .before .before .before .before in
@@ -35,15 +32,12 @@ returns c =
     sym (l .loop .inv .1
     ∙ all-stop (λ c. leb 1 (c .count)) (tablesOf s .classes) (l .loop .c) _ (omega (arith, classes-many s (a .args .im) (a .pre))) (lt-leb 1 (theClass (tablesOf s) (l .loop .c) .count) (omega (arith, c .before .member-count .ensures .0))))
 
--- src/spans.rt:58:9
 add-c : tie.Need-add-c Inv-loop μ-loop
 add-c c = search needs
 
--- src/spans.rt:54:5
 loop-less : tie.Need-loop-less Inv-loop μ-loop
 loop-less c = search needs
 
--- src/spans.rt:54:5
 loop-again : tie.Need-loop-again Inv-loop μ-loop
 loop-again c =
     let l = c .before .before .before .before in
@@ -54,7 +48,6 @@ loop-again c =
           ∙ sym (all-go (λ c. leb 1 (c .count)) (tablesOf s .classes) (l .loop .c) _ (omega (arith, classes-many s (a .args .im) (a .pre))) (le-leb 1 (theClass (tablesOf s) (l .loop .c) .count) (omega (arith, c .before .member-count .ensures .0)))),
     )
 
--- src/spans.rt:49:1
 returns-2 : tie.Need-returns-2 Inv-loop μ-loop
 returns-2 c =
     let l = c .before .before in

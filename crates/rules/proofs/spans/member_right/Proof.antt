@@ -5,22 +5,18 @@ use borrow.Author.Needs.{needs}
 use Rattle.rules.proofs.spans.member_right.Statement.{statement}
 use Rattle.rules.proofs.spans.member_right.Tie as tie
 
--- src/spans.rt:68:9
 member-op-requires : tie.Need-member-op-requires
 member-op-requires c κs = search needs
 
--- src/spans.rt:70:9
 returns : tie.Need-returns
 returns c =
     let d = c .before .before in
     let b = d .before .before in
     op-wrong (tablesOf (b .args .s .now)) (theMember (tablesOf (b .args .s .now)) (b .args .m)) (operations-many (b .args .s .now) (b .args .im) (b .pre .0)) (d .member-op .ensures .0) (c .if1 .taken)
 
--- src/spans.rt:72:8
 child-count-requires : tie.Need-child-count-requires
 child-count-requires c κs = search needs
 
--- src/spans.rt:73:9
 returns-2 : tie.Need-returns-2
 returns-2 c =
     let e = c .before .before in
@@ -28,11 +24,9 @@ returns-2 c =
     let b = d .before .before in
     count-wrong (tablesOf (b .args .s .now)) (theMember (tablesOf (b .args .s .now)) (b .args .m)) (operations-many (b .args .s .now) (b .args .im) (b .pre .0)) (d .member-op .ensures .0) (c .before .child-count .ensures .0) (e .if1 .left) (c .if2 .taken)
 
--- src/spans.rt:75:8
 member-value-requires : tie.Need-member-value-requires
 member-value-requires c κs = search needs
 
--- src/spans.rt:76:9
 returns-3 : tie.Need-returns-3
 returns-3 c =
     let g = c .before .before in
@@ -41,11 +35,9 @@ returns-3 c =
     let b = d .before .before in
     value-zero (tablesOf (b .args .s .now)) (theMember (tablesOf (b .args .s .now)) (b .args .m)) (operations-many (b .args .s .now) (b .args .im) (b .pre .0)) (d .member-op .ensures .0) (g .before .child-count .ensures .0) (e .if1 .left) (c .before .member-value .ensures .0) (g .if2 .left) (c .if3 .taken)
 
--- src/spans.rt:78:5
 kind-requires : tie.Need-kind-requires
 kind-requires c κs = search needs
 
--- src/spans.rt:64:1
 returns-4 : tie.Need-returns-4
 returns-4 c =
     let h = c .before in

@@ -19,15 +19,12 @@ Inv-loop s im at₀ m₀ at m = (m ≤ im .members) × (at < 131072) × (spansFo
 abbrev μ-loop : tie.MeasureT-loop
 μ-loop s im at₀ m₀ at m = im .members - m
 
--- src/spans.rt:38:5
 loop-holds : tie.Need-loop-holds Inv-loop μ-loop
 loop-holds c = (omega arith, omega arith, refl)
 
--- src/spans.rt:39:12
 first-child-requires : tie.Need-first-child-requires Inv-loop μ-loop
 first-child-requires c κs = search needs
 
--- src/spans.rt:40:13
 returns : tie.Need-returns Inv-loop μ-loop
 returns c =
     let l = c .before .before .before .before in
@@ -37,23 +34,18 @@ returns c =
     ∙ span-stop (length (tablesOf s .children)) (l .loop .at) (memberSpans (tablesOf s)) (l .loop .m) (omega (arith, member-spans-length (tablesOf s), members-many s (a .args .im) (a .pre)))
     (member-span (tablesOf s) (l .loop .m)) (c .before .first-child .ensures .0) (c .if2 .taken))
 
--- src/spans.rt:42:19
 child-count-requires : tie.Need-child-count-requires Inv-loop μ-loop
 child-count-requires c κs = search needs
 
--- src/spans.rt:42:14
 add-at : tie.Need-add-at Inv-loop μ-loop
 add-at c = search needs
 
--- src/spans.rt:43:9
 add-m : tie.Need-add-m Inv-loop μ-loop
 add-m c = search needs
 
--- src/spans.rt:38:5
 loop-less : tie.Need-loop-less Inv-loop μ-loop
 loop-less c = search needs
 
--- src/spans.rt:38:5
 loop-again : tie.Need-loop-again Inv-loop μ-loop
 loop-again c =
     let d = c .before .before in
@@ -67,7 +59,6 @@ loop-again c =
           (member-span (tablesOf s) (l .loop .m)) (d .first-child .ensures .0) (c .child-count .ensures .0) (c .before .if2 .left)),
     )
 
--- src/spans.rt:32:1
 returns-2 : tie.Need-returns-2 Inv-loop μ-loop
 returns-2 c =
     let l = c .before .before .before in

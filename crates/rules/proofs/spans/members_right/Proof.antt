@@ -16,15 +16,12 @@ Inv-loop s im m₀ m = (m ≤ im .members) × (all (memberRight (tablesOf s)) (t
 abbrev μ-loop : tie.MeasureT-loop
 μ-loop s im m₀ m = im .members - m
 
--- src/spans.rt:86:5
 loop-holds : tie.Need-loop-holds Inv-loop μ-loop
 loop-holds c = (omega arith, refl)
 
--- src/spans.rt:87:13
 member-right-requires : tie.Need-member-right-requires Inv-loop μ-loop
 member-right-requires c κs = search needs
 
--- src/spans.rt:88:13
 returns : tie.Need-returns Inv-loop μ-loop
 returns c =
     let l = c .before .before .before .before in
@@ -33,15 +30,12 @@ returns c =
     sym (l .loop .inv .1
     ∙ all-stop (memberRight (tablesOf s)) (tablesOf s .members) (l .loop .m) _ (omega (arith, members-many s (a .args .im) (a .pre))) (failed (c .before .member-right .ensures) (c .if2 .taken)))
 
--- src/spans.rt:90:9
 add-m : tie.Need-add-m Inv-loop μ-loop
 add-m c = search needs
 
--- src/spans.rt:86:5
 loop-less : tie.Need-loop-less Inv-loop μ-loop
 loop-less c = search needs
 
--- src/spans.rt:86:5
 loop-again : tie.Need-loop-again Inv-loop μ-loop
 loop-again c =
     let l = c .before .before .before .before in
@@ -52,7 +46,6 @@ loop-again c =
           ∙ sym (all-go (memberRight (tablesOf s)) (tablesOf s .members) (l .loop .m) _ (omega (arith, members-many s (a .args .im) (a .pre))) (passed (c .before .member-right .ensures) (c .if2 .left))),
     )
 
--- src/spans.rt:81:1
 returns-2 : tie.Need-returns-2 Inv-loop μ-loop
 returns-2 c =
     let l = c .before .before in

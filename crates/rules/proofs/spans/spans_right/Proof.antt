@@ -8,31 +8,25 @@ use borrow.Author.Needs.{needs}
 use Rattle.rules.proofs.spans.spans_right.Statement.{statement}
 use Rattle.rules.proofs.spans.spans_right.Tie as tie
 
--- src/spans.rt:133:9
 classes-follow-requires : tie.Need-classes-follow-requires
 classes-follow-requires c κs = search needs
 
--- src/spans.rt:134:9
 returns : tie.Need-returns
 returns c =
     let b = c .before .before .before in classes-break (tablesOf (b .args .s .now)) (failed (c .before .classes-follow .ensures) (c .if1 .taken))
 
--- src/spans.rt:136:9
 members-follow-requires : tie.Need-members-follow-requires
 members-follow-requires c κs = search needs
 
--- src/spans.rt:137:9
 returns-2 : tie.Need-returns-2
 returns-2 c =
     let d = c .before .before in
     let b = d .before .before .before in
     children-break (tablesOf (b .args .s .now)) (passed (d .before .classes-follow .ensures) (d .if1 .left)) (failed (c .before .members-follow .ensures) (c .if2 .taken))
 
--- src/spans.rt:139:9
 counts-some-requires : tie.Need-counts-some-requires
 counts-some-requires c κs = search needs
 
--- src/spans.rt:140:9
 returns-3 : tie.Need-returns-3
 returns-3 c =
     let e = c .before .before in
@@ -40,11 +34,9 @@ returns-3 c =
     let b = d .before .before .before in
     count-breaks (tablesOf (b .args .s .now)) (passed (d .before .classes-follow .ensures) (d .if1 .left)) (passed (e .before .members-follow .ensures) (e .if2 .left)) (failed (c .before .counts-some .ensures) (c .if3 .taken))
 
--- src/spans.rt:142:9
 members-right-requires : tie.Need-members-right-requires
 members-right-requires c κs = search needs
 
--- src/spans.rt:143:9
 returns-4 : tie.Need-returns-4
 returns-4 c =
     let g = c .before .before in
@@ -53,14 +45,12 @@ returns-4 c =
     let b = d .before .before .before in
     member-breaks (tablesOf (b .args .s .now)) (passed (d .before .classes-follow .ensures) (d .if1 .left)) (passed (e .before .members-follow .ensures) (e .if2 .left)) (passed (g .before .counts-some .ensures) (g .if3 .left)) (failed (c .before .members-right .ensures) (c .if4 .taken))
 
--- src/spans.rt:145:5
 classes-rise-requires : tie.Need-classes-rise-requires
 classes-rise-requires c κs =
     let d = c .before .before .before .before .before .before in
     let b = d .before .before .before in
     (b .pre, follow-rule (length (tablesOf (b .args .s .now) .members)) (classSpans (tablesOf (b .args .s .now))) .0 (passed (d .before .classes-follow .ensures) (d .if1 .left)))
 
--- src/spans.rt:129:1
 returns-5 : tie.Need-returns-5
 returns-5 c =
     let h = c .before in
