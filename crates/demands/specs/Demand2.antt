@@ -10,7 +10,7 @@ use Rattle.spec.specs.Bytes.{pick, Two, ok}
 use Rattle.spec.specs.Image.{Tables, tablesOf}
 use Rattle.spec.specs.Transport.{Problem, solveCells}
 use Rattle.spec.specs.Action.{Action, TransportAction, structural, transports, cellPairs}
-use Rattle.spec.specs.Round.{better, lookUp, qualityOver, ones, problemOver, Choice, stay, act, Turn, offer, offerActions, offerPlan, offerTransports, turnOf, turnsOf, qualitiesAfter}
+use Rattle.spec.specs.Round.{better, lookUp, problemOver, Act, ofAction, ofPlan, worth, stay, act, Turn, offer, offerActions, offerPlan, offerTransports, turnOf, turnsOf, qualitiesAfter}
 use Rattle.spec.specs.Run.{Outcome, runOf}
 use Rattle.spec.specs.Listing.{firstLine, listingOf}
 use Rattle.spec.specs.Meaning.{In, here, there, Plan, _⊑_, termQuality, readFirst, readSecond, treeAt, Belongs}
@@ -68,8 +68,8 @@ module _ (image : List ℕ) (left right budget : ℕ) (fit : Bool) (out out′ :
 -- What a pair's turn chose, over the qualities q of the round before: nothing better; a structural action, each joined pair once; or a transport action with a plan x.
 pub data Chose (t : Tables) (q : Two → Two) (p : Two) (w : Turn) : Type 0 where
   stayed : w .choice ≡ stay → w .quality ≡ q p → Chose t q p w
-  aligned : (a : Action) → In a (structural t (p .0) (p .1)) → w .choice ≡ act (a .op) (a .pairs) (ones (a .pairs)) → w .quality ≡ qualityOver (ones (a .pairs)) (map q (a .pairs)) → Chose t q p w
-  planned : (a : TransportAction) → In a (transports t (p .0) (p .1)) → (x : List ℕ) → w .choice ≡ act (a .op) (cellPairs (a .sides)) x → w .quality ≡ qualityOver x (map q (cellPairs (a .sides)))
+  aligned : (a : Action) → In a (structural t (p .0) (p .1)) → w .choice ≡ act (ofAction a) → w .quality ≡ worth q (ofAction a) → Chose t q p w
+  planned : (a : TransportAction) → In a (transports t (p .0) (p .1)) → (x : List ℕ) → w .choice ≡ act (ofPlan a x) → w .quality ≡ worth q (ofPlan a x)
       -- "Each transport plan meets its margins"
       → Plan (problemOver a (map q (cellPairs (a .sides)))) x
       -- ".. at the least size, then mass, of all whole-number plans"
@@ -77,17 +77,17 @@ pub data Chose (t : Tables) (q : Two → Two) (p : Two) (w : Turn) : Type 0 wher
       → Chose t q p w
 
 module _ (t : Tables) (q : Two → Two) (p : Two) where
-  offer-chose : (z : Two) (c : Choice) (w : Turn) → Chose t q p (record { quality = z; choice = c }) → Chose t q p w → Chose t q p (offer z c w)
-  offer-chose z c w L W = go (better z (w .quality))
+  offer-chose : (a : Act) (w : Turn) → Chose t q p (record { quality = worth q a; choice = act a }) → Chose t q p w → Chose t q p (offer q a w)
+  offer-chose a w L W = go (better (worth q a) (w .quality))
     where
-      go : (b : Bool) → Chose t q p (pick b (record { quality = z; choice = c }) w)
+      go : (b : Bool) → Chose t q p (pick b (record { quality = worth q a; choice = act a }) w)
       go true = L
       go false = W
 
   actions-chose : (l : List Action) → ((a : Action) → In a l → In a (structural t (p .0) (p .1))) → (w : Turn) → Chose t q p w → Chose t q p (offerActions q l w)
   unfolding offerActions
   actions-chose [] h w W = W
-  actions-chose (a ∷ l) h w W = actions-chose l (λ b i. h b (there i)) _ (offer-chose (qualityOver (ones (a .pairs)) (map q (a .pairs))) (act (a .op) (a .pairs) (ones (a .pairs))) w (aligned a (h a here) refl refl) W)
+  actions-chose (a ∷ l) h w W = actions-chose l (λ b i. h b (there i)) _ (offer-chose (ofAction a) w (aligned a (h a here) refl refl) W)
 
   transports-chose : (l : List TransportAction) → ((a : TransportAction) → In a l → In a (transports t (p .0) (p .1))) → (w : Turn) → Chose t q p w → Chose t q p (offerTransports q l w)
   unfolding offerTransports offerPlan
@@ -99,7 +99,7 @@ module _ (t : Tables) (q : Two → Two) (p : Two) where
 
       go : (s : Option (List ℕ)) → solveCells P ≡ s → Chose t q p (offerPlan q a s w)
       go none e = W
-      go (some x) e = offer-chose (qualityOver x (map q (cellPairs (a .sides)))) (act (a .op) (cellPairs (a .sides)) x) w (planned a (h a here) x refl refl (margins P x e) (λ y Y. least P x e y Y)) W
+      go (some x) e = offer-chose (ofPlan a x) w (planned a (h a here) x refl refl (margins P x e) (λ y Y. least P x e y Y)) W
 
   -- "Each transport plan meets its margins at the least size, then mass, of all whole-number plans": every plan that a turn takes.
   -- The turns of round r, over the graph's pairs ps, are `turnsOf t ps (qualitiesAfter r t ps)`: `turnOf` of each pair with q = `lookUp (0, 0) ps (qualitiesAfter r t ps)`.

@@ -14,7 +14,7 @@ use Rattle.spec.specs.Monomial.{Monomial, MonomialPair, monomialsOf, padPair, b
 use Rattle.spec.specs.Transport.{planSize, planMass}
 use Rattle.spec.specs.Action.{Action, TransportAction, structural, acOps, transports, cellPairs, joins}
 use Rattle.spec.specs.Graph.{enter, enterAll}
-use Rattle.spec.specs.Round.{better, qualityOver, ones, Choice, stay, act, Turn, offer, offerActions, offerPlan, offerTransports, turnOf}
+use Rattle.spec.specs.Round.{better, qualityOver, ones, Act, ofAction, ofPlan, worth, stay, Turn, offer, offerActions, offerPlan, offerTransports, turnOf}
 use Rattle.spec.specs.Meaning.{In, here, _⊑_}
 use Rattle.lgg.specs.Lists.{in-nil, in-cons, in-any}
 use Rattle.lgg.specs.Quality.{⊑-refl, ⊑-of-eq, ⊑-trans, ⊏-not, better-is, two-eq, Total}
@@ -40,11 +40,11 @@ repeat-quality q a b r = ap {B = Two} (λ (z : Two). (1 + z .0, z .1)) (perm-tot
 
 -- ---- offers
 -- an offer that is not strictly better leaves the turn as it is
-pub offer-again : (z : Two) (c : Choice) (w : Turn) → w .quality ⊑ z → offer z c w ≡ w
-offer-again z c w h = go (better z (w .quality)) refl
+pub offer-again : (q : Two → Two) (a : Act) (w : Turn) → w .quality ⊑ worth q a → offer q a w ≡ w
+offer-again q a w h = go (better (worth q a) (w .quality)) refl
   where
-    go : (b : Bool) → better z (w .quality) ≡ b → offer z c w ≡ w
-    go true e = absurd (⊏-not z (w .quality) (better-is z (w .quality) e) h)
+    go : (b : Bool) → better (worth q a) (w .quality) ≡ b → offer q a w ≡ w
+    go true e = absurd (⊏-not (worth q a) (w .quality) (better-is (worth q a) (w .quality) e) h)
     go false e = rw e refl
 
 -- structural actions
@@ -52,22 +52,21 @@ actions-fewer : (q : Two → Two) (seen l m : List Action) (w : Turn) → ((a : 
 unfolding offerActions
 actions-fewer q seen l m w h done = refl
 actions-fewer q seen l m w h (keep {x = x} {l = j} {m = k} d) =
-    let c = act (x .op) (x .pairs) (ones (x .pairs)) in
-    let v = offer (actionQuality q x) c w in
-    actions-fewer q (x ∷ seen) j k v (λ a i. elim (in-cons i) [ inl e ↦ rw e (offer-new (actionQuality q x) c w) | inr n ↦ ⊑-trans (v .quality) (w .quality) (actionQuality q a) (offer-old (actionQuality q x) c w) (h a n) ]) d
+    let v = offer q (ofAction x) w in
+    actions-fewer q (x ∷ seen) j k v (λ a i. elim (in-cons i) [ inl e ↦ rw e (offer-new q (ofAction x) w) | inr n ↦ ⊑-trans (v .quality) (w .quality) (actionQuality q a) (offer-old q (ofAction x) w) (h a n) ]) d
 actions-fewer q seen l m w h (drop {x = x} {l = j} y i r d) =
-    rw (offer-again (actionQuality q x) (act (x .op) (x .pairs) (ones (x .pairs))) w (⊑-trans (w .quality) (actionQuality q y) (actionQuality q x) (h y i) (⊑-of-eq (repeat-quality q y x r)))) (actions-fewer q seen j m w h d)
+    rw (offer-again q (ofAction x) w (⊑-trans (w .quality) (actionQuality q y) (actionQuality q x) (h y i) (⊑-of-eq (repeat-quality q y x r)))) (actions-fewer q seen j m w h d)
 
 -- transports
 plan-again : (q : Two → Two) (a : TransportAction) (s : Option (List ℕ)) (w : Turn) → ((x : List ℕ) → s ≡ some x → w .quality ⊑ qualityOver x (cellQualities q a)) → offerPlan q a s w ≡ w
 unfolding offerPlan
 plan-again q a none w h = refl
-plan-again q a (some x) w h = offer-again (qualityOver x (cellQualities q a)) (act (a .op) (cellPairs (a .sides)) x) w (h x refl)
+plan-again q a (some x) w h = offer-again q (ofPlan a x) w (h x refl)
 
 plan-old : (q : Two → Two) (a : TransportAction) (s : Option (List ℕ)) (w : Turn) → offerPlan q a s w .quality ⊑ w .quality
 unfolding offerPlan
 plan-old q a none w = ⊑-refl (w .quality)
-plan-old q a (some x) w = offer-old (qualityOver x (cellQualities q a)) (act (a .op) (cellPairs (a .sides)) x) w
+plan-old q a (some x) w = offer-old q (ofPlan a x) w
 
 -- the plan of a is not strictly better than what the turn has
 abbrev Offered : (Two → Two) → Turn → TransportAction → Type 0
@@ -91,7 +90,7 @@ pub action-again : (q : Two → Two) (l : List Action) (w : Turn) (a b : Action)
 unfolding offerActions
 action-again q l w a b i r =
     let v = offerActions q l w in
-    offer-again (actionQuality q b) (act (b .op) (b .pairs) (ones (b .pairs))) v (⊑-trans (v .quality) (actionQuality q a) (actionQuality q b) (actions-new q l w a i) (⊑-of-eq (repeat-quality q a b r)))
+    offer-again q (ofAction b) v (⊑-trans (v .quality) (actionQuality q a) (actionQuality q b) (actions-new q l w a i) (⊑-of-eq (repeat-quality q a b r)))
 
 pub transport-again : (q : Two → Two) (l : List TransportAction) (w : Turn) (a : TransportAction) → In a l → offerTransports q (a ∷ []) (offerTransports q l w) ≡ offerTransports q l w
 unfolding offerTransports

@@ -106,7 +106,7 @@ module _ (p q : Pool) (v : PoolValid p) (w : PoolValid q) where
 -- the places that a choice uses mean the same trees in both pools
 abbrev pub SamePlaces : Pool → Pool → (Two → ℕ) → (Two → ℕ) → Choice → Type 0
 SamePlaces p q of of′ stay = Unit
-SamePlaces p q of of′ (act o ps x) = (c : Two) → In c ps → Same p q (of c) (of′ c)
+SamePlaces p q of of′ (act a) = (c : Two) → In c (a .places) → Same p q (of c) (of′ c)
 
 action-tree : (t : Tables) (p : Pool) → PoolValid p → (of : Two → ℕ) (o : ℕ) (ps : List Two) (x : List ℕ) (r : Interned) → ((c : Two) → In c ps → of c < length p) → actionTerm t p o (planRuns of ps x) ≡ ok r
     → treeAt (r .pool) (r .term) ≡ node o (runsOf (treesAfter [] p) (joinRuns (actionRuns t p o (planRuns of ps x))))
@@ -117,18 +117,18 @@ pub choice-anywhere : (t : Tables) (p q : Pool) → PoolValid p → PoolValid q 
     → (r s : Interned) → choiceTerm t of p old ch ≡ ok r → choiceTerm t of′ q old′ ch ≡ ok s → treeAt (r .pool) (r .term) ≡ treeAt (s .pool) (s .term)
 unfolding choiceTerm
 choice-anywhere t p q v w of of′ old old′ stay S P r s e f = rw (← ok-inj e, ← ok-inj f) (S .tree)
-choice-anywhere t p q v w of of′ old old′ (act o ps x) S P r s e f =
-    action-tree t p v of o ps x r (λ c i. P c i .left) e
-    ∙ ap (node o) (runs-same p q v w (join-alike p q v w (picked p q v w (isCommutative (kindOf t o)) (plan-alike p q v w of of′ ps x P))))
-    ∙ sym (action-tree t q w of′ o ps x s (λ c i. P c i .right) f)
+choice-anywhere t p q v w of of′ old old′ (act a) S P r s e f =
+    action-tree t p v of (a .op) (a .places) (a .counts) r (λ c i. P c i .left) e
+    ∙ ap (node (a .op)) (runs-same p q v w (join-alike p q v w (picked p q v w (isCommutative (kindOf t (a .op))) (plan-alike p q v w of of′ (a .places) (a .counts) P))))
+    ∙ sym (action-tree t q w of′ (a .op) (a .places) (a .counts) s (λ c i. P c i .right) f)
 
 -- the places that a choice uses stand in the pool
 abbrev pub PlacesWithin : Pool → (Two → ℕ) → Choice → Type 0
 PlacesWithin p of stay = Unit
-PlacesWithin p of (act o ps x) = (c : Two) → In c ps → of c < length p
+PlacesWithin p of (act a) = (c : Two) → In c (a .places) → of c < length p
 
 -- So over a pool and over a larger one: what else has been interned changes nothing.
 pub choice-larger : (t : Tables) (p q : Pool) → PoolValid p → PoolValid q → Extends p q → (of : Two → ℕ) (old : ℕ) (ch : Choice) → old < length p → PlacesWithin p of ch
     → (r s : Interned) → choiceTerm t of p old ch ≡ ok r → choiceTerm t of q old ch ≡ ok s → treeAt (r .pool) (r .term) ≡ treeAt (s .pool) (s .term)
 choice-larger t p q v w g of old stay h k = choice-anywhere t p q v w of of old old stay (same-extends g old h) tt
-choice-larger t p q v w g of old (act o ps x) h k = choice-anywhere t p q v w of of old old (act o ps x) (same-extends g old h) (λ c i. same-extends g (of c) (k c i))
+choice-larger t p q v w g of old (act a) h k = choice-anywhere t p q v w of of old old (act a) (same-extends g old h) (λ c i. same-extends g (of c) (k c i))

@@ -12,7 +12,7 @@ use Rattle.spec.specs.Image.{Tables}
 use Rattle.spec.specs.Transport.{Problem, solveCells}
 use Rattle.spec.specs.Action.{Action, TransportAction, structural, transports, cellPairs, joins}
 use Rattle.spec.specs.Pool.{Pool, opNode, Interned, interned}
-use Rattle.spec.specs.Round.{better, qualityOver, ones, problemOver, lookUp, stay, act, Turn, offer, offerActions, offerPlan, offerTransports, turnOf, planRuns, actionTerm, choiceTerm, Terms, prepend, turnsTerms}
+use Rattle.spec.specs.Round.{better, qualityOver, problemOver, lookUp, Act, ofAction, ofPlan, worth, stay, act, Turn, offer, offerActions, offerPlan, offerTransports, turnOf, planRuns, actionTerm, choiceTerm, Terms, prepend, turnsTerms}
 use Rattle.spec.specs.Meaning.{In, here, there, treeAt, Plan}
 use Rattle.laws.specs.Valid.{Valid}
 use Rattle.lgg.specs.Bag.{both, perm-of-eq, perm-map}
@@ -97,19 +97,19 @@ module _ (t : Tables) (v : Valid t) (margins : (p : Problem) (x : List ℕ) → 
   -- what a turn says of its choice
   pub data Chosen (q : Two → Two) (p : Two) (w : Turn) : Type 0 where
     stayed : w .choice ≡ stay → w .quality ≡ q p → Chosen q p w
-    acted : (o : ℕ) (ps : List Two) (x : List ℕ) → w .choice ≡ act o ps x → w .quality ≡ qualityOver x (map q ps) → Legal t p o ps x → Chosen q p w
+    acted : (a : Act) → w .choice ≡ act a → w .quality ≡ worth q a → Legal t p (a .op) (a .places) (a .counts) → Chosen q p w
 
-  offer-chosen : (q : Two → Two) (p : Two) (w : Turn) (o : ℕ) (ps : List Two) (x : List ℕ) → Legal t p o ps x → Chosen q p w → Chosen q p (offer (qualityOver x (map q ps)) (act o ps x) w)
-  offer-chosen q p w o ps x L W = go (better (qualityOver x (map q ps)) (w .quality))
+  offer-chosen : (q : Two → Two) (p : Two) (w : Turn) (a : Act) → Legal t p (a .op) (a .places) (a .counts) → Chosen q p w → Chosen q p (offer q a w)
+  offer-chosen q p w a L W = go (better (worth q a) (w .quality))
     where
-      go : (b : Bool) → Chosen q p (pick b (record { quality = qualityOver x (map q ps); choice = act o ps x }) w)
-      go true = acted o ps x refl refl L
+      go : (b : Bool) → Chosen q p (pick b (record { quality = worth q a; choice = act a }) w)
+      go true = acted a refl refl L
       go false = W
 
   actions-chosen : (q : Two → Two) (p : Two) (l : List Action) → ((a : Action) → In a l → In a (structural t (p .0) (p .1))) → (w : Turn) → Chosen q p w → Chosen q p (offerActions q l w)
   unfolding offerActions
   actions-chosen q p [] h w W = W
-  actions-chosen q p (a ∷ l) h w W = actions-chosen q p l (λ b i. h b (there i)) _ (offer-chosen q p w (a .op) (a .pairs) (ones (a .pairs)) (structural-legal t v p a (h a here)) W)
+  actions-chosen q p (a ∷ l) h w W = actions-chosen q p l (λ b i. h b (there i)) _ (offer-chosen q p w (ofAction a) (structural-legal t v p a (h a here)) W)
 
   transports-chosen : (q : Two → Two) (p : Two) (l : List TransportAction) → ((a : TransportAction) → In a l → In a (transports t (p .0) (p .1))) → (w : Turn) → Chosen q p w → Chosen q p (offerTransports q l w)
   unfolding offerTransports offerPlan
@@ -121,7 +121,7 @@ module _ (t : Tables) (v : Valid t) (margins : (p : Problem) (x : List ℕ) → 
 
       go : (s : Option (List ℕ)) → solveCells P ≡ s → Chosen q p (offerPlan q a s w)
       go none e = W
-      go (some x) e = offer-chosen q p w (a .op) (cellPairs (a .sides)) x (transport-legal t v p a (h a here) (map q (cellPairs (a .sides))) x (margins P x e)) W
+      go (some x) e = offer-chosen q p w (ofPlan a x) (transport-legal t v p a (h a here) (map q (cellPairs (a .sides))) x (margins P x e)) W
 
   pub turn-chosen : (q : Two → Two) (p : Two) → Chosen q p (turnOf t q p)
   unfolding turnOf
@@ -166,7 +166,7 @@ module _ (t : Tables) (v : Valid t) (margins : (p : Problem) (x : List ℕ) → 
     where
       stays : ok (interned pool (of p)) ≡ ok r → Makes t pool p (q p) r
       stays z = rw (← ok-inj z) (record { valid = u; grown = extends-refl pool; within = g .0; good = g .1 })
-  choice-made pool p q of w r u (acted o ps x c k L) g h e = rw k (action-made pool p q of o ps x r u L (λ d i. h d (L .joined d i)) (rw c at e))
+  choice-made pool p q of w r u (acted a c k L) g h e = rw k (action-made pool p q of (a .op) (a .places) (a .counts) r u L (λ d i. h d (L .joined d i)) (rw c at e))
 
   -- the turns of a round in order
   pub turns-done : (q : Two → Two) (of : Two → ℕ) (ps : List Two) (b : ℕ) (pool : Pool) (r : Terms) (left : ℕ) → PoolValid pool

@@ -74,7 +74,7 @@ starting-only t (c ∷ cs) (suc b) p =
 pub choice-only : (t : Tables) (of : Two → ℕ) (p : Pool) (old : ℕ) (c : Choice) → Only13 (choiceTerm t of p old c)
 unfolding choiceTerm actionTerm
 choice-only t of p old stay = only-ok (interned p old)
-choice-only t of p old (act o ps x) = intern-only p (opNode o (pick (isCommutative (kindOf t o)) (sortRuns p (planRuns of ps x)) (planRuns of ps x)))
+choice-only t of p old (act a) = let l = planRuns of (a .places) (a .counts) in intern-only p (opNode (a .op) (pick (isCommutative (kindOf t (a .op))) (sortRuns p l) l))
 
 pub turns-only : (t : Tables) (of : Two → ℕ) (ps : List Two) (ws : List Turn) (b : ℕ) (p : Pool) → Only13 (turnsTerms t of ps ws b p)
 unfolding turnsTerms

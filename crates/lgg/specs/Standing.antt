@@ -12,7 +12,7 @@ use Rattle.spec.specs.Bytes.{pick, place, Two, sameTwo, Res, ok, refused, Check
 use Rattle.spec.specs.Image.{Tables, BEST-SIZE, bestSize}
 use Rattle.spec.specs.Graph.{build}
 use Rattle.spec.specs.Pool.{Pool, Interned, startingTerm}
-use Rattle.spec.specs.Round.{startingQuality, lookUp, Choice, stay, act, turnOf, planRuns, choiceTerm, Terms}
+use Rattle.spec.specs.Round.{startingQuality, lookUp, Act, Choice, stay, act, turnOf, planRuns, choiceTerm, Terms}
 use Rattle.spec.specs.Run.{State, startingTerms, outcome, started}
 use Rattle.spec.specs.Listing.{listingOf}
 use Rattle.spec.specs.Meaning.{In, here, there, Reachable, queried, joined}
@@ -71,11 +71,11 @@ pub record Grew (pool : Pool) (a : Interned) : Type 0 where
 
 -- of a choice
 pub choice-grows : (t : Tables) (of : Two → ℕ) (pool : Pool) (old : ℕ) (c : Choice) (a : Interned) → PoolValid pool → old < length pool
-    → ((o : ℕ) (ps : List Two) (x : List ℕ) → c ≡ act o ps x → (y : Two) → In y ps → of y < length pool) → choiceTerm t of pool old c ≡ ok a → Grew pool a
+    → ((b : Act) → c ≡ act b → (y : Two) → In y (b .places) → of y < length pool) → choiceTerm t of pool old c ≡ ok a → Grew pool a
 unfolding choiceTerm
 choice-grows t of pool old stay a v h f e = rw (← ok-inj e) (record { valid = v; grown = extends-refl pool; within = h })
-choice-grows t of pool old (act o ps x) a v h f e =
-    let E = action-enters t pool v o (planRuns of ps x) a (plan-below of (length pool) ps x (f o ps x refl)) e in record { valid = E .valid; grown = E .grown; within = E .within }
+choice-grows t of pool old (act b) a v h f e =
+    let E = action-enters t pool v (b .op) (planRuns of (b .places) (b .counts)) a (plan-below of (length pool) (b .places) (b .counts) (f b refl)) e in record { valid = E .valid; grown = E .grown; within = E .within }
 
 -- of a starting term
 pub starting-grows : (t : Tables) → Valid t → (pool : Pool) (c : Two) (a : Interned) → IsPair t c → PoolValid pool → startingTerm t pool c ≡ ok a → Grew pool a
@@ -133,7 +133,7 @@ module _ (t : Tables) (ps : List Two) (s : State) (S : Standing t ps s) (closed 
       let p = getD ps k (0, 0) in
       let i : In p ps = get-in ps k h in
       choice-grows t of pool (of p) (turnOf t (lookUp (0, 0) ps (s .qualities)) p .choice) a (M .valid) (extends-within (M .grown) (of p) (look-within S p i))
-      (λ o cs x z y j. extends-within (M .grown) (of y) (look-within S y (closed p y i (choice-joins t (lookUp (0, 0) ps (s .qualities)) p o cs x z y j)))) e
+      (λ b z y j. extends-within (M .grown) (of y) (look-within S y (closed p y i (choice-joins t (lookUp (0, 0) ps (s .qualities)) p b z y j)))) e
 
   -- the pool after one turn more
   pub turn-midway : (k : ℕ) (done : List ℕ) (pool : Pool) (a : Interned) → k < length ps → Midway (s .pool) k done pool → turnTerm t of ps (s .qualities) k pool ≡ ok a → Midway (s .pool) (k + 1) (done ++ (a .term ∷ [])) (a .pool)

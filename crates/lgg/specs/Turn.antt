@@ -13,7 +13,7 @@ use Rattle.spec.specs.Image.{Tables}
 use Rattle.spec.specs.Monomial.{counts}
 use Rattle.spec.specs.Transport.{forbidden, allowed, Problem, solveCells, planSize, planMass, rowFlow, colFlow}
 use Rattle.spec.specs.Action.{Action, TransportAction, structural, transports, cellPairs, joins}
-use Rattle.spec.specs.Round.{better, cellsOver, qualityOver, ones, problemOver, Choice, stay, act, Turn, changes, offer, offerActions, offerPlan, offerTransports, turnOf}
+use Rattle.spec.specs.Round.{better, cellsOver, qualityOver, ones, problemOver, Act, ofAction, ofPlan, worth, stay, Turn, changes, offer, offerActions, offerPlan, offerTransports, turnOf}
 use Rattle.spec.specs.Meaning.{In, here, there, Plan, _⊑_}
 use Rattle.lgg.specs.Lists.{in-left, in-right, in-each, length-map}
 use Rattle.lgg.specs.Quality.{_⊏_, ⊏-⊑-trans, ⊑-refl, ⊑-trans, ⊏-⊑, better-is, better-not, suc-⊑}
@@ -28,25 +28,25 @@ pub record TransportTheorems : Type 0 where
   pub refused16 : (p : Problem) → solveCells p ≡ none → (y : List ℕ) → Plan p y → ⊥
 
 -- ---- one offer
-pub offer-old : (z : Two) (c : Choice) (w : Turn) → offer z c w .quality ⊑ w .quality
-offer-old z c w = go (better z (w .quality)) refl
+pub offer-old : (q : Two → Two) (a : Act) (w : Turn) → offer q a w .quality ⊑ w .quality
+offer-old q a w = go (better (worth q a) (w .quality)) refl
   where
-    go : (b : Bool) → better z (w .quality) ≡ b → offer z c w .quality ⊑ w .quality
-    go true e = rw e (⊏-⊑ {a = z} {b = w .quality} (better-is z (w .quality) e))
+    go : (b : Bool) → better (worth q a) (w .quality) ≡ b → offer q a w .quality ⊑ w .quality
+    go true e = rw e (⊏-⊑ {a = worth q a} {b = w .quality} (better-is (worth q a) (w .quality) e))
     go false e = rw e (⊑-refl (w .quality))
 
-pub offer-new : (z : Two) (c : Choice) (w : Turn) → offer z c w .quality ⊑ z
-offer-new z c w = go (better z (w .quality)) refl
+pub offer-new : (q : Two → Two) (a : Act) (w : Turn) → offer q a w .quality ⊑ worth q a
+offer-new q a w = go (better (worth q a) (w .quality)) refl
   where
-    go : (b : Bool) → better z (w .quality) ≡ b → offer z c w .quality ⊑ z
-    go true e = rw e (⊑-refl z)
-    go false e = rw e (better-not z (w .quality) e)
+    go : (b : Bool) → better (worth q a) (w .quality) ≡ b → offer q a w .quality ⊑ worth q a
+    go true e = rw e (⊑-refl (worth q a))
+    go false e = rw e (better-not (worth q a) (w .quality) e)
 
-pub offer-one : (P : Two → Type 0) (z : Two) (c : Choice) (w : Turn) → P z → P (w .quality) → P (offer z c w .quality)
-offer-one P z c w a b = go (better z (w .quality)) refl
+pub offer-one : (P : Two → Type 0) (q : Two → Two) (a : Act) (w : Turn) → P (worth q a) → P (w .quality) → P (offer q a w .quality)
+offer-one P q a w f b = go (better (worth q a) (w .quality)) refl
   where
-    go : (x : Bool) → better z (w .quality) ≡ x → P (offer z c w .quality)
-    go true e = rw e a
+    go : (x : Bool) → better (worth q a) (w .quality) ≡ x → P (offer q a w .quality)
+    go true e = rw e f
     go false e = rw e b
 
 -- what the turn chose tells whether the quality is better than z
@@ -57,11 +57,11 @@ told-⊑ : (z : Two) (w : Turn) → Told z w → w .quality ⊑ z
 told-⊑ z w (inl (n, e)) = rw e (⊑-refl z)
 told-⊑ z w (inr (n, l)) = ⊏-⊑ {a = w .quality} {b = z} l
 
-offer-told : (y z : Two) (o : ℕ) (ps : List Two) (x : List ℕ) (w : Turn) → Told z w → Told z (offer y (act o ps x) w)
-offer-told y z o ps x w k = go (better y (w .quality)) refl
+offer-told : (z : Two) (q : Two → Two) (a : Act) (w : Turn) → Told z w → Told z (offer q a w)
+offer-told z q a w k = go (better (worth q a) (w .quality)) refl
   where
-    go : (b : Bool) → better y (w .quality) ≡ b → Told z (offer y (act o ps x) w)
-    go true e = rw e (inr (refl, ⊏-⊑-trans y (w .quality) z (better-is y (w .quality) e) (told-⊑ z w k)))
+    go : (b : Bool) → better (worth q a) (w .quality) ≡ b → Told z (offer q a w)
+    go true e = rw e (inr (refl, ⊏-⊑-trans (worth q a) (w .quality) z (better-is (worth q a) (w .quality) e) (told-⊑ z w k)))
     go false e = rw e k
 
 -- ---- all offers
@@ -75,16 +75,16 @@ abbrev pub solved : (Two → Two) → TransportAction → Option (List ℕ)
 solved q a = solveCells (problemOver a (cellQualities q a))
 
 -- what every offer keeps, the turn keeps
-module _ (I : Turn → Type 0) (keeps : (z : Two) (o : ℕ) (ps : List Two) (x : List ℕ) (w : Turn) → I w → I (offer z (act o ps x) w)) where
+module _ (I : Turn → Type 0) (keeps : (q : Two → Two) (a : Act) (w : Turn) → I w → I (offer q a w)) where
   pub actions-keep : (q : Two → Two) (l : List Action) (w : Turn) → I w → I (offerActions q l w)
   unfolding offerActions
   actions-keep q [] w k = k
-  actions-keep q (a ∷ l) w k = actions-keep q l _ (keeps (actionQuality q a) (a .op) (a .pairs) (ones (a .pairs)) w k)
+  actions-keep q (a ∷ l) w k = actions-keep q l _ (keeps q (ofAction a) w k)
 
   pub plan-keeps : (q : Two → Two) (a : TransportAction) (s : Option (List ℕ)) (w : Turn) → I w → I (offerPlan q a s w)
   unfolding offerPlan
   plan-keeps q a none w k = k
-  plan-keeps q a (some x) w k = keeps (qualityOver x (cellQualities q a)) (a .op) (cellPairs (a .sides)) x w k
+  plan-keeps q a (some x) w k = keeps q (ofPlan a x) w k
 
   pub transports-keep : (q : Two → Two) (l : List TransportAction) (w : Turn) → I w → I (offerTransports q l w)
   unfolding offerTransports
@@ -93,23 +93,23 @@ module _ (I : Turn → Type 0) (keeps : (z : Two) (o : ℕ) (ps : List Two) (x :
 
 -- never above what it was
 pub actions-old : (q : Two → Two) (l : List Action) (w : Turn) → offerActions q l w .quality ⊑ w .quality
-actions-old q l w = actions-keep (λ u. u .quality ⊑ w .quality) (λ z o ps x u k. ⊑-trans (offer z (act o ps x) u .quality) (u .quality) (w .quality) (offer-old z (act o ps x) u) k) q l w (⊑-refl (w .quality))
+actions-old q l w = actions-keep (λ u. u .quality ⊑ w .quality) (λ q a u k. ⊑-trans (offer q a u .quality) (u .quality) (w .quality) (offer-old q a u) k) q l w (⊑-refl (w .quality))
 
 pub transports-old : (q : Two → Two) (l : List TransportAction) (w : Turn) → offerTransports q l w .quality ⊑ w .quality
-transports-old q l w = transports-keep (λ u. u .quality ⊑ w .quality) (λ z o ps x u k. ⊑-trans (offer z (act o ps x) u .quality) (u .quality) (w .quality) (offer-old z (act o ps x) u) k) q l w (⊑-refl (w .quality))
+transports-old q l w = transports-keep (λ u. u .quality ⊑ w .quality) (λ q a u k. ⊑-trans (offer q a u .quality) (u .quality) (w .quality) (offer-old q a u) k) q l w (⊑-refl (w .quality))
 
 -- never above what was offered
 pub actions-new : (q : Two → Two) (l : List Action) (w : Turn) (a : Action) → In a l → offerActions q l w .quality ⊑ actionQuality q a
 unfolding offerActions
 actions-new q (b ∷ l) w a here =
-    let v = offer (actionQuality q a) (act (a .op) (a .pairs) (ones (a .pairs))) w in
-    ⊑-trans (offerActions q l v .quality) (v .quality) (actionQuality q a) (actions-old q l v) (offer-new (actionQuality q a) (act (a .op) (a .pairs) (ones (a .pairs))) w)
+    let v = offer q (ofAction a) w in
+    ⊑-trans (offerActions q l v .quality) (v .quality) (actionQuality q a) (actions-old q l v) (offer-new q (ofAction a) w)
 actions-new q (b ∷ l) w a (there i) = actions-new q l _ a i
 
 pub plan-new : (q : Two → Two) (a : TransportAction) (s : Option (List ℕ)) (w : Turn) (x : List ℕ) → s ≡ some x → offerPlan q a s w .quality ⊑ qualityOver x (cellQualities q a)
 unfolding offerPlan
 plan-new q a none w x e = absurd (let z : _≡_ {A = ℕ} 0 1 = cc in omega arith)
-plan-new q a (some y) w x e = let z : y ≡ x = cc in rw (← z) (offer-new (qualityOver y (cellQualities q a)) (act (a .op) (cellPairs (a .sides)) y) w)
+plan-new q a (some y) w x e = let z : y ≡ x = cc in rw (← z) (offer-new q (ofPlan a y) w)
 
 pub transports-new : (q : Two → Two) (l : List TransportAction) (w : Turn) (a : TransportAction) → In a l → (x : List ℕ) → solved q a ≡ some x → offerTransports q l w .quality ⊑ qualityOver x (cellQualities q a)
 unfolding offerTransports
@@ -122,12 +122,12 @@ transports-new q (b ∷ l) w a (there i) x e = transports-new q l _ a i x e
 pub actions-one : (P : Two → Type 0) (q : Two → Two) (l : List Action) (w : Turn) → ((a : Action) → In a l → P (actionQuality q a)) → P (w .quality) → P (offerActions q l w .quality)
 unfolding offerActions
 actions-one P q [] w f b = b
-actions-one P q (a ∷ l) w f b = actions-one P q l _ (λ c i. f c (there i)) (offer-one P (actionQuality q a) (act (a .op) (a .pairs) (ones (a .pairs))) w (f a here) b)
+actions-one P q (a ∷ l) w f b = actions-one P q l _ (λ c i. f c (there i)) (offer-one P q (ofAction a) w (f a here) b)
 
 plan-one : (P : Two → Type 0) (q : Two → Two) (a : TransportAction) (s : Option (List ℕ)) (w : Turn) → ((x : List ℕ) → s ≡ some x → P (qualityOver x (cellQualities q a))) → P (w .quality) → P (offerPlan q a s w .quality)
 unfolding offerPlan
 plan-one P q a none w f b = b
-plan-one P q a (some x) w f b = offer-one P (qualityOver x (cellQualities q a)) (act (a .op) (cellPairs (a .sides)) x) w (f x refl) b
+plan-one P q a (some x) w f b = offer-one P q (ofPlan a x) w (f x refl) b
 
 pub transports-one : (P : Two → Type 0) (q : Two → Two) (l : List TransportAction) (w : Turn) → ((a : TransportAction) → In a l → (x : List ℕ) → solved q a ≡ some x → P (qualityOver x (cellQualities q a))) → P (w .quality) → P (offerTransports q l w .quality)
 unfolding offerTransports
@@ -140,7 +140,7 @@ unturned q p = record { quality = q p; choice = stay }
 
 pub turn-told : (t : Tables) (q : Two → Two) (p : Two) → Told (q p) (turnOf t q p)
 unfolding turnOf
-turn-told t q p = transports-keep (Told (q p)) (λ y o ps x w k. offer-told y (q p) o ps x w k) q (transports t (p .0) (p .1)) _ (actions-keep (Told (q p)) (λ y o ps x w k. offer-told y (q p) o ps x w k) q (structural t (p .0) (p .1)) (unturned q p) (inl (refl, refl)))
+turn-told t q p = transports-keep (Told (q p)) (offer-told (q p)) q (transports t (p .0) (p .1)) _ (actions-keep (Told (q p)) (offer-told (q p)) q (structural t (p .0) (p .1)) (unturned q p) (inl (refl, refl)))
 
 pub turn-old : (t : Tables) (q : Two → Two) (p : Two) → turnOf t q p .quality ⊑ q p
 turn-old t q p = told-⊑ (q p) (turnOf t q p) (turn-told t q p)

@@ -6,31 +6,31 @@ use mathlib.Core.Option.{Option, none, some}
 use Prim.Native.Nat.{ℕ}
 use Rattle.spec.specs.Bytes.{Two}
 use Rattle.spec.specs.Image.{Tables}
-use Rattle.spec.specs.Action.{Action, TransportAction, structural, transports, cellPairs, joins}
-use Rattle.spec.specs.Round.{better, qualityOver, ones, Choice, stay, act, Turn, offer, offerActions, offerPlan, offerTransports, turnOf}
+use Rattle.spec.specs.Action.{Action, TransportAction, structural, transports, joins}
+use Rattle.spec.specs.Round.{better, qualityOver, Act, ofAction, ofPlan, worth, stay, Turn, offer, offerActions, offerPlan, offerTransports, turnOf}
 use Rattle.spec.specs.Meaning.{In, here, there, _⊑_}
 use Rattle.lgg.specs.Quality.{⊑-trans, ⊏-not, better-is}
 use Rattle.lgg.specs.Turn.{actionQuality, cellQualities, solved, actions-old, actions-new, transports-old, transports-new}
 use Rattle.lgg.specs.TurnAgree.{action-joins, transport-joins, actions-agree, transports-agree}
 
 -- ---- what is not better is not taken
-offer-stays : (z : Two) (c : Choice) (w : Turn) → w .quality ⊑ z → offer z c w ≡ w
-offer-stays z c w h = go (better z (w .quality)) refl
+offer-stays : (q : Two → Two) (a : Act) (w : Turn) → w .quality ⊑ worth q a → offer q a w ≡ w
+offer-stays q a w h = go (better (worth q a) (w .quality)) refl
   where
-    go : (b : Bool) → better z (w .quality) ≡ b → offer z c w ≡ w
-    go true e = absurd (⊏-not z (w .quality) (better-is z (w .quality) e) h)
+    go : (b : Bool) → better (worth q a) (w .quality) ≡ b → offer q a w ≡ w
+    go true e = absurd (⊏-not (worth q a) (w .quality) (better-is (worth q a) (w .quality) e) h)
     go false e = rw e refl
 
 module _ (q : Two → Two) where
   actions-stay : (l : List Action) (w : Turn) → ((a : Action) → In a l → w .quality ⊑ actionQuality q a) → offerActions q l w ≡ w
   unfolding offerActions
   actions-stay [] w h = refl
-  actions-stay (a ∷ l) w h = ap (offerActions q l) (offer-stays (actionQuality q a) (act (a .op) (a .pairs) (ones (a .pairs))) w (h a here)) ∙ actions-stay l w (λ b i. h b (there i))
+  actions-stay (a ∷ l) w h = ap (offerActions q l) (offer-stays q (ofAction a) w (h a here)) ∙ actions-stay l w (λ b i. h b (there i))
 
   plan-stays : (a : TransportAction) (s : Option (List ℕ)) (w : Turn) → ((x : List ℕ) → s ≡ some x → w .quality ⊑ qualityOver x (cellQualities q a)) → offerPlan q a s w ≡ w
   unfolding offerPlan
   plan-stays a none w h = refl
-  plan-stays a (some x) w h = offer-stays (qualityOver x (cellQualities q a)) (act (a .op) (cellPairs (a .sides)) x) w (h x refl)
+  plan-stays a (some x) w h = offer-stays q (ofPlan a x) w (h x refl)
 
   transports-stay : (l : List TransportAction) (w : Turn) → ((a : TransportAction) → In a l → (x : List ℕ) → solved q a ≡ some x → w .quality ⊑ qualityOver x (cellQualities q a)) → offerTransports q l w ≡ w
   unfolding offerTransports

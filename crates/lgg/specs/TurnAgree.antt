@@ -3,11 +3,11 @@ use mathlib.Core.Path.{_≡_, refl, ap, _∙_}
 use mathlib.Core.List.{List, [], _∷_, map}
 use mathlib.Core.Option.{Option, none, some}
 use Prim.Native.Nat.{ℕ}
-use Rattle.spec.specs.Bytes.{each, Two}
+use Rattle.spec.specs.Bytes.{each, pick, Two}
 use Rattle.spec.specs.Image.{Tables}
 use Rattle.spec.specs.Transport.{solveCells}
 use Rattle.spec.specs.Action.{Action, TransportAction, structural, transports, cellPairs, joins}
-use Rattle.spec.specs.Round.{qualityOver, ones, problemOver, stay, act, Turn, offer, offerActions, offerPlan, offerTransports, turnOf}
+use Rattle.spec.specs.Round.{better, qualityOver, problemOver, Act, ofAction, ofPlan, stay, act, Turn, offer, offerActions, offerPlan, offerTransports, turnOf}
 use Rattle.spec.specs.Meaning.{In, here, there}
 use Rattle.lgg.specs.Lists.{in-left, in-right, in-each, map-ext}
 
@@ -22,17 +22,20 @@ transport-joins t p a i c j = in-right (each (λ b. b .pairs) (structural t (p .
 
 -- ---- offers
 module _ (q q′ : Two → Two) where
+  offer-agree : (a : Act) (w : Turn) → map q (a .places) ≡ map q′ (a .places) → offer q a w ≡ offer q′ a w
+  offer-agree a w e = ap (λ (z : List Two). pick (better (qualityOver (a .counts) z) (w .quality)) (record { quality = qualityOver (a .counts) z; choice = act a }) w) e
+
   pub actions-agree : (l : List Action) (w : Turn) → ((a : Action) → In a l → (x : Two) → In x (a .pairs) → q x ≡ q′ x) → offerActions q l w ≡ offerActions q′ l w
   unfolding offerActions
   actions-agree [] w h = refl
   actions-agree (a ∷ l) w h =
-      ap (λ (z : List Two). offerActions q l (offer (qualityOver (ones (a .pairs)) z) (act (a .op) (a .pairs) (ones (a .pairs))) w)) (map-ext q q′ (a .pairs) (h a here))
+      ap (λ (z : Turn). offerActions q l z) (offer-agree (ofAction a) w (map-ext q q′ (a .pairs) (h a here)))
       ∙ actions-agree l _ (λ b i. h b (there i))
 
   plan-agree : (a : TransportAction) (s : Option (List ℕ)) (w : Turn) → map q (cellPairs (a .sides)) ≡ map q′ (cellPairs (a .sides)) → offerPlan q a s w ≡ offerPlan q′ a s w
   unfolding offerPlan
   plan-agree a none w e = refl
-  plan-agree a (some x) w e = ap (λ (z : List Two). offer (qualityOver x z) (act (a .op) (cellPairs (a .sides)) x) w) e
+  plan-agree a (some x) w e = offer-agree (ofPlan a x) w e
 
   pub transports-agree : (l : List TransportAction) (w : Turn) → ((a : TransportAction) → In a l → (x : Two) → In x (cellPairs (a .sides)) → q x ≡ q′ x) → offerTransports q l w ≡ offerTransports q′ l w
   unfolding offerTransports

@@ -17,7 +17,7 @@ use Rattle.spec.specs.Monomial.{Monomial, MonomialPair, insertAdd, addAll, mono
 use Rattle.spec.specs.Transport.{solveCells, rowFlow}
 use Rattle.spec.specs.Action.{Action, TransportAction, zip, byPosition, straightAndCrossed, alignments, alignMembers, structural, acOps, transports, cellPairs, joins}
 use Rattle.spec.specs.Pool.{Pool}
-use Rattle.spec.specs.Round.{better, ones, problemOver, Choice, stay, act, Turn, offer, offerActions, offerPlan, offerTransports, turnOf, planRuns, actionTerm, choiceTerm}
+use Rattle.spec.specs.Round.{better, ones, problemOver, Act, ofAction, ofPlan, worth, Choice, stay, act, Turn, offer, offerActions, offerPlan, offerTransports, turnOf, planRuns, actionTerm, choiceTerm}
 use Rattle.spec.specs.Meaning.{In, here, there, Plan}
 use Rattle.laws.specs.Valid.{Valid}
 use Rattle.laws.specs.Monomials.{Padded, level, left, right, padded}
@@ -31,48 +31,48 @@ use Rattle.lgg.specs.PoolIntern.{both-true}
 use Rattle.lgg.specs.TurnAgree.{action-joins, transport-joins}
 
 -- ---- a turn's choice is one of its actions
-module _ (P : ℕ → List Two → List ℕ → Type 0) where
+module _ (P : Act → Type 0) where
   -- P holds of what the turn chose, if anything
   abbrev ChosenAs : Turn → Type 0
-  ChosenAs w = (o : ℕ) (ps : List Two) (x : List ℕ) → w .choice ≡ act o ps x → P o ps x
+  ChosenAs w = (a : Act) → w .choice ≡ act a → P a
 
-  act-as : (o : ℕ) (ps : List Two) (x : List ℕ) → P o ps x → (o′ : ℕ) (ps′ : List Two) (x′ : List ℕ) → act o ps x ≡ act o′ ps′ x′ → P o′ ps′ x′
-  act-as o ps x h o′ ps′ x′ e = let a : o ≡ o′ = cc in let b : ps ≡ ps′ = cc in let c : x ≡ x′ = cc in rw (← a, ← b, ← c) h
+  act-as : (a : Act) → P a → (b : Act) → act a ≡ act b → P b
+  act-as a h b e = let z : a ≡ b = cc in rw (← z) h
 
-  offer-as : (z : Two) (o : ℕ) (ps : List Two) (x : List ℕ) (w : Turn) → P o ps x → ChosenAs w → ChosenAs (offer z (act o ps x) w)
-  offer-as z o ps x w h k = go (better z (w .quality))
+  offer-as : (q : Two → Two) (a : Act) (w : Turn) → P a → ChosenAs w → ChosenAs (offer q a w)
+  offer-as q a w h k = go (better (worth q a) (w .quality))
     where
-      go : (b : Bool) → ChosenAs (pick b (record { quality = z; choice = act o ps x }) w)
-      go true = act-as o ps x h
+      go : (b : Bool) → ChosenAs (pick b (record { quality = worth q a; choice = act a }) w)
+      go true = act-as a h
       go false = k
 
-  actions-as : (q : Two → Two) (l : List Action) (w : Turn) → ((a : Action) → In a l → P (a .op) (a .pairs) (ones (a .pairs))) → ChosenAs w → ChosenAs (offerActions q l w)
+  actions-as : (q : Two → Two) (l : List Action) (w : Turn) → ((a : Action) → In a l → P (ofAction a)) → ChosenAs w → ChosenAs (offerActions q l w)
   unfolding offerActions
   actions-as q [] w h k = k
-  actions-as q (a ∷ l) w h k = actions-as q l _ (λ b i. h b (there i)) (offer-as _ (a .op) (a .pairs) (ones (a .pairs)) w (h a here) k)
+  actions-as q (a ∷ l) w h k = actions-as q l _ (λ b i. h b (there i)) (offer-as q (ofAction a) w (h a here) k)
 
-  plan-as : (q : Two → Two) (a : TransportAction) (s : Option (List ℕ)) (w : Turn) → ((x : List ℕ) → s ≡ some x → P (a .op) (cellPairs (a .sides)) x) → ChosenAs w → ChosenAs (offerPlan q a s w)
+  plan-as : (q : Two → Two) (a : TransportAction) (s : Option (List ℕ)) (w : Turn) → ((x : List ℕ) → s ≡ some x → P (ofPlan a x)) → ChosenAs w → ChosenAs (offerPlan q a s w)
   unfolding offerPlan
   plan-as q a none w h k = k
-  plan-as q a (some x) w h k = offer-as _ (a .op) (cellPairs (a .sides)) x w (h x refl) k
+  plan-as q a (some x) w h k = offer-as q (ofPlan a x) w (h x refl) k
 
   transports-as : (q : Two → Two) (l : List TransportAction) (w : Turn)
-      → ((a : TransportAction) → In a l → (x : List ℕ) → solveCells (problemOver a (map q (cellPairs (a .sides)))) ≡ some x → P (a .op) (cellPairs (a .sides)) x) → ChosenAs w → ChosenAs (offerTransports q l w)
+      → ((a : TransportAction) → In a l → (x : List ℕ) → solveCells (problemOver a (map q (cellPairs (a .sides)))) ≡ some x → P (ofPlan a x)) → ChosenAs w → ChosenAs (offerTransports q l w)
   unfolding offerTransports
   transports-as q [] w h k = k
   transports-as q (a ∷ l) w h k = transports-as q l _ (λ b i. h b (there i)) (plan-as q a _ w (h a here) k)
 
-  pub turn-choice : (t : Tables) (q : Two → Two) (p : Two) → ((a : Action) → In a (structural t (p .0) (p .1)) → P (a .op) (a .pairs) (ones (a .pairs)))
-      → ((a : TransportAction) → In a (transports t (p .0) (p .1)) → (x : List ℕ) → solveCells (problemOver a (map q (cellPairs (a .sides)))) ≡ some x → P (a .op) (cellPairs (a .sides)) x)
-      → (o : ℕ) (ps : List Two) (x : List ℕ) → turnOf t q p .choice ≡ act o ps x → P o ps x
+  pub turn-choice : (t : Tables) (q : Two → Two) (p : Two) → ((a : Action) → In a (structural t (p .0) (p .1)) → P (ofAction a))
+      → ((a : TransportAction) → In a (transports t (p .0) (p .1)) → (x : List ℕ) → solveCells (problemOver a (map q (cellPairs (a .sides)))) ≡ some x → P (ofPlan a x))
+      → (a : Act) → turnOf t q p .choice ≡ act a → P a
   unfolding turnOf
   turn-choice t q p f g =
       transports-as q (transports t (p .0) (p .1)) _ g
-      (actions-as q (structural t (p .0) (p .1)) (record { quality = q p; choice = stay }) f (λ o ps x e. absurd (let z : _≡_ {A = ℕ} 0 1 = cc in omega arith)))
+      (actions-as q (structural t (p .0) (p .1)) (record { quality = q p; choice = stay }) f (λ a e. absurd (let z : _≡_ {A = ℕ} 0 1 = cc in omega arith)))
 
 -- the places that a turn chose are joined
-pub choice-joins : (t : Tables) (q : Two → Two) (p : Two) (o : ℕ) (ps : List Two) (x : List ℕ) → turnOf t q p .choice ≡ act o ps x → (c : Two) → In c ps → In c (joins t p)
-choice-joins t q p = turn-choice (λ o ps x. (c : Two) → In c ps → In c (joins t p)) t q p (λ a i. action-joins t p a i) (λ a i x e. transport-joins t p a i)
+pub choice-joins : (t : Tables) (q : Two → Two) (p : Two) (a : Act) → turnOf t q p .choice ≡ act a → (c : Two) → In c (a .places) → In c (joins t p)
+choice-joins t q p = turn-choice (λ a. (c : Two) → In c (a .places) → In c (joins t p)) t q p (λ a i. action-joins t p a i) (λ a i x e. transport-joins t p a i)
 
 -- ---- what the actions of a pair are made of
 zip-length : (xs ys : List ℕ) → length (zip xs ys) ≤ length xs
@@ -265,19 +265,19 @@ ones-at [] k = omega arith
 ones-at (p ∷ ps) zero = omega arith
 ones-at (p ∷ ps) (suc k) = ones-at ps k
 
--- What a choice `act o ps x` of pair p's turn names.
-pub record Placed (t : Tables) (p : Two) (o : ℕ) (ps : List Two) (x : List ℕ) : Type 0 where
+-- What a choice `act a` of pair p's turn names.
+pub record Placed (t : Tables) (p : Two) (a : Act) : Type 0 where
   -- every place is joined by the pair
-  pub joined : (c : Two) → In c ps → In c (joins t p)
+  pub joined : (c : Two) → In c (a .places) → In c (joins t p)
   -- one count for each place, and it fits a number of 4 bytes
-  pub long : length x ≡ length ps
-  pub counted : (k : ℕ) → getD x k 0 ≤ COUNT
-  pub operation : o < length (t .operations)
+  pub long : length (a .counts) ≡ length (a .places)
+  pub counted : (k : ℕ) → getD (a .counts) k 0 ≤ COUNT
+  pub operation : a .op < length (t .operations)
   -- at most 65 × 65
-  pub few : length ps ≤ 4225
+  pub few : length (a .places) ≤ 4225
 
 module _ (t : Tables) (v : Valid t) where
-  pub turn-placed : (q : Two → Two) (p : Two) (o : ℕ) (ps : List Two) (x : List ℕ) → turnOf t q p .choice ≡ act o ps x → Placed t p o ps x
+  pub turn-placed : (q : Two → Two) (p : Two) (a : Act) → turnOf t q p .choice ≡ act a → Placed t p a
   turn-placed q p = turn-choice (Placed t p) t q p
       (λ a i. let (m, j, z) = structural-made t (p .0) (p .1) a i in record {
         joined = action-joins t p a i;
@@ -305,10 +305,10 @@ runs-agree of of′ (p ∷ ps) (n ∷ x) h =
     ap₂ (λ (a : ℕ) (l : List Two). elim (eqb n 0) [ true ↦ l | false ↦ (a, n) ∷ l ]) (h p here) (runs-agree of of′ ps x (λ y i. h y (there i)))
 
 -- it reads the terms of the places alone
-pub choice-agree : (t : Tables) (of of′ : Two → ℕ) (pool : Pool) (old : ℕ) (o : ℕ) (ps : List Two) (x : List ℕ) → ((y : Two) → In y ps → of y ≡ of′ y)
-    → choiceTerm t of pool old (act o ps x) ≡ choiceTerm t of′ pool old (act o ps x)
+pub choice-agree : (t : Tables) (of of′ : Two → ℕ) (pool : Pool) (old : ℕ) (a : Act) → ((y : Two) → In y (a .places) → of y ≡ of′ y)
+    → choiceTerm t of pool old (act a) ≡ choiceTerm t of′ pool old (act a)
 unfolding choiceTerm
-choice-agree t of of′ pool old o ps x h = ap (λ (l : List Two). actionTerm t pool o l) (runs-agree of of′ ps x h)
+choice-agree t of of′ pool old a h = ap (λ (l : List Two). actionTerm t pool (a .op) l) (runs-agree of of′ (a .places) (a .counts) h)
 
 -- so a turn's term reads the terms of its own pair and of the pairs that it joins
 pub turn-term-agree : (t : Tables) (q : Two → Two) (of of′ : Two → ℕ) (pool : Pool) (p : Two) → of p ≡ of′ p → ((c : Two) → In c (joins t p) → of c ≡ of′ c)
@@ -318,4 +318,4 @@ turn-term-agree t q of of′ pool p e h = rw e (go (turnOf t q p .choice) refl)
   where
     go : (c : Choice) → turnOf t q p .choice ≡ c → choiceTerm t of pool (of′ p) c ≡ choiceTerm t of′ pool (of′ p) c
     go stay z = refl
-    go (act o ps x) z = choice-agree t of of′ pool (of′ p) o ps x (λ c i. h c (choice-joins t q p o ps x z c i))
+    go (act a) z = choice-agree t of of′ pool (of′ p) a (λ c i. h c (choice-joins t q p a z c i))

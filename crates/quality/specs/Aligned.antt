@@ -1,11 +1,10 @@
 -- "A strictly better action replaces; structural actions come before transport": what a pair has after its structural actions.
 use mathlib.Core.Path.{_≡_}
-use mathlib.Core.List.{map}
 use Prim.Native.Nat.{ℕ, _<_, _^_}
 use Rattle.spec.specs.Bytes.{Two}
 use Rattle.spec.specs.Image.{Tables}
 use Rattle.spec.specs.Action.{Action, structural}
-use Rattle.spec.specs.Round.{qualityOver, ones, Choice, stay, act, Turn, offer, offerActions}
+use Rattle.spec.specs.Round.{ofAction, worth, Choice, stay, act, Turn, offer, offerActions}
 use Rattle.actions.specs.Remaining.{Stands, actionAt}
 use Rattle.actions.specs.declared.State.{State}
 use Rattle.quality.specs.declared.How.{How}
@@ -14,7 +13,7 @@ use Rattle.quality.specs.declared.Best.{Best}
 
 -- the choice of the structural action at a state
 abbrev pub actAt : Tables → State → Choice
-actAt t v = act (actionAt t v .op) (actionAt t v .pairs) (ones (actionAt t v .pairs))
+actAt t v = act (ofAction (actionAt t v))
 
 -- what was chosen; a plan is not chosen among structural actions
 abbrev pub choiceAt : Tables → How → Choice
@@ -43,7 +42,7 @@ pub record Aligns (t : Tables) (q : Two → Two) (p : Two) (b : Best) : Type 0 w
 -- ---- one offer
 -- an action's quality, and that it fits
 pub record Weighs (q : Two → Two) (a : Action) (size mass : ℕ) : Type 0 where
-  pub quality : (size, mass) ≡ qualityOver (ones (a .pairs)) (map q (a .pairs))
+  pub quality : (size, mass) ≡ worth q (ofAction a)
   pub small : (size < 2 ^ 39) × (mass < 2 ^ 39)
 
 abbrev pub turnAt : Tables → Best → Turn
@@ -55,5 +54,5 @@ Sound t b = StandsAt t (b .how) × (b .size < 2 ^ 39) × (b .mass < 2 ^ 39)
 
 -- the action at v was offered to b: x is left
 pub record Offered (t : Tables) (q : Two → Two) (v : State) (b x : Best) : Type 0 where
-  pub turn : turnAt t x ≡ offer (qualityOver (ones (actionAt t v .pairs)) (map q (actionAt t v .pairs))) (actAt t v) (turnAt t b)
+  pub turn : turnAt t x ≡ offer q (ofAction (actionAt t v)) (turnAt t b)
   pub sound : Sound t b → Sound t x

@@ -8,23 +8,23 @@ use lib.ListN.{length}
 use Rattle.spec.specs.Bytes.{Two, pick}
 use Rattle.spec.specs.Image.{Tables}
 use Rattle.spec.specs.Action.{Action, structural, transports}
-use Rattle.spec.specs.Round.{better, Choice, stay, Turn, offer, offerActions, offerTransports, turnOf}
+use Rattle.spec.specs.Round.{better, Act, ofAction, worth, stay, act, Turn, offer, offerActions, offerTransports, turnOf}
 use Rattle.actions.specs.Remaining.{Stands, actionAt, afterOf, listFrom}
 use Rattle.actions.specs.declared.State.{State}
 use Rattle.quality.specs.declared.How.the-variants.{Stay, Aligned}
 use Rattle.quality.specs.declared.Best.{Best}
-use Rattle.quality.specs.Aligned.{Aligns, Weighs, Offered, Sound, turnAt, actAt, afterAligned}
+use Rattle.quality.specs.Aligned.{Aligns, Weighs, Offered, Sound, turnAt, afterAligned}
 
 -- ---- one offer
-offer-by : (b : Bool) (z y : Two) (c : Choice) (w : Turn) → z ≡ y → b ≡ better z (w .quality) → pick b (record { quality = z; choice = c }) w ≡ offer y c w
-offer-by b z y c w e f = (λ i. pick {A = Turn} (f i) (record { quality = z; choice = c }) w) ∙ (λ i. offer (e i) c w)
+offer-by : (b : Bool) (z : Two) (q : Two → Two) (a : Act) (w : Turn) → z ≡ worth q a → b ≡ better z (w .quality) → pick b (record { quality = z; choice = act a }) w ≡ offer q a w
+offer-by b z q a w e f = (λ i. pick {A = Turn} (f i) (record { quality = z; choice = act a }) w) ∙ (λ i. pick {A = Turn} (better (e i) (w .quality)) (record { quality = e i; choice = act a }) w)
 
 module _ (t : Tables) (q : Two → Two) (v : State) (b : Best) (size mass : ℕ) (W : Weighs q (actionAt t v) size mass) where
   pub replaces : Stands t v → true ≡ better (size, mass) (b .size, b .mass) → Offered t q v b (record { size = size; mass = mass; how = Aligned v })
-  replaces st e = record { turn = offer-by true (size, mass) _ (actAt t v) (turnAt t b) (W .quality) e; sound = λ s. (st, W .small .0, W .small .1) }
+  replaces st e = record { turn = offer-by true (size, mass) q (ofAction (actionAt t v)) (turnAt t b) (W .quality) e; sound = λ s. (st, W .small .0, W .small .1) }
 
   pub stays : false ≡ better (size, mass) (b .size, b .mass) → Offered t q v b b
-  stays e = record { turn = offer-by false (size, mass) _ (actAt t v) (turnAt t b) (W .quality) e; sound = λ s. s }
+  stays e = record { turn = offer-by false (size, mass) q (ofAction (actionAt t v)) (turnAt t b) (W .quality) e; sound = λ s. s }
 
 -- ---- all offers
 -- What the actions left at w make of b is what all of them make of the pair's own quality.

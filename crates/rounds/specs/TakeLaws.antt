@@ -45,7 +45,7 @@ module _ (t : Tables) (index pairs : List ℕ) (p : Two) (terms runs terms′ ru
     take-small n K held h =
         let (a, e, f) = made in
         let within : (y : Two) → termIn index pairs y < length (poolOf terms runs) = λ y. omega (arith, held (numberIn index y) (K .below (y .0 * 256 + y .1)), pool-length terms runs) in
-        let G = choice-grows t (termIn index pairs) (poolOf terms runs) (termIn index pairs p) (turnIn t index pairs p .choice) a (h .valid) (within p) (λ o ps c z y i. within y) e in
+        let G = choice-grows t (termIn index pairs) (poolOf terms runs) (termIn index pairs p) (turnIn t index pairs p .choice) a (h .valid) (within p) (λ b z y i. within y) e in
         omega (arith, ap (λ (z : Turned). z .term) f, G .within, ap length (X .pool ∙ ap (poolAfter (poolOf terms runs)) e), pool-length terms′ runs′, X .holds .few)
 
     pub take-moves : (k term : ℕ) (pairs′ : List ℕ) → term ≡ x .term → pairs′ ≡ given pairs (NEW + k) (x .size) (x .mass) term

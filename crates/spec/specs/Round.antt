@@ -41,28 +41,45 @@ abbrev pub lookUp : {A : Type 0} → A → List Two → List A → Two → A
 lookUp other pairs vs p = getD vs (place (sameTwo p) pairs) other
 
 -- ---- qualities
--- what a pair's turn chose: nothing, or an operation over places, each so many times
+-- an operation over places, each so many times
+pub record Act : Type 0 where
+  pub op : ℕ
+  pub places : List Two
+  pub counts : List ℕ
+
+abbrev pub ofAction : Action → Act
+ofAction a = record { op = a .op; places = a .pairs; counts = ones (a .pairs) }
+
+abbrev pub ofPlan : TransportAction → List ℕ → Act
+ofPlan a x = record { op = a .op; places = cellPairs (a .sides); counts = x }
+
+-- its quality when the places have the qualities q
+abbrev pub worth : (Two → Two) → Act → Two
+worth q a = qualityOver (a .counts) (map q (a .places))
+
+-- what a pair's turn chose: nothing, or one of these
 pub data Choice : Type 0 where
   stay : Choice
-  act : ℕ → List Two → List ℕ → Choice
+  act : Act → Choice
 
 pub record Turn : Type 0 where
   pub quality : Two
   pub choice : Choice
 
-abbrev pub offer : Two → Choice → Turn → Turn
-offer q c w = pick (better q (w .quality)) (record { quality = q; choice = c }) w
+-- "a strictly better action replaces"
+abbrev pub offer : (Two → Two) → Act → Turn → Turn
+offer q a w = pick (better (worth q a) (w .quality)) (record { quality = worth q a; choice = act a }) w
 
 unfoldable pub offerActions : (Two → Two) → List Action → Turn → Turn
 unfolding planMass planSize
 offerActions q [] w = w
-offerActions q (a ∷ l) w = offerActions q l (offer (qualityOver (ones (a .pairs)) (map q (a .pairs))) (act (a .op) (a .pairs) (ones (a .pairs))) w)
+offerActions q (a ∷ l) w = offerActions q l (offer q (ofAction a) w)
 
 -- "A monomial pair with an empty side has no plan": then there is nothing to offer
 unfoldable pub offerPlan : (Two → Two) → TransportAction → Option (List ℕ) → Turn → Turn
 unfolding cellPairs planMass planSize
 offerPlan q a none w = w
-offerPlan q a (some x) w = offer (qualityOver x (map q (cellPairs (a .sides)))) (act (a .op) (cellPairs (a .sides)) x) w
+offerPlan q a (some x) w = offer q (ofPlan a x) w
 
 unfoldable pub offerTransports : (Two → Two) → List TransportAction → Turn → Turn
 unfolding cellPairs offerPlan solveCells
@@ -88,7 +105,7 @@ qualitiesAfter zero t pairs = map (startingQuality t) pairs
 qualitiesAfter (suc r) t pairs = next t pairs (qualitiesAfter r t pairs)
 
 abbrev pub changes : Turn → Bool
-changes w = elim (w .choice) [ stay ↦ false | act o ps x ↦ true ]
+changes w = elim (w .choice) [ stay ↦ false | act a ↦ true ]
 
 -- ---- terms
 -- the places that are used, with their counts, in order: for a plan its cells, row by row
@@ -106,7 +123,7 @@ actionTerm t p o l = intern p (opNode o (pick (isCommutative (kindOf t o)) (sort
 unfoldable pub choiceTerm : Tables → (Two → ℕ) → Pool → ℕ → Choice → Res Interned
 unfolding actionTerm planRuns
 choiceTerm t of p old stay = ok (interned p old)
-choiceTerm t of p old (act o ps x) = actionTerm t p o (planRuns of ps x)
+choiceTerm t of p old (act a) = actionTerm t p (a .op) (planRuns of (a .places) (a .counts))
 
 -- the terms of the pairs from some pair on, with the pool that holds them
 pub record Terms : Type 0 where

@@ -11,7 +11,7 @@ use Rattle.spec.specs.Image.{Tables}
 use Rattle.spec.specs.Monomial.{counts}
 use Rattle.spec.specs.Transport.{solveCells}
 use Rattle.spec.specs.Action.{TransportAction, transports, cellPairs}
-use Rattle.spec.specs.Round.{better, Choice, stay, act, Turn, offerPlan, offerTransports, turnOf}
+use Rattle.spec.specs.Round.{better, ofPlan, Choice, stay, act, Turn, offerPlan, offerTransports, turnOf}
 use Rattle.actions.specs.Remaining.{Stands}
 use Rattle.transport.specs.Solved.{costsAfter, flowAfter}
 use Rattle.quality.specs.Known.{over}
@@ -28,7 +28,7 @@ use Rattle.turns.specs.Taking.{alignedBest, turnIn}
 pub record Planned (of : Two → ℕ) (list : List ℕ) (o m : ℕ) (c : Choice) : Type 0 where
   pub places : List Two
   pub plan : List ℕ
-  pub is : c ≡ act o places plan
+  pub is : c ≡ act (record { op = o; places = places; counts = plan })
   pub runs : take m list ≡ runsOver of places plan
   pub many : m ≡ length (runsOver of places plan)
 
@@ -58,7 +58,7 @@ module _ (t : Tables) (q : Two → Two) (of : Two → ℕ) where
       let e : better (qualityAt q of a x) (b .size, b .mass) ≡ better (qualityAt q of a x) (w .quality) = ap (better (qualityAt q of a x)) (A .quality) in
       rw (← e) (step (better (qualityAt q of a x) (b .size, b .mass)))
     where
-      step : (y : Bool) → Agrees t of (pick y (over (runsAt of (a .sides) x) list) list) (pick y (planned q of a x) b) (pick y (record { quality = qualityAt q of a x; choice = act (a .op) (cellPairs (a .sides)) x }) w)
+      step : (y : Bool) → Agrees t of (pick y (over (runsAt of (a .sides) x) list) list) (pick y (planned q of a x) b) (pick y (record { quality = qualityAt q of a x; choice = act (ofPlan a x) }) w)
       step true = record {
         quality = refl;
         chosen = record { places = cellPairs (a .sides); plan = x; is = refl; runs = take-at (runsAt of (a .sides) x) (drop (length (runsAt of (a .sides) x)) list) (length (runsAt of (a .sides) x)) refl; many = refl };

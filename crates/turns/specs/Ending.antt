@@ -14,7 +14,7 @@ use Rattle.spec.specs.Pool.{Interned}
 use Rattle.spec.specs.Meaning.{In}
 use Rattle.spec.specs.Action.{transports}
 use Rattle.spec.specs.Monomial.{COUNT}
-use Rattle.spec.specs.Round.{Choice, stay, act, Turn, changes, turnOf, choiceTerm, actionTerm, planRuns}
+use Rattle.spec.specs.Round.{Act, Choice, stay, act, Turn, changes, turnOf, choiceTerm, actionTerm, planRuns}
 use Rattle.lgg.specs.Lists.{in-nil, in-cons}
 use Rattle.lgg.specs.Pool.{RunsBelow}
 use Rattle.lgg.specs.TurnBounds.{turn-small}
@@ -110,24 +110,27 @@ module _ (t : Tables) (of : Two → ℕ) (terms runs : List ℕ) (hold : Holds t
   unfolding choiceTerm
   ended-stay e r f = rw (e, f) (record { answer = refl; pool = refl; holds = hold; grows = grows-none terms runs hold; listIs = refl })
 
-  module _ (o : ℕ) (ps : List Two) (x : List ℕ) (e : c ≡ act o ps x) (list₁ : List ℕ) (l : list₁ ≡ over (runsOver of ps x) list) (n : ℕ) (k : n ≡ length (runsOver of ps x)) where
-    listed : part list₁ 0 n ≡ runsOver of ps x
-    listed = rw l (part-front (runsOver of ps x) (drop (length (runsOver of ps x)) list) n k)
+  module _ (a : Act) (e : c ≡ act a) (list₁ : List ℕ) (l : list₁ ≡ over (runsOver of (a .places) (a .counts)) list) (n : ℕ) (k : n ≡ length (runsOver of (a .places) (a .counts))) where
+    abbrev listing : List ℕ
+    listing = runsOver of (a .places) (a .counts)
 
-    unlisted : map unpack (part list₁ 0 n) ≡ planRuns of ps x
-    unlisted = ap (map unpack) listed ∙ runs-back of small ps x
+    listed : part list₁ 0 n ≡ listing
+    listed = rw l (part-front listing (drop (length listing) list) n k)
+
+    unlisted : map unpack (part list₁ 0 n) ≡ planRuns of (a .places) (a .counts)
+    unlisted = ap (map unpack) listed ∙ runs-back of small (a .places) (a .counts)
 
     -- what `intern_action_result` asks
     pub act-fits : n ≤ length list₁
-    act-fits = rw l (omega (arith, k, length-append (runsOver of ps x) (drop (length (runsOver of ps x)) list)))
+    act-fits = rw l (omega (arith, k, length-append listing (drop (length listing) list)))
 
     pub act-below : RunsBelow (countIn terms) (map unpack (part list₁ 0 n))
-    act-below = rw unlisted (runs-below of (countIn terms) below ps x)
+    act-below = rw unlisted (runs-below of (countIn terms) below (a .places) (a .counts))
 
-    pub act-light : ((i : ℕ) → getD x i 0 ≤ COUNT) → length ps ≤ 4225 → sum (part list₁ 0 n) < 2 ^ 64
-    act-light h f = rw listed (omega (arith, runs-sum of small ps x h))
+    pub act-light : ((i : ℕ) → getD (a .counts) i 0 ≤ COUNT) → length (a .places) ≤ 4225 → sum (part list₁ 0 n) < 2 ^ 64
+    act-light h f = rw listed (omega (arith, runs-sum of small (a .places) (a .counts) h))
 
-    pub ended-act : (terms′ runs′ list′ : List ℕ) (r : Entered) → ActionResult terms runs list₁ n o (isCommutative (kindOf t o)) terms′ runs′ list′ r → Ended t of terms runs old c list terms′ runs′ list′ r
+    pub ended-act : (terms′ runs′ list′ : List ℕ) (r : Entered) → ActionResult terms runs list₁ n (a .op) (isCommutative (kindOf t (a .op))) terms′ runs′ list′ r → Ended t of terms runs old c list terms′ runs′ list′ r
     unfolding choiceTerm actionTerm
     ended-act terms′ runs′ list′ r A =
         rw e
@@ -136,7 +139,7 @@ module _ (t : Tables) (of : Two → ℕ) (terms runs : List ℕ) (hold : Holds t
           pool = rw unlisted at (A .pool);
           holds = A .holds;
           grows = rw unlisted at (A .grows);
-          listIs = A .listIs ∙ (λ i. actionList (isCommutative (kindOf t o)) terms runs (l i) (k i));
+          listIs = A .listIs ∙ (λ i. actionList (isCommutative (kindOf t (a .op))) terms runs (l i) (k i));
         })
 
 -- ---- the answer
@@ -146,7 +149,7 @@ taken-map room terms runs T.Short f g u = (λ h w. u .0 (omega arith) w, f (u .1
 taken-map room terms runs (T.To w) f g u = g u
 taken-map room terms runs T.Full f g u = g u
 
-pub changed-is : (t : Tables) (of : Two → ℕ) (list : List ℕ) (h : How) (c : Choice) → Chosen t of list h c → changedBy h ≡ elim c [ stay ↦ false | act o ps x ↦ true ]
+pub changed-is : (t : Tables) (of : Two → ℕ) (list : List ℕ) (h : How) (c : Choice) → Chosen t of list h c → changedBy h ≡ elim c [ stay ↦ false | act a ↦ true ]
 changed-is t of list H.Stay c e = rw e refl
 changed-is t of list (H.Aligned v) c e = rw (e .1) refl
 changed-is t of list (H.Plan o m) c e = rw (e .is) refl

@@ -55,7 +55,7 @@ turnIn t q of p sizes masses costs flow list = offersIn q of (transports t (p .0
 -- the winner's runs are listed, ordered and joined
 abbrev pub termList : Tables → (Two → ℕ) → List ℕ → List ℕ → Choice → List ℕ → List ℕ
 termList t of terms runs stay list = list
-termList t of terms runs (act o ps x) list = actionList (isCommutative (kindOf t o)) terms runs (over (runsOver of ps x) list) (length (runsOver of ps x))
+termList t of terms runs (act a) list = let r = runsOver of (a .places) (a .counts) in actionList (isCommutative (kindOf t (a .op))) terms runs (over r list) (length r)
 
 -- The choice c made into its term, from the list that the turn left: what the list and the pool's buffers hold then.
 pub record Ended (t : Tables) (of : Two → ℕ) (terms runs : List ℕ) (old : ℕ) (c : Choice) (list terms′ runs′ list′ : List ℕ) (r : Entered) : Type 0 where

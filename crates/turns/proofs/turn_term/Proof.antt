@@ -3,7 +3,7 @@ use native.Mathlib.Omega.{arith}
 use lib.ListN.{length}
 use borrow.Author.Needs.{needs}
 use Rattle.spec.specs.Image.{tablesOf}
-use Rattle.spec.specs.Round.{turnOf, ones}
+use Rattle.spec.specs.Round.{ofAction, turnOf}
 use Rattle.lgg.specs.TurnPlaces.{turn-placed}
 use Rattle.image.specs.Loaded.{operations-many}
 use Rattle.actions.specs.Remaining.{actionAt}
@@ -55,8 +55,8 @@ intern-action-requires c κs =
     let of = termIn (a .index .now) (a .pairs .now) in
     let t = tablesOf (a .s .now) in
     let h : Chosen t of (a .list .now) (H.Aligned (c .before .before .before .before .before .before .before .before .before .how .given .0 .0)) (turnOf t q (a .l, a .r) .choice) = rw (c .before .before .before .before .before .before .before .before .before .how .given .1) at (b .pre .8) in
-    let g = turn-placed t (b .pre .1) q (a .l, a .r) (actionAt t (c .before .before .before .before .before .before .before .before .before .how .given .0 .0) .op) (actionAt t (c .before .before .before .before .before .before .before .before .before .how .given .0 .0) .pairs) (ones (actionAt t (c .before .before .before .before .before .before .before .before .before .how .given .0 .0) .pairs)) (h .1) in
-    (b .pre .0, c .before .before .before .op .ensures .1, omega (arith, c .before .before .before .op .ensures .1, operations-many (a .s .now) (a .im) (b .pre .0), b .pre .1 .counts .fewOperations), b .pre .5, act-fits t of (a .terms .now) (a .runs .now) (b .pre .5) (known-below (b .pre .4) (b .pre .6)) (of (a .l, a .r)) (turnOf t q (a .l, a .r) .choice) (a .list .now) (actionAt t (c .before .before .before .before .before .before .before .before .before .how .given .0 .0) .op) (actionAt t (c .before .before .before .before .before .before .before .before .before .how .given .0 .0) .pairs) (ones (actionAt t (c .before .before .before .before .before .before .before .before .before .how .given .0 .0) .pairs)) (h .1) _ (c .before .before .before .before .before .before .list-action .ensures .1) (c .before .before .before .before .before .before .list-action .result) (c .before .before .before .before .before .before .list-action .ensures .0), act-below t of (a .terms .now) (a .runs .now) (b .pre .5) (known-below (b .pre .4) (b .pre .6)) (of (a .l, a .r)) (turnOf t q (a .l, a .r) .choice) (a .list .now) (actionAt t (c .before .before .before .before .before .before .before .before .before .how .given .0 .0) .op) (actionAt t (c .before .before .before .before .before .before .before .before .before .how .given .0 .0) .pairs) (ones (actionAt t (c .before .before .before .before .before .before .before .before .before .how .given .0 .0) .pairs)) (h .1) _ (c .before .before .before .before .before .before .list-action .ensures .1) (c .before .before .before .before .before .before .list-action .result) (c .before .before .before .before .before .before .list-action .ensures .0), act-light t of (a .terms .now) (a .runs .now) (b .pre .5) (known-below (b .pre .4) (b .pre .6)) (of (a .l, a .r)) (turnOf t q (a .l, a .r) .choice) (a .list .now) (actionAt t (c .before .before .before .before .before .before .before .before .before .how .given .0 .0) .op) (actionAt t (c .before .before .before .before .before .before .before .before .before .how .given .0 .0) .pairs) (ones (actionAt t (c .before .before .before .before .before .before .before .before .before .how .given .0 .0) .pairs)) (h .1) _ (c .before .before .before .before .before .before .list-action .ensures .1) (c .before .before .before .before .before .before .list-action .result) (c .before .before .before .before .before .before .list-action .ensures .0) (g .counted) (g .few))
+    let g = turn-placed t (b .pre .1) q (a .l, a .r) (ofAction (actionAt t (c .before .before .before .before .before .before .before .before .before .how .given .0 .0))) (h .1) in
+    (b .pre .0, c .before .before .before .op .ensures .1, omega (arith, c .before .before .before .op .ensures .1, operations-many (a .s .now) (a .im) (b .pre .0), b .pre .1 .counts .fewOperations), b .pre .5, act-fits t of (a .terms .now) (a .runs .now) (b .pre .5) (known-below (b .pre .4) (b .pre .6)) (of (a .l, a .r)) (turnOf t q (a .l, a .r) .choice) (a .list .now) (ofAction (actionAt t (c .before .before .before .before .before .before .before .before .before .how .given .0 .0))) (h .1) _ (c .before .before .before .before .before .before .list-action .ensures .1) (c .before .before .before .before .before .before .list-action .result) (c .before .before .before .before .before .before .list-action .ensures .0), act-below t of (a .terms .now) (a .runs .now) (b .pre .5) (known-below (b .pre .4) (b .pre .6)) (of (a .l, a .r)) (turnOf t q (a .l, a .r) .choice) (a .list .now) (ofAction (actionAt t (c .before .before .before .before .before .before .before .before .before .how .given .0 .0))) (h .1) _ (c .before .before .before .before .before .before .list-action .ensures .1) (c .before .before .before .before .before .before .list-action .result) (c .before .before .before .before .before .before .list-action .ensures .0), act-light t of (a .terms .now) (a .runs .now) (b .pre .5) (known-below (b .pre .4) (b .pre .6)) (of (a .l, a .r)) (turnOf t q (a .l, a .r) .choice) (a .list .now) (ofAction (actionAt t (c .before .before .before .before .before .before .before .before .before .how .given .0 .0))) (h .1) _ (c .before .before .before .before .before .before .list-action .ensures .1) (c .before .before .before .before .before .before .list-action .result) (c .before .before .before .before .before .before .list-action .ensures .0) (g .counted) (g .few))
 
 enum-known-how-2 : tie.Need-enum-known-how-2
 enum-known-how-2 c = search needs
@@ -69,8 +69,8 @@ intern-action-requires-2 c κs =
     let of = termIn (a .index .now) (a .pairs .now) in
     let t = tablesOf (a .s .now) in
     let h : Planned of (a .list .now) (c .before .before .before .before .how2 .given .0 .0) (c .before .before .before .before .how2 .given .0 .1 .0) (turnOf t q (a .l, a .r) .choice) = rw (c .before .before .before .before .how2 .given .1) at (b .pre .8) in
-    let g = turn-placed t (b .pre .1) q (a .l, a .r) (c .before .before .before .before .how2 .given .0 .0) (h .places) (h .plan) (h .is) in
-    (b .pre .0, omega (arith, g .operation, operations-many (a .s .now) (a .im) (b .pre .0)), omega (arith, g .operation, b .pre .1 .counts .fewOperations), b .pre .5, act-fits t of (a .terms .now) (a .runs .now) (b .pre .5) (known-below (b .pre .4) (b .pre .6)) (of (a .l, a .r)) (turnOf t q (a .l, a .r) .choice) (a .list .now) (c .before .before .before .before .how2 .given .0 .0) (h .places) (h .plan) (h .is) (a .list .now) (over-front (a .list .now) (runsOver of (h .places) (h .plan)) (c .before .before .before .before .how2 .given .0 .1 .0) (h .runs) (h .many)) (c .before .before .before .before .how2 .given .0 .1 .0) (h .many), act-below t of (a .terms .now) (a .runs .now) (b .pre .5) (known-below (b .pre .4) (b .pre .6)) (of (a .l, a .r)) (turnOf t q (a .l, a .r) .choice) (a .list .now) (c .before .before .before .before .how2 .given .0 .0) (h .places) (h .plan) (h .is) (a .list .now) (over-front (a .list .now) (runsOver of (h .places) (h .plan)) (c .before .before .before .before .how2 .given .0 .1 .0) (h .runs) (h .many)) (c .before .before .before .before .how2 .given .0 .1 .0) (h .many), act-light t of (a .terms .now) (a .runs .now) (b .pre .5) (known-below (b .pre .4) (b .pre .6)) (of (a .l, a .r)) (turnOf t q (a .l, a .r) .choice) (a .list .now) (c .before .before .before .before .how2 .given .0 .0) (h .places) (h .plan) (h .is) (a .list .now) (over-front (a .list .now) (runsOver of (h .places) (h .plan)) (c .before .before .before .before .how2 .given .0 .1 .0) (h .runs) (h .many)) (c .before .before .before .before .how2 .given .0 .1 .0) (h .many) (g .counted) (g .few))
+    let g = turn-placed t (b .pre .1) q (a .l, a .r) _ (h .is) in
+    (b .pre .0, omega (arith, g .operation, operations-many (a .s .now) (a .im) (b .pre .0)), omega (arith, g .operation, b .pre .1 .counts .fewOperations), b .pre .5, act-fits t of (a .terms .now) (a .runs .now) (b .pre .5) (known-below (b .pre .4) (b .pre .6)) (of (a .l, a .r)) (turnOf t q (a .l, a .r) .choice) (a .list .now) _ (h .is) (a .list .now) (over-front (a .list .now) (runsOver of (h .places) (h .plan)) (c .before .before .before .before .how2 .given .0 .1 .0) (h .runs) (h .many)) (c .before .before .before .before .how2 .given .0 .1 .0) (h .many), act-below t of (a .terms .now) (a .runs .now) (b .pre .5) (known-below (b .pre .4) (b .pre .6)) (of (a .l, a .r)) (turnOf t q (a .l, a .r) .choice) (a .list .now) _ (h .is) (a .list .now) (over-front (a .list .now) (runsOver of (h .places) (h .plan)) (c .before .before .before .before .how2 .given .0 .1 .0) (h .runs) (h .many)) (c .before .before .before .before .how2 .given .0 .1 .0) (h .many), act-light t of (a .terms .now) (a .runs .now) (b .pre .5) (known-below (b .pre .4) (b .pre .6)) (of (a .l, a .r)) (turnOf t q (a .l, a .r) .choice) (a .list .now) _ (h .is) (a .list .now) (over-front (a .list .now) (runsOver of (h .places) (h .plan)) (c .before .before .before .before .how2 .given .0 .1 .0) (h .runs) (h .many)) (c .before .before .before .before .how2 .given .0 .1 .0) (h .many) (g .counted) (g .few))
 
 returns : tie.Need-returns
 returns c =
@@ -100,7 +100,7 @@ returns-2 c =
     let of = termIn (a .index .now) (a .pairs .now) in
     let t = tablesOf (a .s .now) in
     let h : Chosen t of (a .list .now) (H.Aligned (the-how .given .0 .0)) (turnOf t q (a .l, a .r) .choice) = rw (the-how .given .1) at (b .pre .8) in
-    unless-map (a .terms .now) (a .runs .now) (the-intern-action .result) (λ z. z) (λ A. ended-act t of (a .terms .now) (a .runs .now) (b .pre .5) (known-below (b .pre .4) (b .pre .6)) (of (a .l, a .r)) (turnOf t q (a .l, a .r) .choice) (a .list .now) (actionAt t (the-how .given .0 .0) .op) (actionAt t (the-how .given .0 .0) .pairs) (ones (actionAt t (the-how .given .0 .0) .pairs)) (h .1) _ (the-list-action .ensures .1) (the-list-action .result) (the-list-action .ensures .0) _ _ _ (the-intern-action .result) (rw (c .before .before .before .before .before .before .before .before .before .before .op .ensures .0) at A)) (the-intern-action .ensures)
+    unless-map (a .terms .now) (a .runs .now) (the-intern-action .result) (λ z. z) (λ A. ended-act t of (a .terms .now) (a .runs .now) (b .pre .5) (known-below (b .pre .4) (b .pre .6)) (of (a .l, a .r)) (turnOf t q (a .l, a .r) .choice) (a .list .now) (ofAction (actionAt t (the-how .given .0 .0))) (h .1) _ (the-list-action .ensures .1) (the-list-action .result) (the-list-action .ensures .0) _ _ _ (the-intern-action .result) (rw (c .before .before .before .before .before .before .before .before .before .before .op .ensures .0) at A)) (the-intern-action .ensures)
 
 same-length-4 : tie.Need-same-length-4
 same-length-4 c = search needs
@@ -121,7 +121,7 @@ returns-3 c =
     let of = termIn (a .index .now) (a .pairs .now) in
     let t = tablesOf (a .s .now) in
     let h : Planned of (a .list .now) (the-how2 .given .0 .0) (the-how2 .given .0 .1 .0) (turnOf t q (a .l, a .r) .choice) = rw (the-how2 .given .1) at (b .pre .8) in
-    unless-map (a .terms .now) (a .runs .now) (the-intern-action2 .result) (λ z. z) (λ A. ended-act t of (a .terms .now) (a .runs .now) (b .pre .5) (known-below (b .pre .4) (b .pre .6)) (of (a .l, a .r)) (turnOf t q (a .l, a .r) .choice) (a .list .now) (the-how2 .given .0 .0) (h .places) (h .plan) (h .is) (a .list .now) (over-front (a .list .now) (runsOver of (h .places) (h .plan)) (the-how2 .given .0 .1 .0) (h .runs) (h .many)) (the-how2 .given .0 .1 .0) (h .many) _ _ _ (the-intern-action2 .result) A) (the-intern-action2 .ensures)
+    unless-map (a .terms .now) (a .runs .now) (the-intern-action2 .result) (λ z. z) (λ A. ended-act t of (a .terms .now) (a .runs .now) (b .pre .5) (known-below (b .pre .4) (b .pre .6)) (of (a .l, a .r)) (turnOf t q (a .l, a .r) .choice) (a .list .now) _ (h .is) (a .list .now) (over-front (a .list .now) (runsOver of (h .places) (h .plan)) (the-how2 .given .0 .1 .0) (h .runs) (h .many)) (the-how2 .given .0 .1 .0) (h .many) _ _ _ (the-intern-action2 .result) A) (the-intern-action2 .ensures)
 
 pub turn-term-spec : {M : Type 1} → statement M
 turn-term-spec =
