@@ -7,14 +7,15 @@ use native.Mathlib.Numerals.{add-one}
 use native.Mathlib.Omega.{arith}
 use borrow.Author.Tests.{ltb-true, ltb-false}
 use lib.Dec.{eqb, ltb}
-use lib.ListN.{length, getD, take, drop, drop-of-length-le}
-use lib.Seq.{slice, slice-cons, drop-cons, drop-at, take-add, length-take-le}
+use lib.ListN.{length, getD, drop, drop-of-length-le}
+use lib.Seq.{slice, slice-cons, drop-cons}
 use Rattle.spec.specs.Bytes.{pick, either, each}
 use Rattle.spec.specs.Image.{Tables, Member, SPair, Lit, isAC, kindOf, tablesOf, theClass, theMember, membersOf, childrenOf}
 use Rattle.spec.specs.Monomial.{classes}
 use Rattle.spec.specs.Action.{Action, zip, byPosition, straightAndCrossed, alignments, alignMembers, structural}
 use Rattle.laws.specs.Valid.{Valid}
 use Rattle.laws.specs.AcceptedUses.{membersWithin}
+use Rattle.laws.specs.Scans.{part-slice, slice-over}
 use Rattle.image.specs.Loaded.{Loaded, classes-many}
 use Rattle.image.specs.declared.Image.{Image}
 use Rattle.actions.specs.Remaining.{Stands, actionsAt, actionAt, afterOf, endOf, rowFrom, rowsFrom, listFrom, foundIn, StandsFound}
@@ -22,13 +23,6 @@ use Rattle.actions.specs.Seek.{startOf, nextRight, seekRow, seekRightOf,
 use Rattle.actions.specs.declared.State.{State}
 use Rattle.actions.specs.declared.Sought.{Sought}
 use Rattle.actions.specs.declared.Sought.the-variants.{At, End}
-
--- ---- parts of a table
-part-slice : {A : Type 0} (l : List A) (first count : ℕ) → first + count ≤ length l → slice first (first + count) l ≡ take count (drop first l)
-part-slice l first count h = rw take-add (drop-at (take first l) (take count (drop first l)) first (length-take-le first l (omega arith)))
-
-slice-over : {A : Type 0} (f to : ℕ) (l : List A) → to ≤ length l → to ≤ f → slice f to l ≡ []
-slice-over f to l k h = drop-of-length-le (take to l) {i = f} (omega (arith, length-take-le to l k, h))
 
 -- what `theMember` gives past the table
 abbrev none : Member

@@ -10,7 +10,7 @@ use Rattle.spec.specs.Bytes.{Two, sum}
 use Rattle.spec.specs.Transport.{planSize, planMass}
 use Rattle.spec.specs.Action.{Action}
 use Rattle.spec.specs.Round.{cellsOver, ones, planRuns}
-use Rattle.id.specs.Rules.{getD-any}
+use Rattle.id.specs.Tables.{getD-any}
 use Rattle.quality.specs.Known.{runsOf, over}
 use Rattle.quality.specs.Aligned.{structuralQuality}
 
