@@ -1,3 +1,3 @@
-pub mod Scan
+pub mod Turns
 pub mod Members
 pub mod Readers

@@ -92,7 +92,6 @@ pub record Joined (o n : ℕ) (xs ys : List ℕ) (x : Action) : Type 0 where
   pub left : (k : ℕ) → k < length xs → getD (x .pairs) k (0, 0) .0 ≡ getD xs k 0
   pub straight : n ≡ 0 → (k : ℕ) → k < length xs → getD (x .pairs) k (0, 0) .1 ≡ getD ys k 0
   pub crossed : (n ≡ 0 → ⊥) → (length xs ≡ 2) × ((k : ℕ) → k < 2 → getD (x .pairs) k (0, 0) .1 ≡ getD ys (1 - k) 0)
-  pub few : n < 2
 
 zip-length : (xs ys : List ℕ) → length xs ≡ length ys → length (zip xs ys) ≡ length xs
 unfolding zip
@@ -137,7 +136,6 @@ module _ (o : ℕ) (xs ys : List ℕ) where
         left = λ k b. ap (λ (p : Two). p .0) (zip-at xs ys k e b);
         straight = λ z k b. ap (λ (p : Two). p .1) (zip-at xs ys k e b);
         crossed = λ z. absurd (z refl);
-        few = omega arith;
       }
   position-joins (suc n) true q = λ h. absurd (omega arith)
 
@@ -150,7 +148,6 @@ module _ (o : ℕ) (xs ys : List ℕ) where
       left = λ k b. two-left xs _ _ k (omega arith);
       straight = λ z k b. two-straight ys _ _ k (omega arith);
       crossed = λ z. absurd (z refl);
-      few = omega arith;
     }
 
     crossed-joined : Joined o 1 xs ys (record { op = o; pairs = (getD xs 0 0, getD ys 1 0) ∷ (getD xs 1 0, getD ys 0 0) ∷ [] })
@@ -161,7 +158,6 @@ module _ (o : ℕ) (xs ys : List ℕ) where
       left = λ k b. two-left xs _ _ k (omega arith);
       straight = λ z. absurd (let y : _≡_ {A = ℕ} 1 0 = z in omega arith);
       crossed = λ z. (ex, λ k b. two-crossed ys _ _ k b);
-      few = omega arith;
     }
 
     spair-joins : (n : ℕ) (b : Bool) → Joins n (record { op = o; pairs = (getD xs 0 0, getD ys 0 0) ∷ (getD xs 1 0, getD ys 1 0) ∷ [] } ∷ pick b [] (record { op = o; pairs = (getD xs 0 0, getD ys 1 0) ∷ (getD xs 1 0, getD ys 0 0) ∷ [] } ∷ []))

@@ -6,7 +6,6 @@ use native.Mathlib.Omega.{arith}
 use lib.Dec.{eqb}
 use lib.ListN.{length, getD}
 use Rattle.spec.specs.Image.{Tables, SPair, tablesOf, kindOf, theClass, theMember}
-use Rattle.spec.specs.Action.{alignMembers}
 use Rattle.laws.specs.Valid.{Valid}
 use Rattle.laws.specs.AcceptedUses.{childrenWithin, membersWithin}
 use Rattle.image.specs.Loaded.{Loaded, theChild, memberSpan, operations-many, classes-many, members-many, children-many}
@@ -21,11 +20,10 @@ module _ (s : List ℕ) (im : Image) (l : Loaded s im) (v : Valid (tablesOf s)) 
   t = tablesOf s
 
   -- ---- a class
-  pub class-end : (c : ℕ) → c < im .classes → endOf t c ≤ length (t .members)
-  class-end c h = membersWithin t v c (omega (arith, classes-many s im l))
-
   pub span-end : (c : ℕ) (p : Span) → c < im .classes → p ≡ memberSpan (theClass t c) → p .to ≤ im .members
-  span-end c p h e = let q : p .to ≡ endOf t c = ap (λ (x : Span). x .to) e in omega (arith, class-end c h, members-many s im l)
+  span-end c p h e =
+      let q : p .to ≡ endOf t c = ap (λ (x : Span). x .to) e in
+      omega (arith, membersWithin t v c (omega (arith, classes-many s im l)), members-many s im l)
 
   -- ---- a member
   module _ (m : ℕ) (h : m < im .members) where
@@ -120,10 +118,3 @@ module _ (s : List ℕ) (im : Image) (l : Loaded s im) (v : Valid (tablesOf s)) 
               let i : f + 1 - k ≡ f + (1 - k) = omega (arith, crossed-two) in
               let a : x ≡ getD (childClasses t (w .right)) (1 - k) 0 = class-number (w .right) right-member (1 - k) e n (q ∙ ap (λ (j : ℕ). theChild t j .0) i) in
               (a ∙ sym (stand .crossed z .1 k crossed-two), class-few (w .right) right-member (1 - k) n a)
-
-  -- ---- a state found
-  pub standing : (a b n : ℕ) → a < im .members → b < im .members → n < length (alignMembers t (theMember t a) (theMember t b)) → Stands t (record { left = a; right = b; past = n })
-  standing a b n h g m =
-      let ha : a < length (t .members) = omega (arith, members-many s im l) in
-      let hb : b < length (t .members) = omega (arith, members-many s im l) in
-      record { left = ha; right = hb; more = m; few = members-join t v a b ha hb n m .few }

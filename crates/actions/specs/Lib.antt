@@ -1,2 +1,4 @@
 pub mod Remaining
+pub mod Seek
+pub mod SeekLaws
 pub mod Itself

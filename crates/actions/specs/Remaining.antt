@@ -1,5 +1,4 @@
 -- "Action." The structural actions that are left at a state of their enumeration: members in stored order, the left class's outermost, straight before crossed.
-use mathlib.Core.Path.{_≡_}
 use mathlib.Core.List.{List, [], _∷_, _++_}
 use Prim.Native.Nat.{ℕ, _+_, _<_}
 use lib.ListN.{length, getD, drop}
@@ -62,16 +61,3 @@ foundIn t l r End = []
 abbrev pub StandsFound : Tables → Sought → Type 0
 StandsFound t (At v) = Stands t v
 StandsFound t End = Unit
-
--- ---- the same of one left member, the one at w, and right members before `to`
-unfoldable pub rowAt : Tables → ℕ → State → List Action
-unfolding rowFrom
-rowAt t to w = rowFrom t (theMember t (w .left)) (w .past) (slice (w .right) to (t .members))
-
-abbrev pub foundRow : Tables → ℕ → Sought → List Action
-foundRow t to (At v) = actionAt t v ∷ rowAt t to (afterOf v)
-foundRow t to End = []
-
-abbrev pub SameLeft : State → Sought → Type 0
-SameLeft w (At v) = v .left ≡ w .left
-SameLeft w End = Unit

@@ -4,10 +4,11 @@ ghost use Prim.Native.Nat.{_≤_, _<_};
 ghost use lib.Dec.{eqb};
 ghost use lib.ListN.{length, getD};
 ghost use Rattle.spec.specs.Image.{tablesOf, theMember, kindOf, SPair};
-ghost use Rattle.spec.specs.Action.{structural, alignMembers, straightAndCrossed};
+ghost use Rattle.spec.specs.Action.{alignMembers, straightAndCrossed};
 ghost use Rattle.laws.specs.Valid.{Valid};
 ghost use Rattle.image.specs.Loaded.{Loaded};
-ghost use Rattle.actions.specs.Remaining.{SameLeft, Stands, StandsFound, actionAt, afterOf, childClasses, foundIn, foundRow, listFrom, rowAt};
+ghost use Rattle.actions.specs.Remaining.{Stands, actionAt, afterOf, childClasses};
+ghost use Rattle.actions.specs.Seek.{startOf, seekOf, seekRightOf};
 use id::LIT;
 use id::SPAIR;
 use id::is_ac;
@@ -93,7 +94,7 @@ fn aligned(s: &[u8], im: Image, a: usize, b: usize) -> usize
 // Before the first action.
 pub fn start(s: &[u8], im: Image, l: usize, r: usize) -> State
     requires { ⌜ Loaded (now s) im × Valid (tablesOf (now s)) × (l < im .classes) × (r < im .classes) ⌝ }
-    ensures { λ x. ⌜ listFrom (tablesOf (now (s .entry))) l r x ≡ structural (tablesOf (now (s .entry))) l r ⌝ }
+    ensures { λ x. ⌜ x ≡ startOf (tablesOf (now (s .entry))) l r ⌝ }
 {
     let span = members_of(s, im, l);
     let right = first_member(s, im, r);
@@ -114,7 +115,7 @@ pub fn start(s: &[u8], im: Image, l: usize, r: usize) -> State
 // The next action of the left member at w with a right member before `to`.
 fn seek_right(s: &[u8], im: Image, to: usize, w: State) -> Sought
     requires { ⌜ Loaded (now s) im × Valid (tablesOf (now s)) × (w .left < im .members) × (to ≤ im .members) ⌝ }
-    ensures { λ x. ⌜ (rowAt (tablesOf (now (s .entry))) to w ≡ foundRow (tablesOf (now (s .entry))) to x) × StandsFound (tablesOf (now (s .entry))) x × SameLeft w x ⌝ }
+    ensures { λ x. ⌜ x ≡ seekRightOf (tablesOf (now (s .entry))) to w ⌝ }
 {
     let mut j = w.right;
     let mut n = w.past;
@@ -135,7 +136,7 @@ fn seek_right(s: &[u8], im: Image, to: usize, w: State) -> Sought
 // The next action at or behind w.
 pub fn seek(s: &[u8], im: Image, l: usize, r: usize, w: State) -> Sought
     requires { ⌜ Loaded (now s) im × Valid (tablesOf (now s)) × (l < im .classes) × (r < im .classes) ⌝ }
-    ensures { λ x. ⌜ (listFrom (tablesOf (now (s .entry))) l r w ≡ foundIn (tablesOf (now (s .entry))) l r x) × StandsFound (tablesOf (now (s .entry))) x ⌝ }
+    ensures { λ x. ⌜ x ≡ seekOf (tablesOf (now (s .entry))) l r w ⌝ }
 {
     let to = members_of(s, im, l).to;
     let right = members_of(s, im, r);

@@ -7,17 +7,21 @@ use native.Mathlib.Omega.{arith}
 use lib.ListN.{length, getD, drop, drop-of-length-le}
 use lib.Seq.{drop-cons, getD-take, length-take-le}
 use Rattle.spec.specs.Bytes.{Two, each}
-use Rattle.spec.specs.Image.{Tables}
+use Rattle.spec.specs.Image.{Tables, tablesOf}
 use Rattle.spec.specs.Monomial.{Monomial, classes, pairOf}
 use Rattle.spec.specs.Action.{Action, TransportAction, structural, transports, cellPairs, joins}
 use Rattle.laws.specs.Valid.{Valid}
 use Rattle.lgg.specs.Lists.{in-left, in-right}
 use Rattle.lgg.specs.BestMembers.{IsPair}
 use Rattle.lgg.specs.ReadingsWithin.{joins-within}
+use Rattle.image.specs.Loaded.{Loaded}
+use Rattle.image.specs.declared.Image.{Image}
 use Rattle.actions.specs.declared.State.{State}
 use Rattle.actions.specs.declared.Sought.{Sought}
 use Rattle.actions.specs.declared.Sought.the-variants as S
 use Rattle.actions.specs.Remaining as R
+use Rattle.actions.specs.Seek.{seekOf}
+use Rattle.actions.specs.SeekLaws.{seek-list}
 use Rattle.ac_repr.specs.Terms.{TERMS, NUMBERS, terms, held}
 use Rattle.ac_repr.specs.TermLaws.{terms-length}
 use Rattle.ac_repr.specs.Pad.{Few}
@@ -43,20 +47,17 @@ pair-end ps k h = drop-of-length-le ps h
 abbrev pub pairsOf : List Action → List Two
 pairsOf l = each (λ a. a .pairs) l
 
-module _ (t : Tables) (l r : ℕ) (v : State) (x : Sought) (e : R.listFrom t l r v ≡ R.foundIn t l r x) where
-  pub actions-next : (w : State) → x ≡ S.At w → pairsOf (R.listFrom t l r v) ≡ R.actionAt t w .pairs ++ pairsOf (R.listFrom t l r (R.afterOf w))
+module _ {s : List ℕ} {im : Image} (L : Loaded s im) (ok : Valid (tablesOf s)) {l r : ℕ} (hl : l < im .classes) (hr : r < im .classes) (v : State) {x : Sought} (e : x ≡ seekOf (tablesOf s) l r v) where
+  found : {y : Sought} → x ≡ y → R.listFrom (tablesOf s) l r v ≡ R.foundIn (tablesOf s) l r y
+  found q = seek-list L ok hl hr v e ∙ ap (R.foundIn (tablesOf s) l r) q
+
+  pub actions-next : (w : State) → x ≡ S.At w → pairsOf (R.listFrom (tablesOf s) l r v) ≡ R.actionAt (tablesOf s) w .pairs ++ pairsOf (R.listFrom (tablesOf s) l r (R.afterOf w))
   unfolding each
-  actions-next w q = ap pairsOf (e ∙ ap (R.foundIn t l r) q)
+  actions-next w q = ap pairsOf (found q)
 
-  pub actions-fewer : (w : State) → x ≡ S.At w → length (R.listFrom t l r (R.afterOf w)) < length (R.listFrom t l r v)
-  actions-fewer w q = omega (arith, ap (λ (m : List Action). length m) (e ∙ ap (R.foundIn t l r) q))
-
-  pub actions-end : x ≡ S.End → pairsOf (R.listFrom t l r v) ≡ []
+  pub actions-end : x ≡ S.End → pairsOf (R.listFrom (tablesOf s) l r v) ≡ []
   unfolding each
-  actions-end q = ap pairsOf (e ∙ ap (R.foundIn t l r) q)
-
-pub stands-here : (t : Tables) (x : Sought) (w : State) → R.StandsFound t x → x ≡ S.At w → R.Stands t w
-stands-here t x w d q = rw q at d
+  actions-end q = ap pairsOf (found q)
 
 -- ---- the columns of a row, and the rows
 abbrev pub rowFrom : ℕ → ℕ → List ℕ → ℕ → List Two

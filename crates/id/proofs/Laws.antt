@@ -1,17 +1,13 @@
 -- The tests on kinds and counts, case by case. Assumes nothing.
-use mathlib.Core.Path.{_≡_, refl, sym, ap, _∙_}
+use mathlib.Core.Path.{_≡_, sym, ap, _∙_}
 use mathlib.Core.Bool.{Bool, true}
 use Prim.Native.Nat.{ℕ, _≤_, _<_}
-use borrow.Author.Tests.{eq-eqb, ne-eqb, le-leb, lt-leb}
-use lib.Dec.{eqb, leb}
+use borrow.Author.Tests.{eq-eqb, ne-eqb}
+use lib.Dec.{eqb}
 use lib.ListN.{getD, List·getD-eq-default}
-use Rattle.spec.specs.Bytes.{either, pick}
-use Rattle.spec.specs.Image.{arities, FREE, arityRight, isAC, isCommutative, SPair, MSet, Set}
-use Rattle.spec.specs.Monomial.{COUNT}
-use Rattle.id.specs.Kinds.{narrowOf}
-use Rattle.id.specs.Rules.{getD-any}
-use Rattle.id.specs.declared.multiplicity.Narrowed.{Narrowed}
-use Rattle.id.specs.declared.multiplicity.Narrowed.the-variants.{Count, TooLarge}
+use Rattle.spec.specs.Bytes.{either}
+use Rattle.spec.specs.Image.{arities, FREE, arityRight}
+use Rattle.id.specs.Tables.{getD-any}
 
 pub first : (a b : Bool) → a ≡ true → true ≡ either a b
 first a b e = sym (ap (λ (x : Bool). either x b) e)
@@ -35,10 +31,3 @@ right-fixed k n a m e f g =
 -- the kinds that act by transport, and those whose children have no order
 pub other : (k a : ℕ) (b : Bool) → (k ≡ a → ⊥) → b ≡ either (eqb k a) b
 other k a b h = sym (ap (λ (x : Bool). either x b) (ne-eqb k a h))
-
--- counts
-pub narrow-fits : (n : ℕ) → n ≤ COUNT → Count n ≡ narrowOf n
-narrow-fits n h = sym (ap (λ (b : Bool). pick b (Count n) TooLarge) (le-leb n COUNT h))
-
-pub narrow-large : (n : ℕ) → COUNT < n → TooLarge ≡ narrowOf n
-narrow-large n h = sym (ap (λ (b : Bool). pick b (Count n) TooLarge) (lt-leb n COUNT h))

@@ -1,31 +1,12 @@
-// The ten node kinds with the Rust's numbers (id.rs), and the width of a count (multiplicity.rs).
+// The ten node kinds by the Rust's numbers (id.rs), and the width of a count (multiplicity.rs).
+// 0 Plain0, 1 Plain1, 2 Plain2, 3 Plain3, 4 PlainN, 5 SPair, 6 Seq, 7 MSet, 8 Set, 9 Lit
 ghost use mathlib.Core.Path.{_≡_};
 ghost use Prim.Native.Nat.{_<_};
 ghost use lib.ListN.{getD};
 ghost use Rattle.spec.specs.Image.{arities, arityRight, isAC, isCommutative};
 ghost use Rattle.spec.specs.Image as Image;
-ghost use Rattle.id.specs.Kinds.{numberOf, kindNumbered};
 
 pub mod multiplicity;
-
-pub enum ENodeKind {
-    Plain0,
-    Plain1,
-    Plain2,
-    Plain3,
-    PlainN,
-    SPair,
-    Seq,
-    MSet,
-    Set,
-    Lit,
-}
-
-// The kind that a number stands for.
-pub enum Numbered {
-    Kind(ENodeKind),
-    Unknown,
-}
 
 pub const SPAIR: usize = 5;
 
@@ -39,48 +20,6 @@ pub const LIT: usize = 9;
 pub const FREE: u8 = 255;
 
 const ARITY: [u8; 10] = [0, 1, 2, 3, FREE, 2, FREE, FREE, FREE, 0];
-
-const KINDS: [ENodeKind; 10] = [
-    ENodeKind::Plain0,
-    ENodeKind::Plain1,
-    ENodeKind::Plain2,
-    ENodeKind::Plain3,
-    ENodeKind::PlainN,
-    ENodeKind::SPair,
-    ENodeKind::Seq,
-    ENodeKind::MSet,
-    ENodeKind::Set,
-    ENodeKind::Lit,
-];
-
-impl ENodeKind {
-    pub fn number(self) -> usize
-        ensures { λ r. ⌜ r ≡ numberOf self ⌝ }
-    {
-        match self {
-            ENodeKind::Plain0 => 0,
-            ENodeKind::Plain1 => 1,
-            ENodeKind::Plain2 => 2,
-            ENodeKind::Plain3 => 3,
-            ENodeKind::PlainN => 4,
-            ENodeKind::SPair => SPAIR,
-            ENodeKind::Seq => 6,
-            ENodeKind::MSet => MSET,
-            ENodeKind::Set => SET,
-            ENodeKind::Lit => LIT,
-        }
-    }
-
-    pub fn of(n: usize) -> Numbered
-        ensures { λ r. ⌜ r ≡ kindNumbered n ⌝ }
-    {
-        if n < 10 {
-            let k = KINDS[n];
-            return Numbered::Kind(k);
-        }
-        Numbered::Unknown
-    }
-}
 
 // How many children a kind has, by its number; FREE for any number of them.
 pub fn arity(k: usize) -> u8

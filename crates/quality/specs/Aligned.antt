@@ -1,16 +1,46 @@
 -- "A strictly better action replaces; structural actions come before transport": what a pair has after its structural actions.
 use mathlib.Core.Path.{_≡_}
-use Prim.Native.Nat.{ℕ, _<_, _^_}
-use Rattle.spec.specs.Bytes.{Two}
+use Prim.Native.Nat.{ℕ, zero, suc}
+use lib.ListN.{length}
+use Rattle.spec.specs.Bytes.{pick, Two}
 use Rattle.spec.specs.Image.{Tables}
 use Rattle.spec.specs.Action.{Action, structural}
-use Rattle.spec.specs.Round.{ofAction, worth, Choice, stay, act, Turn, offer, offerActions}
-use Rattle.actions.specs.Remaining.{Stands, actionAt}
+use Rattle.spec.specs.Round.{better, ofAction, worth, Choice, stay, act, Turn, offerActions}
+use Rattle.actions.specs.Remaining.{Stands, actionAt, afterOf}
+use Rattle.actions.specs.Seek.{startOf, seekRows, seekOf}
 use Rattle.actions.specs.declared.State.{State}
+use Rattle.actions.specs.declared.Sought.{Sought}
+use Rattle.actions.specs.declared.Sought.the-variants.{At, End}
 use Rattle.quality.specs.declared.How.{How}
 use Rattle.quality.specs.declared.How.the-variants.{Stay, Aligned, Plan}
 use Rattle.quality.specs.declared.Best.{Best}
 
+-- "An action gives 1 plus the sum of count × size, and the sum of count × mass."
+abbrev pub structuralQuality : (Two → Two) → Action → Two
+structuralQuality q a = worth q (ofAction a)
+
+-- "a strictly better action replaces": the action at v is offered to b
+abbrev pub offerAt : Tables → (Two → Two) → State → Best → Best
+offerAt t q v b =
+    let x = structuralQuality q (actionAt t v) in
+    pick (better x (b .size, b .mass)) (record { size = x .0; mass = x .1; how = Aligned v }) b
+
+-- the next n actions from w on are offered to b, as far as there are any
+abbrev pub atFound : Sought → Best → (State → Best) → Best
+atFound End b f = b
+atFound (At v) b f = f v
+
+unfoldable pub bestFrom : Tables → (Two → Two) → Two → ℕ → State → Best → Best
+unfolding seekRows
+bestFrom t q p zero w b = b
+bestFrom t q p (suc n) w b = atFound (seekOf t (p .0) (p .1) w) b (λ v. bestFrom t q p n (afterOf v) (offerAt t q v b))
+
+-- The pair's own quality, or the first strictly best of its structural actions.
+unfoldable pub bestAligned : Tables → (Two → Two) → Two → Best
+unfolding bestFrom structural
+bestAligned t q p = bestFrom t q p (length (structural t (p .0) (p .1))) (startOf t (p .0) (p .1)) (record { size = q p .0; mass = q p .1; how = Stay })
+
+-- ---- the same as a turn
 -- the choice of the structural action at a state
 abbrev pub actAt : Tables → State → Choice
 actAt t v = act (ofAction (actionAt t v))
@@ -32,27 +62,8 @@ unfoldable pub afterAligned : Tables → (Two → Two) → Two → Turn
 unfolding offerActions structural
 afterAligned t q p = offerActions q (structural t (p .0) (p .1)) (record { quality = q p; choice = stay })
 
--- b is that, and fits
+-- b is that
 pub record Aligns (t : Tables) (q : Two → Two) (p : Two) (b : Best) : Type 0 where
   pub quality : (b .size, b .mass) ≡ afterAligned t q p .quality
   pub choice : choiceAt t (b .how) ≡ afterAligned t q p .choice
   pub stands : StandsAt t (b .how)
-  pub small : (b .size < 2 ^ 39) × (b .mass < 2 ^ 39)
-
--- ---- one offer
--- an action's quality, and that it fits
-pub record Weighs (q : Two → Two) (a : Action) (size mass : ℕ) : Type 0 where
-  pub quality : (size, mass) ≡ worth q (ofAction a)
-  pub small : (size < 2 ^ 39) × (mass < 2 ^ 39)
-
-abbrev pub turnAt : Tables → Best → Turn
-turnAt t b = record { quality = (b .size, b .mass); choice = choiceAt t (b .how) }
-
--- what stands, and that its quality fits
-abbrev pub Sound : Tables → Best → Type 0
-Sound t b = StandsAt t (b .how) × (b .size < 2 ^ 39) × (b .mass < 2 ^ 39)
-
--- the action at v was offered to b: x is left
-pub record Offered (t : Tables) (q : Two → Two) (v : State) (b x : Best) : Type 0 where
-  pub turn : turnAt t x ≡ offer q (ofAction (actionAt t v)) (turnAt t b)
-  pub sound : Sound t b → Sound t x

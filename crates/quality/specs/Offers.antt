@@ -2,66 +2,102 @@
 use mathlib.Core.Path.{_≡_, refl, sym, ap, _∙_}
 use mathlib.Core.Bool.{Bool, true, false}
 use mathlib.Core.List.{List, [], _∷_}
-use Prim.Native.Nat.{ℕ, _<_}
+use Prim.Native.Nat.{ℕ, zero, suc, _<_}
 use native.Mathlib.Omega.{arith}
 use lib.ListN.{length}
 use Rattle.spec.specs.Bytes.{Two, pick}
-use Rattle.spec.specs.Image.{Tables}
-use Rattle.spec.specs.Action.{Action, structural, transports}
-use Rattle.spec.specs.Round.{better, Act, ofAction, worth, stay, act, Turn, offer, offerActions, offerTransports, turnOf}
-use Rattle.actions.specs.Remaining.{Stands, actionAt, afterOf, listFrom}
+use Rattle.spec.specs.Image.{Tables, tablesOf}
+use Rattle.spec.specs.Action.{Action, structural}
+use Rattle.spec.specs.Round.{better, Turn, offerActions}
+use Rattle.laws.specs.Valid.{Valid}
+use Rattle.image.specs.Loaded.{Loaded}
+use Rattle.image.specs.declared.Image.{Image}
+use Rattle.actions.specs.Remaining.{StandsFound, actionAt, afterOf, listFrom, foundIn}
+use Rattle.actions.specs.Seek.{startOf, seekOf}
+use Rattle.actions.specs.SeekLaws.{start-list, seek-list, seek-stands}
 use Rattle.actions.specs.declared.State.{State}
+use Rattle.actions.specs.declared.Sought.{Sought}
+use Rattle.actions.specs.declared.Sought.the-variants.{At, End}
 use Rattle.quality.specs.declared.How.the-variants.{Stay, Aligned}
 use Rattle.quality.specs.declared.Best.{Best}
-use Rattle.quality.specs.Aligned.{Aligns, Weighs, Offered, Sound, turnAt, afterAligned}
+use Rattle.quality.specs.Aligned.{structuralQuality, offerAt, atFound, bestFrom, bestAligned, choiceAt, StandsAt, afterAligned, Aligns}
 
 -- ---- one offer
-offer-by : (b : Bool) (z : Two) (q : Two → Two) (a : Act) (w : Turn) → z ≡ worth q a → b ≡ better z (w .quality) → pick b (record { quality = z; choice = act a }) w ≡ offer q a w
-offer-by b z q a w e f = (λ i. pick {A = Turn} (f i) (record { quality = z; choice = act a }) w) ∙ (λ i. pick {A = Turn} (better (e i) (w .quality)) (record { quality = e i; choice = act a }) w)
+pub offer-by : {y : Two} {size mass : ℕ} {c : Bool} (v : State) (b : Best) → (size, mass) ≡ y → c ≡ better (size, mass) (b .size, b .mass)
+    → pick c (record { size = size; mass = mass; how = Aligned v }) b ≡ pick (better y (b .size, b .mass)) (record { size = y .0; mass = y .1; how = Aligned v }) b
+offer-by {size = size} {mass = mass} v b e f =
+    (λ i. pick (f i) (record { size = size; mass = mass; how = Aligned v }) b) ∙ (λ i. pick {A = Best} (better (e i) (b .size, b .mass)) (record { size = e i .0; mass = e i .1; how = Aligned v }) b)
 
-module _ (t : Tables) (q : Two → Two) (v : State) (b : Best) (size mass : ℕ) (W : Weighs q (actionAt t v) size mass) where
-  pub replaces : Stands t v → true ≡ better (size, mass) (b .size, b .mass) → Offered t q v b (record { size = size; mass = mass; how = Aligned v })
-  replaces st e = record { turn = offer-by true (size, mass) q (ofAction (actionAt t v)) (turnAt t b) (W .quality) e; sound = λ s. (st, W .small .0, W .small .1) }
+abbrev turnAt : Tables → Best → Turn
+turnAt t b = record { quality = (b .size, b .mass); choice = choiceAt t (b .how) }
 
-  pub stays : false ≡ better (size, mass) (b .size, b .mass) → Offered t q v b b
-  stays e = record { turn = offer-by false (size, mass) q (ofAction (actionAt t v)) (turnAt t b) (W .quality) e; sound = λ s. s }
+module _ (t : Tables) (x b : Best) where
+  turn-pick : (c : Bool) → turnAt t (pick c x b) ≡ pick c (turnAt t x) (turnAt t b)
+  turn-pick true = refl
+  turn-pick false = refl
 
--- ---- all offers
--- What the actions left at w make of b is what all of them make of the pair's own quality.
-pub record Going (t : Tables) (q : Two → Two) (l r : ℕ) (b : Best) (w : State) : Type 0 where
-  pub turn : offerActions q (listFrom t l r w) (turnAt t b) ≡ afterAligned t q (l, r)
-  pub sound : Sound t b
+  stands-pick : (c : Bool) → StandsAt t (x .how) → StandsAt t (b .how) → StandsAt t (pick c x b .how)
+  stands-pick true h k = h
+  stands-pick false h k = k
 
-module _ (t : Tables) (q : Two → Two) (l r : ℕ) where
-  pub going-first : (w : State) (size mass : ℕ) → listFrom t l r w ≡ structural t l r → size ≡ q (l, r) .0 → mass ≡ q (l, r) .1 → size < 4294967296 → mass < 4294967296
-      → Going t q l r (record { size = size; mass = mass; how = Stay }) w
-  unfolding afterAligned
-  going-first w size mass e f g a b = record { turn = λ i. offerActions q (e i) (record { quality = (f i, g i); choice = stay }); sound = (tt, omega arith, omega arith) }
+-- ---- all of them
+nil-of-length : {A : Type 0} (l : List A) → length l ≡ 0 → l ≡ []
+nil-of-length [] e = refl
+nil-of-length (x ∷ l) e = absurd (omega arith)
 
-  module _ (b : Best) (w : State) (G : Going t q l r b w) where
-    pub going-on : (v : State) (x : Best) (u : State) → listFrom t l r w ≡ actionAt t v ∷ listFrom t l r (afterOf v) → Offered t q v b x → u ≡ afterOf v → Going t q l r x u
-    unfolding offerActions
-    going-on v x u e o f = record {
-      turn = (λ i. offerActions q (listFrom t l r (f i)) (o .turn i)) ∙ ap (λ (z : List Action). offerActions q z (turnAt t b)) (sym e) ∙ G .turn;
-      sound = o .sound (G .sound);
-    }
+module _ {s : List ℕ} {im : Image} (L : Loaded s im) (ok : Valid (tablesOf s)) (q : Two → Two) {l r : ℕ} (hl : l < im .classes) (hr : r < im .classes) where
+  abbrev t : Tables
+  t = tablesOf s
 
-    pub going-last : listFrom t l r w ≡ [] → Aligns t q (l, r) b
-    unfolding offerActions
-    going-last e =
-        let d : turnAt t b ≡ afterAligned t q (l, r) = ap (λ (z : List Action). offerActions q z (turnAt t b)) (sym e) ∙ G .turn in
-        record {
-          quality = ap (λ (z : Turn). z .quality) d;
-          choice = ap (λ (z : Turn). z .choice) d;
-          stands = G .sound .0;
-          small = (G .sound .1, G .sound .2);
-        }
+  -- x is what the actions left at w make of b
+  pub record Makes (w : State) (b x : Best) : Type 0 where
+    turn : turnAt t x ≡ offerActions q (listFrom t l r w) (turnAt t b)
+    stands : StandsAt t (x .how)
 
--- an action less is left behind the one found
-pub fewer : (t : Tables) (l r : ℕ) (w v u : State) → listFrom t l r w ≡ actionAt t v ∷ listFrom t l r (afterOf v) → u ≡ afterOf v → length (listFrom t l r u) < length (listFrom t l r w)
-fewer t l r w v u e f = omega (arith, ap (λ (z : List Action). length z) e, ap (λ (z : State). length (listFrom t l r z)) f)
+  makes-step : (n : ℕ) (w : State) (b : Best) (x : Sought) → listFrom t l r w ≡ foundIn t l r x → StandsFound t x → StandsAt t (b .how) → length (listFrom t l r w) ≡ suc n
+      → ((u : State) (c : Best) → length (listFrom t l r u) ≡ n → StandsAt t (c .how) → Makes u c (bestFrom t q (l, r) n u c))
+      → Makes w b (atFound x b (λ v. bestFrom t q (l, r) n (afterOf v) (offerAt t q v b)))
+  unfolding offerActions
+  makes-step n w b End e st h m ih = record { turn = ap (λ (z : List Action). offerActions q z (turnAt t b)) (sym e); stands = h }
+  makes-step n w b (At v) e st h m ih =
+      let y = structuralQuality q (actionAt t v) in
+      let x : Best = record { size = y .0; mass = y .1; how = Aligned v } in
+      let c = better y (b .size, b .mass) in
+      let f = ih (afterOf v) (offerAt t q v b) (omega (arith, ap (λ (z : List Action). length z) e)) (stands-pick t x b c st h) in
+      record { turn = f .turn ∙ ap (offerActions q (listFrom t l r (afterOf v))) (turn-pick t x b c) ∙ ap (λ (z : List Action). offerActions q z (turnAt t b)) (sym e); stands = f .stands }
 
--- ---- the turn: transport comes behind
-pub turn-after : (t : Tables) (q : Two → Two) (p : Two) → turnOf t q p ≡ offerTransports q (transports t (p .0) (p .1)) (afterAligned t q p)
-unfolding turnOf afterAligned
-turn-after t q p = refl
+  makes : (n : ℕ) (w : State) (b : Best) → length (listFrom t l r w) ≡ n → StandsAt t (b .how) → Makes w b (bestFrom t q (l, r) n w b)
+  unfolding bestFrom offerActions
+  makes zero w b m h = record { turn = ap (λ (z : List Action). offerActions q z (turnAt t b)) (sym (nil-of-length (listFrom t l r w) m)); stands = h }
+  makes (suc n) w b m h = makes-step n w b (seekOf t l r w) (seek-list L ok hl hr w refl) (seek-stands L ok hl hr w refl) h m (makes n)
+
+  -- the best is what the specification's turn has after the structural actions
+  pub best-aligns : {x : Best} → x ≡ bestAligned t q (l, r) → Aligns t q (l, r) x
+  unfolding bestAligned afterAligned
+  best-aligns e =
+      let f = start-list L ok hl hr refl in
+      let b : Best = record { size = q (l, r) .0; mass = q (l, r) .1; how = Stay } in
+      let g = makes (length (structural t l r)) (startOf t l r) b (ap (λ (z : List Action). length z) f) tt in
+      let d : turnAt t (bestAligned t q (l, r)) ≡ afterAligned t q (l, r) = g .turn ∙ ap (λ (z : List Action). offerActions q z (turnAt t b)) f in
+      rw e (record { quality = ap (λ (z : Turn). z .quality) d; choice = ap (λ (z : Turn). z .choice) d; stands = g .stands })
+
+  -- ---- a turn of the loop
+  pub best-first : {w : State} {size mass : ℕ} → w ≡ startOf t l r → size ≡ q (l, r) .0 → mass ≡ q (l, r) .1
+      → bestFrom t q (l, r) (length (listFrom t l r w)) w (record { size = size; mass = mass; how = Stay }) ≡ bestAligned t q (l, r)
+  unfolding bestAligned
+  best-first e f g =
+      let n = ap (λ (z : List Action). length z) (start-list L ok hl hr e) in
+      λ i. bestFrom t q (l, r) (n i) (e i) (record { size = f i; mass = g i; how = Stay })
+
+  module _ (w : State) (b : Best) {x : Sought} (e : x ≡ seekOf t l r w) where
+    pub best-last : (n : ℕ) → x ≡ End → bestFrom t q (l, r) n w b ≡ b
+    unfolding bestFrom
+    best-last zero f = refl
+    best-last (suc n) f = ap (λ (z : Sought). atFound z b (λ v. bestFrom t q (l, r) n (afterOf v) (offerAt t q v b))) (sym e ∙ f)
+
+    pub best-next : (v : State) → x ≡ At v → {u : State} {c : Best} → c ≡ offerAt t q v b → u ≡ afterOf v → bestFrom t q (l, r) (length (listFrom t l r w)) w b ≡ bestFrom t q (l, r) (length (listFrom t l r u)) u c
+    unfolding bestFrom
+    best-next v f g h =
+        ap (λ (z : List Action). bestFrom t q (l, r) (length z) w b) (seek-list L ok hl hr w e ∙ ap (foundIn t l r) f)
+        ∙ ap (λ (z : Sought). atFound z b (λ u. bestFrom t q (l, r) (length (listFrom t l r (afterOf v))) (afterOf u) (offerAt t q u b))) (sym e ∙ f)
+        ∙ sym (λ i. bestFrom t q (l, r) (length (listFrom t l r (h i))) (h i) (g i))

@@ -10,9 +10,9 @@ use Rattle.spec.specs.Bytes.{Two, sum}
 use Rattle.spec.specs.Transport.{planSize, planMass}
 use Rattle.spec.specs.Action.{Action}
 use Rattle.spec.specs.Round.{cellsOver, ones, planRuns}
-use Rattle.id.specs.Rules.{getD-any}
+use Rattle.id.specs.Tables.{getD-any}
 use Rattle.quality.specs.Known.{runsOf, over}
-use Rattle.quality.specs.Aligned.{Weighs}
+use Rattle.quality.specs.Aligned.{structuralQuality}
 
 -- the entry k of a list, by its two parts
 pub two-parts : (ps : List Two) (k l r : ℕ) → l ≡ getD ps k (0, 0) .0 → r ≡ getD ps k (0, 0) .1 → (l, r) ≡ getD ps k (0, 0)
@@ -71,15 +71,15 @@ module _ (q : Two → Two) (ps : List Two) where
             fewMass = omega (arith, S .fewMass);
           }
 
-pub summed-all : (q : Two → Two) (a : Action) (k size mass : ℕ) → Summed q (a .pairs) k size mass → length (a .pairs) ≤ k → length (a .pairs) ≤ 64 → Weighs q a size mass
+pub summed-all : (q : Two → Two) (a : Action) (k size mass : ℕ) → Summed q (a .pairs) k size mass → length (a .pairs) ≤ k → (size, mass) ≡ structuralQuality q a
 unfolding sum
-summed-all q a k size mass S h few =
+summed-all q a k size mass S h =
     let d : drop k (a .pairs) ≡ [] = drop-of-length-le (a .pairs) h in
     let s : size + 0 ≡ 1 + sizes q (a .pairs) = rw d at (S .sizeLeft) in
     let m : mass + 0 ≡ masses q (a .pairs) = rw d at (S .massLeft) in
     let s′ : size ≡ 1 + planSize (ones (a .pairs)) (cellsOver (map q (a .pairs))) = omega (arith, ones-size q (a .pairs)) in
     let m′ : mass ≡ planMass (ones (a .pairs)) (cellsOver (map q (a .pairs))) = omega (arith, ones-mass q (a .pairs)) in
-    record { quality = λ i. (s′ i, m′ i); small = omega (arith, S .done, S .fewSize, S .fewMass) }
+    λ i. (s′ i, m′ i)
 
 -- ---- runs
 pub ones-runs : (of : Two → ℕ) (ps : List Two) → runsOf of ps ≡ map (λ p. 16384 + of p) ps

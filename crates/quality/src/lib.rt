@@ -8,7 +8,7 @@ ghost use Rattle.laws.specs.Valid.{Valid};
 ghost use Rattle.image.specs.Loaded.{Loaded};
 ghost use Rattle.actions.specs.Remaining.{Stands, actionAt};
 ghost use Rattle.quality.specs.Known.{Known, numberIn, over, qualityIn, runsOf, termIn};
-ghost use Rattle.quality.specs.Aligned.{Aligns, Offered, Weighs};
+ghost use Rattle.quality.specs.Aligned.{bestAligned, offerAt, structuralQuality};
 use actions::Sought;
 use actions::State;
 use actions::count;
@@ -126,7 +126,7 @@ fn structural_quality(
     n: usize,
 ) -> Quality
     requires { ⌜ Loaded (now s) im × Valid (tablesOf (now s)) × Stands (tablesOf (now s)) v × Known n (now index) (now pairs) × (256 * im .classes ≤ length (now index)) ⌝ }
-    ensures { λ x. ⌜ Weighs (qualityIn (now (index .entry)) (now (pairs .entry))) (actionAt (tablesOf (now (s .entry))) v) (x .size) (x .mass) ⌝ }
+    ensures { λ x. ⌜ (x .size, x .mass) ≡ structuralQuality (qualityIn (now (index .entry)) (now (pairs .entry))) (actionAt (tablesOf (now (s .entry))) v) ⌝ }
 {
     let m = count(s, im, v);
     let mut size = 1;
@@ -148,7 +148,7 @@ fn structural_quality(
 // "a strictly better action replaces"
 fn offer(s: &[u8], im: Image, v: State, index: &[u16], pairs: &[u32], n: usize, b: Best) -> Best
     requires { ⌜ Loaded (now s) im × Valid (tablesOf (now s)) × Stands (tablesOf (now s)) v × Known n (now index) (now pairs) × (256 * im .classes ≤ length (now index)) ⌝ }
-    ensures { λ x. ⌜ Offered (tablesOf (now (s .entry))) (qualityIn (now (index .entry)) (now (pairs .entry))) v b x ⌝ }
+    ensures { λ x. ⌜ x ≡ offerAt (tablesOf (now (s .entry))) (qualityIn (now (index .entry)) (now (pairs .entry))) v b ⌝ }
 {
     let q = structural_quality(s, im, v, index, pairs, n);
     if better(q.size, q.mass, b) {
@@ -172,7 +172,7 @@ pub fn best_aligned(
     r: usize,
 ) -> Best
     requires { ⌜ Loaded (now s) im × Valid (tablesOf (now s)) × (l < im .classes) × (r < im .classes) × Known n (now index) (now pairs) × (256 * im .classes ≤ length (now index)) ⌝ }
-    ensures { λ x. ⌜ Aligns (tablesOf (now (s .entry))) (qualityIn (now (index .entry)) (now (pairs .entry))) (l, r) x ⌝ }
+    ensures { λ x. ⌜ x ≡ bestAligned (tablesOf (now (s .entry))) (qualityIn (now (index .entry)) (now (pairs .entry))) (l, r) ⌝ }
 {
     let mut best = Best {
         size: num8(size_of(index, pairs, n, l, r)),

@@ -4,25 +4,21 @@ use mathlib.Core.Bool.{Bool, true, false}
 use mathlib.Core.List.{List, [], _∷_}
 use mathlib.Core.Option.{Option, none, some}
 use Prim.Native.Nat.{ℕ}
-use lib.ListN.{length, take, drop, replicate}
+use lib.ListN.{length, take, drop}
 use lib.Seq.{take-at}
 use Rattle.spec.specs.Bytes.{Two, pick}
 use Rattle.spec.specs.Image.{Tables}
-use Rattle.spec.specs.Monomial.{counts}
 use Rattle.spec.specs.Transport.{solveCells}
 use Rattle.spec.specs.Action.{TransportAction, transports, cellPairs}
 use Rattle.spec.specs.Round.{better, ofPlan, Choice, stay, act, Turn, offerPlan, offerTransports, turnOf}
 use Rattle.actions.specs.Remaining.{Stands}
-use Rattle.transport.specs.Solved.{costsAfter, flowAfter}
 use Rattle.quality.specs.Known.{over}
 use Rattle.quality.specs.Aligned.{actAt, choiceAt, StandsAt, afterAligned, Aligns}
 use Rattle.quality.specs.declared.How.{How}
 use Rattle.quality.specs.declared.How.the-variants as H
 use Rattle.quality.specs.declared.Best.{Best}
-use Rattle.turns.specs.Laying.{sizesAt, massesAt}
 use Rattle.turns.specs.Listing.{runsOver, runsAt}
-use Rattle.turns.specs.Offers.{Work, workOf, problemAt, qualityAt, planned, bestAfter, listAfter, offerIn, offersIn}
-use Rattle.turns.specs.Taking.{alignedBest, turnIn}
+use Rattle.turns.specs.Offers.{Work, problemAt, qualityAt, planned, bestAfter, listAfter, offerIn, offersIn}
 
 -- the choice c is a plan under operation o, and its runs are the first m of the list
 pub record Planned (of : Two → ℕ) (list : List ℕ) (o m : ℕ) (c : Choice) : Type 0 where
@@ -40,14 +36,6 @@ Chosen t of list (H.Plan o m) c = Planned of list o m c
 pub record Agrees (t : Tables) (of : Two → ℕ) (list : List ℕ) (b : Best) (w : Turn) : Type 0 where
   pub quality : (b .size, b .mass) ≡ w .quality
   pub chosen : Chosen t of list (b .how) (w .choice)
-
--- the five work buffers are the same
-pub record Same (v w : Work) : Type 0 where
-  pub sizes : v .sizes ≡ w .sizes
-  pub masses : v .masses ≡ w .masses
-  pub costs : v .costs ≡ w .costs
-  pub flow : v .flow ≡ w .flow
-  pub list : v .list ≡ w .list
 
 module _ (t : Tables) (q : Two → Two) (of : Two → ℕ) where
   -- ---- one offer
@@ -84,30 +72,3 @@ module _ (t : Tables) (q : Two → Two) (of : Two → ℕ) where
   pub turn-agrees : (p : Two) (v : Work) → Aligns t q p (v .best) → Agrees t of (offersIn q of (transports t (p .0) (p .1)) v .list) (offersIn q of (transports t (p .0) (p .1)) v .best) (turnOf t q p)
   unfolding turnOf afterAligned
   turn-agrees p v A = offers-agree (transports t (p .0) (p .1)) v (afterAligned t q p) (aligned-agrees p (v .list) (v .best) A)
-
-  -- ---- where the best comes from does not count
-  same-refl : (v : Work) → Same v v
-  same-refl v = record { sizes = refl; masses = refl; costs = refl; flow = refl; list = refl }
-
-  alike : (l : List TransportAction) (s m c f list : List ℕ) (b d : Best) → b .size ≡ d .size → b .mass ≡ d .mass → Same (offersIn q of l (workOf s m c f list b)) (offersIn q of l (workOf s m c f list d))
-  unfolding offersIn offerIn
-  alike [] s m c f list b d e g = record { sizes = refl; masses = refl; costs = refl; flow = refl; list = refl }
-  alike (a ∷ l) s m c f list b d e g =
-      step (solveCells (problemAt q of a))
-      (over (sizesAt q (a .sides)) s) (over (massesAt q (a .sides)) m) (costsAfter (counts (a .sides .rows)) (counts (a .sides .cols)) (sizesAt q (a .sides)) (massesAt q (a .sides)) (replicate (length (cellPairs (a .sides))) 1) c) (flowAfter (problemAt q of a) f)
-      (λ s m c f. alike l s m c f list b d e g)
-    where
-      step : (z : Option (List ℕ)) (s m c f : List ℕ) → ((s m c f : List ℕ) → Same (offersIn q of l (workOf s m c f list b)) (offersIn q of l (workOf s m c f list d)))
-          → Same (offersIn q of l (workOf s m c f (listAfter q of a z b list) (bestAfter q of a z b))) (offersIn q of l (workOf s m c f (listAfter q of a z d list) (bestAfter q of a z d)))
-      step none s m c f ih = ih s m c f
-      step (some x) s m c f ih =
-          let u : better (qualityAt q of a x) (b .size, b .mass) ≡ better (qualityAt q of a x) (d .size, d .mass) = λ i. better (qualityAt q of a x) (e i, g i) in
-          rw (← u) (pass (better (qualityAt q of a x) (b .size, b .mass)))
-        where
-          pass : (y : Bool) → Same (offersIn q of l (workOf s m c f (pick y (over (runsAt of (a .sides) x) list) list) (pick y (planned q of a x) b))) (offersIn q of l (workOf s m c f (pick y (over (runsAt of (a .sides) x) list) list) (pick y (planned q of a x) d)))
-          pass true = same-refl (offersIn q of l (workOf s m c f (over (runsAt of (a .sides) x) list) (planned q of a x)))
-          pass false = ih s m c f
-
-  pub turn-same : (p : Two) (s m c f list : List ℕ) (b : Best) → Aligns t q p b → Same (offersIn q of (transports t (p .0) (p .1)) (workOf s m c f list b)) (turnIn t q of p s m c f list)
-  unfolding turnIn
-  turn-same p s m c f list b A = alike (transports t (p .0) (p .1)) s m c f list b (alignedBest t q p) (ap (λ (z : Two). z .0) (A .quality)) (ap (λ (z : Two). z .1) (A .quality))

@@ -27,13 +27,13 @@ use Rattle.terms.specs.GrowLaws.{grows-none}
 use Rattle.terms.specs.declared.Entered.{Entered}
 use Rattle.terms.specs.declared.Entered.the-variants as E
 use Rattle.quality.specs.Known.{Known, numberIn, termIn, over, packed}
-use Rattle.quality.specs.Aligned.{Aligns}
+use Rattle.quality.specs.Aligned.{bestAligned, Aligns}
 use Rattle.quality.specs.declared.How.{How}
 use Rattle.quality.specs.declared.How.the-variants as H
 use Rattle.quality.specs.declared.Best.{Best}
 use Rattle.turns.specs.Listing.{runsOver}
 use Rattle.turns.specs.Offers.{Work, workOf, offersIn}
-use Rattle.turns.specs.Agreeing.{Chosen, Agrees, Same, turn-agrees, turn-same}
+use Rattle.turns.specs.Agreeing.{Chosen, Agrees, turn-agrees}
 use Rattle.turns.specs.Taking.{takenOf, UnlessShort, turnIn, termList, Ended, changedBy, Takes, Leaves}
 use Rattle.turns.specs.declared.Taken.{Taken}
 use Rattle.turns.specs.declared.Taken.the-variants as T
@@ -170,12 +170,13 @@ module _ (t : Tables) (of : Two → ℕ) (list : List ℕ) (b : Best) (w : Turn)
 
 -- ---- the whole turn
 module _ (t : Tables) (q : Two → Two) (of : Two → ℕ) (p : Two) where
-  module _ (v w : Work) (e : w ≡ offersIn q of (transports t (p .0) (p .1)) v) (A : Aligns t q p (v .best)) where
-    pub turn-done : Agrees t of (w .list) (w .best) (turnOf t q p)
-    turn-done = rw e (turn-agrees t q of p v A)
+  module _ (sizes masses costs flow list : List ℕ) (b : Best) (w : Work) (e : w ≡ offersIn q of (transports t (p .0) (p .1)) (workOf sizes masses costs flow list b)) where
+    pub turn-done : Aligns t q p b → Agrees t of (w .list) (w .best) (turnOf t q p)
+    turn-done A = rw e (turn-agrees t q of p (workOf sizes masses costs flow list b) A)
 
-    pub turn-left : Same w (turnIn t q of p (v .sizes) (v .masses) (v .costs) (v .flow) (v .list))
-    turn-left = rw e (turn-same t q of p (v .sizes) (v .masses) (v .costs) (v .flow) (v .list) (v .best) A)
+    pub turn-left : b ≡ bestAligned t q p → w ≡ turnIn t q of p sizes masses costs flow list
+    unfolding turnIn
+    turn-left g = e ∙ ap (λ (z : Best). offersIn q of (transports t (p .0) (p .1)) (workOf sizes masses costs flow list z)) g
 
   pub turn-fits : (list : List ℕ) (b : Best) → Agrees t of list b (turnOf t q p) → ((c : Two) → q c .1 ≤ q c .0) → q p .0 < 2 ^ 32 → (b .size < 2 ^ 32) × (b .mass < 2 ^ 32)
   turn-fits list b A low h =
@@ -195,12 +196,12 @@ module _ (t : Tables) (q : Two → Two) (of : Two → ℕ) (p : Two) where
       grows = D .grows;
     }
 
-  pub turn-leaves : (terms runs s m c f l s′ m′ c′ f′ list list′ : List ℕ) (b : Best) → Same (workOf s′ m′ c′ f′ list b) (turnIn t q of p s m c f l) → list′ ≡ termList t of terms runs (turnOf t q p .choice) list
+  pub turn-leaves : (terms runs s m c f l s′ m′ c′ f′ list list′ : List ℕ) (b : Best) → workOf s′ m′ c′ f′ list b ≡ turnIn t q of p s m c f l → list′ ≡ termList t of terms runs (turnOf t q p .choice) list
       → Leaves t q of p terms runs s m c f l s′ m′ c′ f′ list′
   turn-leaves terms runs s m c f l s′ m′ c′ f′ list list′ b S e = record {
-    sizesAre = S .sizes;
-    massesAre = S .masses;
-    costsAre = S .costs;
-    flowIs = S .flow;
-    listIs = e ∙ ap (termList t of terms runs (turnOf t q p .choice)) (S .list);
+    sizesAre = ap (λ (z : Work). z .sizes) S;
+    massesAre = ap (λ (z : Work). z .masses) S;
+    costsAre = ap (λ (z : Work). z .costs) S;
+    flowIs = ap (λ (z : Work). z .flow) S;
+    listIs = e ∙ ap (λ (z : Work). termList t of terms runs (turnOf t q p .choice) (z .list)) S;
   }

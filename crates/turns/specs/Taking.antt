@@ -16,10 +16,9 @@ use Rattle.terms.specs.Growing.{Grows}
 use Rattle.terms.specs.Results.{actionList}
 use Rattle.terms.specs.declared.Entered.{Entered}
 use Rattle.quality.specs.Known.{over}
-use Rattle.quality.specs.Aligned.{afterAligned}
+use Rattle.quality.specs.Aligned.{bestAligned}
 use Rattle.quality.specs.declared.How.{How}
 use Rattle.quality.specs.declared.How.the-variants as H
-use Rattle.quality.specs.declared.Best.{Best}
 use Rattle.turns.specs.Listing.{runsOver}
 use Rattle.turns.specs.Offers.{Work, workOf, offersIn}
 use Rattle.turns.specs.declared.Taken.{Taken}
@@ -43,14 +42,10 @@ pub record Takes (t : Tables) (q : Two → Two) (of : Two → ℕ) (p : Two) (te
   pub grows : Grows terms runs terms′ runs′ (poolAfter (poolOf terms runs) (choiceTerm t of (poolOf terms runs) (of p) (turnOf t q p .choice)))
 
 -- ---- the work buffers
--- the best after the structural actions: where it comes from does not count
-abbrev pub alignedBest : Tables → (Two → Two) → Two → Best
-alignedBest t q p = record { size = afterAligned t q p .quality .0; mass = afterAligned t q p .quality .1; how = H.Stay }
-
--- the transports are offered
+-- the structural actions are offered, then the transports
 unfoldable pub turnIn : Tables → (Two → Two) → (Two → ℕ) → Two → List ℕ → List ℕ → List ℕ → List ℕ → List ℕ → Work
-unfolding afterAligned offersIn transports
-turnIn t q of p sizes masses costs flow list = offersIn q of (transports t (p .0) (p .1)) (workOf sizes masses costs flow list (alignedBest t q p))
+unfolding bestAligned offersIn transports
+turnIn t q of p sizes masses costs flow list = offersIn q of (transports t (p .0) (p .1)) (workOf sizes masses costs flow list (bestAligned t q p))
 
 -- the winner's runs are listed, ordered and joined
 abbrev pub termList : Tables → (Two → ℕ) → List ℕ → List ℕ → Choice → List ℕ → List ℕ

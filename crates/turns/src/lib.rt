@@ -24,7 +24,7 @@ ghost use Rattle.terms.specs.Interning.{Unless};
 ghost use Rattle.terms.specs.Results.{ActionResult};
 ghost use Rattle.transport.specs.Solved.{Solves};
 ghost use Rattle.quality.specs.Known.{Known, over, qualityIn, termIn};
-ghost use Rattle.turns.specs.Agreeing.{Agrees, Chosen, Same};
+ghost use Rattle.turns.specs.Agreeing.{Agrees, Chosen};
 ghost use Rattle.turns.specs.Taking.{changedBy, Ended, Leaves, Takes, termList, turnIn, UnlessShort};
 ghost use Rattle.turns.specs.Better.{Words};
 ghost use Rattle.turns.specs.Cells.{with};
@@ -538,8 +538,8 @@ fn turn(
     requires { ⌜ Loaded (now s) im × Valid (tablesOf (now s)) × (l < im .classes) × (r < im .classes) × Known n (now index) (now pairs)
         × Roomy (now ones) (now sizes) (now masses) (now costs) (now flow) (now list) × (256 * im .classes ≤ length (now index)) ⌝ }
     ensures { λ o. ⌜ Enough (length (now (sizes .entry))) o (λ x. Agrees (tablesOf (now (s .entry))) (termIn (now (index .entry)) (now (pairs .entry))) (now (list .exit)) x (round.turnOf (tablesOf (now (s .entry))) (qualityIn (now (index .entry)) (now (pairs .entry))) (l, r))
-        × Same (workOf (now (sizes .exit)) (now (masses .exit)) (now (costs .exit)) (now (flow .exit)) (now (list .exit)) x)
-        (turnIn (tablesOf (now (s .entry))) (qualityIn (now (index .entry)) (now (pairs .entry))) (termIn (now (index .entry)) (now (pairs .entry))) (l, r) (now (sizes .entry)) (now (masses .entry)) (now (costs .entry)) (now (flow .entry)) (now (list .entry)))
+        × (workOf (now (sizes .exit)) (now (masses .exit)) (now (costs .exit)) (now (flow .exit)) (now (list .exit)) x
+        ≡ turnIn (tablesOf (now (s .entry))) (qualityIn (now (index .entry)) (now (pairs .entry))) (termIn (now (index .entry)) (now (pairs .entry))) (l, r) (now (sizes .entry)) (now (masses .entry)) (now (costs .entry)) (now (flow .entry)) (now (list .entry)))
         × (x .size < 2 ^ 32) × (x .mass < 2 ^ 32)) ⌝ }
 {
     let b = quality::best_aligned(s, im, index, pairs, n, l, r);

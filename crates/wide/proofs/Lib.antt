@@ -2,4 +2,3 @@ pub mod Words
 pub mod Order
 pub mod Columns
 pub mod Times
-pub mod Cap

@@ -1,14 +1,15 @@
--- Sum, difference and negation of two's complement values by their words. Assumes nothing.
-use mathlib.Core.Path.{_≡_, refl, sym, ap, _∙_}
+-- The sum of two's complement values by their words. Assumes nothing.
+use mathlib.Core.Path.{_≡_, sym, ap, _∙_}
 use mathlib.Core.Logic.{_⊎_, inl, inr}
-use Prim.Native.Nat.{ℕ, _+_, _-_, _*_, _/_, _^_, _<_, _≤_}
+use Prim.Native.Nat.{ℕ, _+_, _-_, _*_, _/_, _%_, _^_, _<_, _≤_}
 use native.Mathlib.Decide.{decLt}
 use native.Mathlib.Nat.{mul-add}
 use native.Mathlib.Omega.{arith}
-use lib.IntN.{ℤ, pos, negℤ, natAbs, _+ℤ_, _-ℤ_}
+use lib.IntN.{pos, natAbs, _+ℤ_, _-ℤ_}
 use Rattle.wide.specs.declared.Wide.{Wide}
 use Rattle.wide.specs.Value.{val, Within}
-use Rattle.wide.specs.Diff.{diff-add, diff-sub, diff-neg, diff-eq, natAbs-neg}
+use Rattle.wide.specs.Diff.{diff-add, diff-eq, natAbs-neg}
+use Rattle.wide.specs.Wrap.{carry, addWords, split}
 use Rattle.wide.specs.Sign.{val-low, val-under, set-top}
 
 -- ---- at any base B: l the low words, h the high ones, t the top bits, k the carry or borrow
@@ -17,18 +18,6 @@ sum-words : (B la ha ta lb hb tb lr hr tr k : ℕ) → la + lb ≡ lr + B * k �
 sum-words B la ha ta lb hb tb lr hr tr k e f =
     diff-eq (lr + B * hr) (B * (B * tr)) (la + B * ha + (lb + B * hb)) (B * (B * ta) + B * (B * tb)) (omega (arith, simp mul-add at (ap (λ (x : ℕ). B * x) f)))
     ∙ sym (diff-add (la + B * ha) (B * (B * ta)) (lb + B * hb) (B * (B * tb)))
-
-sub-words : (B la ha ta lb hb tb lr hr tr k : ℕ) → la + B * k ≡ lr + lb → ha + (B * tb + B * tr) ≡ hr + (hb + (k + B * ta))
-    → pos (lr + B * hr) -ℤ pos (B * (B * tr)) ≡ (pos (la + B * ha) -ℤ pos (B * (B * ta))) -ℤ (pos (lb + B * hb) -ℤ pos (B * (B * tb)))
-sub-words B la ha ta lb hb tb lr hr tr k e f =
-    diff-eq (lr + B * hr) (B * (B * tr)) (la + B * ha + B * (B * tb)) (B * (B * ta) + (lb + B * hb)) (omega (arith, simp mul-add at (ap (λ (x : ℕ). B * x) f)))
-    ∙ sym (diff-sub (la + B * ha) (B * (B * ta)) (lb + B * hb) (B * (B * tb)))
-
-neg-words : (B l h t lr hr tr k : ℕ) → B * k ≡ lr + l → B * t + B * tr ≡ hr + (h + k)
-    → pos (lr + B * hr) -ℤ pos (B * (B * tr)) ≡ negℤ (pos (l + B * h) -ℤ pos (B * (B * t)))
-neg-words B l h t lr hr tr k e f =
-    diff-eq (lr + B * hr) (B * (B * tr)) (B * (B * t)) (l + B * h) (omega (arith, simp mul-add at (ap (λ (x : ℕ). B * x) f)))
-    ∙ sym (diff-neg (l + B * h) (B * (B * t)))
 
 -- ---- a bound on the value is one on the high word
 -- the high word is less than m away from zero, with its top bit t
@@ -64,41 +53,20 @@ high-add a b r k c ta tb (inl x) (inr y) la lb lr hk hc e = omega arith
 high-add a b r k c ta tb (inr x) (inl y) la lb lr hk hc e = omega arith
 high-add a b r k c ta tb (inr x) (inr y) la lb lr hk hc e = omega arith
 
-high-sub : (a b r k c ta tb : ℕ) → Side (2 ^ 54) a ta → Side (2 ^ 54) b tb → a < 2 ^ 64 → b < 2 ^ 64 → r < 2 ^ 64 → k < 2 → c < 2 → a + 2 ^ 64 * c ≡ r + b + k
-    → a + (2 ^ 64 * tb + 2 ^ 64 * (r / 2 ^ 63)) ≡ r + (b + (k + 2 ^ 64 * ta))
-unfolding Side
-high-sub a b r k c ta tb (inl x) (inl y) la lb lr hk hc e = omega arith
-high-sub a b r k c ta tb (inl x) (inr y) la lb lr hk hc e = omega arith
-high-sub a b r k c ta tb (inr x) (inl y) la lb lr hk hc e = omega arith
-high-sub a b r k c ta tb (inr x) (inr y) la lb lr hk hc e = omega arith
-
-high-neg : (b r k c tb : ℕ) → Side (2 ^ 54) b tb → b < 2 ^ 64 → r < 2 ^ 64 → k < 2 → c < 2 → 0 + 2 ^ 64 * c ≡ r + b + k
-    → 2 ^ 64 * tb + 2 ^ 64 * (r / 2 ^ 63) ≡ r + (b + k)
-unfolding Side
-high-neg b r k c tb (inl y) lb lr hk hc e = omega arith
-high-neg b r k c tb (inr y) lb lr hk hc e = omega arith
-
--- ---- the laws that the code cites: a and b the arguments, r the result, k and c the carries out of the low and the high words
+-- ---- the laws that the code cites
 -- the words of a number are in range
 pub record Words (w : Wide) : Type 0 where
   pub low : w .lo < 2 ^ 64
   pub high : w .hi < 2 ^ 64
 
-module _ (a b r : Wide) (k c : ℕ) (p : Words a) (q : Words b) (s : Words r) (u : Within 118 a) (v : Within 118 b) (hk : k < 2) (hc : c < 2) where
-  pub add-law : a .lo + b .lo + 0 ≡ r .lo + 2 ^ 64 * k → a .hi + b .hi + k ≡ r .hi + 2 ^ 64 * c → val r ≡ val a +ℤ val b
-  unfolding val
-  add-law e f =
-      sum-words (2 ^ 64) (a .lo) (a .hi) (a .hi / 2 ^ 63) (b .lo) (b .hi) (b .hi / 2 ^ 63) (r .lo) (r .hi) (r .hi / 2 ^ 63) k (omega arith)
-      (high-add (a .hi) (b .hi) (r .hi) k c (a .hi / 2 ^ 63) (b .hi / 2 ^ 63) (side (2 ^ 54) a (p .low) (p .high) u) (side (2 ^ 54) b (q .low) (q .high) v) (p .high) (q .high) (s .high) hk hc f)
+over : (s : ℕ) → s < 2 ^ 64 + 2 ^ 64 → s / 2 ^ 64 < 2
+over s h = omega arith
 
-  pub sub-law : a .lo + 2 ^ 64 * k ≡ r .lo + b .lo + 0 → a .hi + 2 ^ 64 * c ≡ r .hi + b .hi + k → val r ≡ val a -ℤ val b
-  unfolding val
-  sub-law e f =
-      sub-words (2 ^ 64) (a .lo) (a .hi) (a .hi / 2 ^ 63) (b .lo) (b .hi) (b .hi / 2 ^ 63) (r .lo) (r .hi) (r .hi / 2 ^ 63) k (omega arith)
-      (high-sub (a .hi) (b .hi) (r .hi) k c (a .hi / 2 ^ 63) (b .hi / 2 ^ 63) (side (2 ^ 54) a (p .low) (p .high) u) (side (2 ^ 54) b (q .low) (q .high) v) (p .high) (q .high) (s .high) hk hc f)
-
-pub neg-law : (a r : Wide) (k c : ℕ) → Words a → Words r → Within 118 a → k < 2 → c < 2 → 0 + 2 ^ 64 * k ≡ r .lo + a .lo + 0 → 0 + 2 ^ 64 * c ≡ r .hi + a .hi + k → val r ≡ negℤ (val a)
-unfolding val
-neg-law a r k c p s u hk hc e f =
-    neg-words (2 ^ 64) (a .lo) (a .hi) (a .hi / 2 ^ 63) (r .lo) (r .hi) (r .hi / 2 ^ 63) k (omega arith)
-    (high-neg (a .hi) (r .hi) k c (a .hi / 2 ^ 63) (side (2 ^ 54) a (p .low) (p .high) u) (p .high) (s .high) hk hc f)
+pub add-law : (a b : Wide) → Words a → Words b → Within 118 a → Within 118 b → val (addWords a b) ≡ val a +ℤ val b
+unfolding val addWords
+add-law a b p q u v =
+    let k = carry a b in
+    let t = a .hi + b .hi + k in
+    let hk : k < 2 = over (a .lo + b .lo) (omega (arith, p .low, q .low)) in
+    sum-words (2 ^ 64) (a .lo) (a .hi) (a .hi / 2 ^ 63) (b .lo) (b .hi) (b .hi / 2 ^ 63) ((a .lo + b .lo) % 2 ^ 64) (t % 2 ^ 64) (t % 2 ^ 64 / 2 ^ 63) k (sym (split (a .lo + b .lo)))
+    (high-add (a .hi) (b .hi) (t % 2 ^ 64) k (t / 2 ^ 64) (a .hi / 2 ^ 63) (b .hi / 2 ^ 63) (side (2 ^ 54) a (p .low) (p .high) u) (side (2 ^ 54) b (q .low) (q .high) v) (p .high) (q .high) (omega arith) hk (over t (omega (arith, p .high, q .high, hk))) (sym (split t)))

@@ -18,11 +18,8 @@ swap-in a b c d = +ℤ-assoc a b (c +ℤ d) ∙ ap (λ (x : ℤ). a +ℤ x) (+�
 pub diff-add : (a b c d : ℕ) → (pos a -ℤ pos b) +ℤ (pos c -ℤ pos d) ≡ pos (a + c) -ℤ pos (b + d)
 diff-add a b c d = swap-in (pos a) (negℤ (pos b)) (pos c) (negℤ (pos d)) ∙ ap (λ (x : ℤ). pos (a + c) +ℤ x) (sym (negℤ-+ℤ (pos b) (pos d)))
 
-pub diff-neg : (a b : ℕ) → negℤ (pos a -ℤ pos b) ≡ pos b -ℤ pos a
+diff-neg : (a b : ℕ) → negℤ (pos a -ℤ pos b) ≡ pos b -ℤ pos a
 diff-neg a b = negℤ-+ℤ (pos a) (negℤ (pos b)) ∙ ap (λ (x : ℤ). negℤ (pos a) +ℤ x) (negℤ-negℤ (pos b)) ∙ +ℤ-comm (negℤ (pos a)) (pos b)
-
-pub diff-sub : (a b c d : ℕ) → (pos a -ℤ pos b) -ℤ (pos c -ℤ pos d) ≡ pos (a + d) -ℤ pos (b + c)
-diff-sub a b c d = ap (λ (x : ℤ). (pos a -ℤ pos b) +ℤ x) (diff-neg c d) ∙ diff-add a b d c
 
 diff-more : (a b d : ℕ) → pos (a + d) -ℤ pos (b + d) ≡ pos a -ℤ pos b
 diff-more a b d = sym (diff-add a b d d) ∙ ap (λ (x : ℤ). (pos a -ℤ pos b) +ℤ x) (+ℤ-invr (pos d)) ∙ +ℤ-idr (pos a -ℤ pos b)

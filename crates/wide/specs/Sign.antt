@@ -62,10 +62,3 @@ words-by w n l h e (no x) =
 
 pub words-of : (w : Wide) (n : ℕ) → w .lo < 2 ^ 64 → w .hi < 2 ^ 64 → val w ≡ pos n → (w .lo ≡ n % 2 ^ 64) × (w .hi ≡ n / 2 ^ 64)
 words-of w n l h e = words-by w n l h e (decLt (w .hi) (2 ^ 63))
-
-together : (n l h : ℕ) → l ≡ n % 2 ^ 64 → h ≡ n / 2 ^ 64 → l + 2 ^ 64 * h ≡ n
-together n l h e f = omega arith
-
-pub unsigned-of : (w : Wide) (n : ℕ) → w .lo < 2 ^ 64 → w .hi < 2 ^ 64 → val w ≡ pos n → unsigned w ≡ n
-unfolding unsigned
-unsigned-of w n l h e = let d = words-of w n l h e in together n (w .lo) (w .hi) (d .0) (d .1)

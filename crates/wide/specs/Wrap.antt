@@ -8,7 +8,7 @@ use native.Mathlib.Omega.{arith}
 use lib.Dec.{ltb}
 use lib.Signed.{ltZ}
 use Rattle.wide.specs.declared.Wide.{Wide}
-use Rattle.wide.specs.Value.{val, unsigned}
+use Rattle.wide.specs.Value.{val}
 use Rattle.wide.specs.Sign.{val-low}
 
 -- "the low words are added with a sum that wraps, and the carry is worked out"
@@ -31,7 +31,7 @@ pub record Natural (w : Wide) (n : ℕ) : Type 0 where
   pub high : w .hi < 2 ^ 62
   pub is : w .lo + 2 ^ 64 * w .hi ≡ n
 
-split : (s : ℕ) → s % 2 ^ 64 + 2 ^ 64 * (s / 2 ^ 64) ≡ s
+pub split : (s : ℕ) → s % 2 ^ 64 + 2 ^ 64 * (s / 2 ^ 64) ≡ s
 split s = omega arith
 
 low-lt : (s : ℕ) → s % 2 ^ 64 < 2 ^ 64

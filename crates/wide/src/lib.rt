@@ -1,7 +1,7 @@
 // Signed numbers of two 64-bit words, two's complement: the path costs of transport.rs (`i128`, `u128`).
 ghost use mathlib.Core.Path.{_≡_};
-ghost use Prim.Native.Nat.{_+_, _*_, _/_, _%_, _^_, _<_, min};
-ghost use lib.IntN.{pos, negℤ, _+ℤ_, _-ℤ_, _*ℤ_};
+ghost use Prim.Native.Nat.{_+_, _*_, _/_, _%_, _^_, _<_};
+ghost use lib.IntN.{pos, _+ℤ_, _*ℤ_};
 ghost use lib.Signed.{ltZ};
 ghost use Rattle.wide.specs.Value.{val, unsigned, Within, weightOf, weighOf};
 ghost use Rattle.wide.specs.Wrap.{addWords, negWords};
@@ -84,52 +84,10 @@ fn mul_half(a: u64, k: u64) -> Wide
 }
 
 impl Wide {
-    pub fn of(x: u64) -> Wide
+    fn of(x: u64) -> Wide
         ensures { λ r. ⌜ val r ≡ pos x ⌝ }
     {
         Wide { lo: x, hi: 0 }
-    }
-
-    // The product of two words, not signed.
-    pub fn product(u: u64, v: u64) -> Wide
-        ensures { λ r. ⌜ unsigned r ≡ u * v ⌝ }
-    {
-        let u0 = low(u);
-        let u1 = high(u);
-        let v0 = low(v);
-        let v1 = high(v);
-        let w0 = half_mul(u0, v0, 0, 0);
-        let t = half_mul(u1, v0, high(w0), 0);
-        let w1 = half_mul(u0, v1, low(t), 0);
-        let hi = half_mul(u1, v1, high(t), high(w1));
-        Wide {
-            lo: low(w0) + 0x1_0000_0000 * low(w1),
-            hi: hi,
-        }
-    }
-
-    pub fn add(self, b: Wide) -> Wide
-        requires { ⌜ Within 118 self × Within 118 b ⌝ }
-        ensures { λ r. ⌜ val r ≡ val self +ℤ val b ⌝ }
-    {
-        let l = add_word(self.lo, b.lo, 0);
-        let h = add_word(self.hi, b.hi, l.carry);
-        Wide {
-            lo: l.word,
-            hi: h.word,
-        }
-    }
-
-    pub fn sub(self, b: Wide) -> Wide
-        requires { ⌜ Within 118 self × Within 118 b ⌝ }
-        ensures { λ r. ⌜ val r ≡ val self -ℤ val b ⌝ }
-    {
-        let l = sub_word(self.lo, b.lo, 0);
-        let h = sub_word(self.hi, b.hi, l.carry);
-        Wide {
-            lo: l.word,
-            hi: h.word,
-        }
     }
 
     // The sum and the negation of any two words, at all values: what passes 2^128 is lost.
@@ -155,16 +113,12 @@ impl Wide {
         }
     }
 
-    pub fn neg(self) -> Wide
-        requires { ⌜ Within 118 self ⌝ }
-        ensures { λ r. ⌜ val r ≡ negℤ (val self) ⌝ }
+    // The sum of values that are small enough.
+    fn add(self, b: Wide) -> Wide
+        requires { ⌜ Within 118 self × Within 118 b ⌝ }
+        ensures { λ r. ⌜ val r ≡ val self +ℤ val b ⌝ }
     {
-        let l = sub_word(0, self.lo, 0);
-        let h = sub_word(0, self.hi, l.carry);
-        Wide {
-            lo: l.word,
-            hi: h.word,
-        }
+        self.wrapping_add(b)
     }
 
     // Whether self < b: the high words with the top bit turned, so that numbers below zero come first, then the low words.
@@ -182,7 +136,7 @@ impl Wide {
         self.lo < b.lo
     }
 
-    pub fn times(self, k: u32) -> Wide
+    fn times(self, k: u32) -> Wide
         requires { ⌜ Within 86 self ⌝ }
         ensures { λ r. ⌜ val r ≡ val self *ℤ pos k ⌝ }
     {
@@ -193,19 +147,6 @@ impl Wide {
             lo: p.lo,
             hi: h.word,
         }
-    }
-
-    // The number, or the largest u32 where it is above that: `cap_quality` of exact_fixed.rs. Not signed.
-    pub fn cap(self) -> u32
-        ensures { λ r. ⌜ r ≡ min (unsigned self) 4294967295 ⌝ }
-    {
-        if self.hi > 0 {
-            return 0xffff_ffff;
-        }
-        if self.lo > 0xffff_ffff {
-            return 0xffff_ffff;
-        }
-        self.lo as u32
     }
 
     // W = F * V + 1

@@ -1,6 +1,6 @@
-use Rattle.actions.proofs.Scan.{seek-more, seek-found, seek-end}
-use Rattle.actions.proofs.Readers.{class-end, span-end}
-use Rattle.actions.specs.Remaining.{listFrom}
+use Rattle.actions.proofs.Turns.{seek-here, seek-next, seek-over}
+use Rattle.actions.proofs.Readers.{span-end}
+use Rattle.actions.specs.Seek.{seekOf}
 use Rattle.spec.specs.Image.{tablesOf}
 use Prim.Native.Nat.{_-_}
 use native.Mathlib.Omega.{arith}
@@ -10,7 +10,7 @@ use Rattle.actions.proofs.seek.Statement.{statement}
 use Rattle.actions.proofs.seek.Tie as tie
 
 abbrev Inv-loop : tie.InvT-loop
-Inv-loop s im l r to right v₀ v = listFrom (tablesOf s) l r v ≡ listFrom (tablesOf s) l r v₀
+Inv-loop s im l r to right v₀ v = seekOf (tablesOf s) l r v ≡ seekOf (tablesOf s) l r v₀
 
 abbrev μ-loop : tie.MeasureT-loop
 μ-loop s im l r to right v₀ v = to - v .left
@@ -39,10 +39,8 @@ enum-known-x c = search needs
 returns : tie.Need-returns Inv-loop μ-loop
 returns c =
     let l = c .before .before .before .before .before .before in let m = l .before .before in let a = m .before .before in
-    let g = seek-found (tablesOf (a .args .s .now)) (a .args .l) (a .args .r) (class-end (a .args .s .now) (a .args .im) (a .pre .0) (a .pre .1) (a .args .l) (a .pre .2)) (class-end (a .args .s .now) (a .args .im) (a .pre .0) (a .pre .1) (a .args .r) (a .pre .3)) (m .members-of .ensures .0) (l .before .members-of2 .ensures .0) (l .loop .v) in
     let e = c .before .x .given .1 in
-    let k = rw e at (c .before .before .before .seek-right .ensures) in
-    (sym (l .loop .inv) ∙ g (c .before .x .given .0 .0) (c .before .before .before .before .if1 .taken) (k .0) (k .2), k .1)
+    sym (seek-here (tablesOf (a .args .s .now)) (a .args .l) (a .args .r) (m .members-of .ensures .0) (l .before .members-of2 .ensures .0) (l .loop .v) (c .before .x .given .0 .0) (c .before .before .before .seek-right .ensures) e (c .before .before .before .before .if1 .taken)) ∙ l .loop .inv
 
 enum-told : tie.Need-enum-told Inv-loop μ-loop
 enum-told c = search needs
@@ -56,15 +54,12 @@ loop-less c = search needs
 loop-again : tie.Need-loop-again Inv-loop μ-loop
 loop-again c =
     let l = c .before .before .before .before .before .before in let m = l .before .before in let a = m .before .before in
-    let g = seek-more (tablesOf (a .args .s .now)) (a .args .l) (a .args .r) (class-end (a .args .s .now) (a .args .im) (a .pre .0) (a .pre .1) (a .args .l) (a .pre .2)) (class-end (a .args .s .now) (a .args .im) (a .pre .0) (a .pre .1) (a .args .r) (a .pre .3)) (m .members-of .ensures .0) (l .before .members-of2 .ensures .0) (l .loop .v) in
-    let k = rw (c .before .enum-told .given .1) at (c .before .before .before .seek-right .ensures) in
-    g (c .before .before .before .before .if1 .taken) (k .0) ∙ l .loop .inv
+    sym (seek-next (tablesOf (a .args .s .now)) (a .args .l) (a .args .r) (m .members-of .ensures .0) (l .before .members-of2 .ensures .0) (l .loop .v) (c .before .before .before .seek-right .ensures) (c .before .enum-told .given .1) (c .before .before .before .before .if1 .taken)) ∙ l .loop .inv
 
 returns-2 : tie.Need-returns-2 Inv-loop μ-loop
 returns-2 c =
     let l = c .before .before in let m = l .before .before in let a = m .before .before in
-    let g = seek-end (tablesOf (a .args .s .now)) (a .args .l) (a .args .r) (class-end (a .args .s .now) (a .args .im) (a .pre .0) (a .pre .1) (a .args .l) (a .pre .2)) (class-end (a .args .s .now) (a .args .im) (a .pre .0) (a .pre .1) (a .args .r) (a .pre .3)) (m .members-of .ensures .0) (l .before .members-of2 .ensures .0) (l .loop .v) in
-    (sym (l .loop .inv) ∙ g (c .if1 .left), tt)
+    sym (seek-over (tablesOf (a .args .s .now)) (a .args .l) (a .args .r) (m .members-of .ensures .0) (l .before .members-of2 .ensures .0) (l .loop .v) (c .if1 .left)) ∙ l .loop .inv
 
 pub seek-spec : {M : Type 1} → statement M
 seek-spec =

@@ -1,11 +1,7 @@
-use Rattle.actions.proofs.Scan.{row-more, row-found, row-end}
-use Rattle.actions.proofs.Readers.{standing}
-use Rattle.actions.specs.Remaining.{actionsAt, rowAt}
-use Rattle.actions.specs.declared.State.{State}
-use Rattle.image.specs.Loaded.{members-many}
+use Rattle.actions.proofs.Turns.{row-here, row-next, row-over}
+use Rattle.actions.specs.Seek.{seekRightOf}
 use Rattle.spec.specs.Image.{tablesOf}
-use lib.ListN.{length}
-use Prim.Native.Nat.{_≤_, _<_, _-_}
+use Prim.Native.Nat.{_-_}
 use native.Mathlib.Omega.{arith}
 use mathlib.Core.Path.{_≡_, refl, sym, _∙_}
 use borrow.Author.Needs.{needs}
@@ -13,7 +9,7 @@ use Rattle.actions.proofs.seek_right.Statement.{statement}
 use Rattle.actions.proofs.seek_right.Tie as tie
 
 abbrev Inv-loop : tie.InvT-loop
-Inv-loop s im to w j₀ n₀ j n = rowAt (tablesOf s) to (record { left = w .left; right = j; past = n }) ≡ rowAt (tablesOf s) to w
+Inv-loop s im to w j₀ n₀ j n = seekRightOf (tablesOf s) to (record { left = w .left; right = j; past = n }) ≡ seekRightOf (tablesOf s) to w
 
 abbrev μ-loop : tie.MeasureT-loop
 μ-loop s im to w j₀ n₀ j n = to - j
@@ -27,14 +23,8 @@ aligned-requires c κs =
 
 returns : tie.Need-returns Inv-loop μ-loop
 returns c =
-    let l = c .before .before .before in let a = l .before .before in let t = tablesOf (a .args .s .now) in
-    let w : State = record { left = a .args .w .left; right = l .loop .j; past = l .loop .n } in
-    let k : a .args .to ≤ length (t .members) = omega (arith, a .pre .3, members-many (a .args .s .now) (a .args .im) (a .pre .0)) in
-    let m : w .past < length (actionsAt t w) = omega (arith, c .if1 .taken, c .before .aligned .ensures) in (
-      sym (l .loop .inv) ∙ row-found t (a .args .to) k w (omega (arith, c .before .before .loop-test)) m,
-      standing (a .args .s .now) (a .args .im) (a .pre .0) (a .pre .1) (w .left) (w .right) (w .past) (a .pre .2) (omega (arith, c .before .before .loop-test, a .pre .3)) m,
-      refl,
-    )
+    let l = c .before .before .before in let a = l .before .before in
+    sym (row-here (tablesOf (a .args .s .now)) (a .args .to) (record { left = a .args .w .left; right = l .loop .j; past = l .loop .n }) (omega (arith, c .before .before .loop-test)) (omega (arith, c .if1 .taken, c .before .aligned .ensures))) ∙ l .loop .inv
 
 add-j : tie.Need-add-j Inv-loop μ-loop
 add-j c = search needs
@@ -44,17 +34,13 @@ loop-less c = search needs
 
 loop-again : tie.Need-loop-again Inv-loop μ-loop
 loop-again c =
-    let l = c .before .before .before in let a = l .before .before in let t = tablesOf (a .args .s .now) in
-    let w : State = record { left = a .args .w .left; right = l .loop .j; past = l .loop .n } in
-    let k : a .args .to ≤ length (t .members) = omega (arith, a .pre .3, members-many (a .args .s .now) (a .args .im) (a .pre .0)) in
-    row-more t (a .args .to) k w (omega (arith, c .before .before .loop-test)) (omega (arith, c .if1 .left, c .before .aligned .ensures)) ∙ l .loop .inv
+    let l = c .before .before .before in let a = l .before .before in
+    sym (row-next (tablesOf (a .args .s .now)) (a .args .to) (record { left = a .args .w .left; right = l .loop .j; past = l .loop .n }) (omega (arith, c .before .before .loop-test)) (omega (arith, c .if1 .left, c .before .aligned .ensures))) ∙ l .loop .inv
 
 returns-2 : tie.Need-returns-2 Inv-loop μ-loop
 returns-2 c =
-    let l = c .before in let a = l .before .before in let t = tablesOf (a .args .s .now) in
-    let w : State = record { left = a .args .w .left; right = l .loop .j; past = l .loop .n } in
-    let k : a .args .to ≤ length (t .members) = omega (arith, a .pre .3, members-many (a .args .s .now) (a .args .im) (a .pre .0)) in
-    (sym (l .loop .inv) ∙ row-end t (a .args .to) k w (omega (arith, c .loop-test)), tt, tt)
+    let l = c .before in let a = l .before .before in
+    sym (row-over (tablesOf (a .args .s .now)) (a .args .to) (record { left = a .args .w .left; right = l .loop .j; past = l .loop .n }) (omega (arith, c .loop-test))) ∙ l .loop .inv
 
 pub seek-right-spec : {M : Type 1} → statement M
 seek-right-spec =

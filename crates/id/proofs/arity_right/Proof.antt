@@ -1,5 +1,4 @@
 use borrow.Author.Needs.{needs}
-use native.Mathlib.Omega.{arith}
 use Rattle.id.proofs.Laws.{right-free, right-fixed}
 use Rattle.id.proofs.arity_right.Statement.{statement}
 use Rattle.id.proofs.arity_right.Tie as tie

@@ -1,16 +1,18 @@
 use Rattle.quality.specs.Known.{qualityIn}
-use Rattle.quality.specs.Offers.{Going, going-first, going-on, going-last, fewer}
+use Rattle.quality.specs.Aligned.{bestFrom, bestAligned}
+use Rattle.quality.specs.Offers.{best-first, best-last, best-next}
 use Rattle.quality.specs.Within.{place-fits}
 use Rattle.actions.specs.Remaining.{listFrom}
+use Rattle.actions.specs.SeekLaws.{found-stands, found-fewer}
 use Rattle.spec.specs.Image.{tablesOf}
-use mathlib.Core.Path.{_∙_}
+use mathlib.Core.Path.{_≡_, sym, _∙_}
 use lib.ListN.{length}
 use borrow.Author.Needs.{needs}
 use Rattle.quality.proofs.best_aligned.Statement.{statement}
 use Rattle.quality.proofs.best_aligned.Tie as tie
 
 abbrev Inv-loop : tie.InvT-loop
-Inv-loop s im index pairs n l r best₀ w₀ best w = Going (tablesOf s) (qualityIn index pairs) l r best w
+Inv-loop s im index pairs n l r best₀ w₀ best w = bestFrom (tablesOf s) (qualityIn index pairs) (l, r) (length (listFrom (tablesOf s) l r w)) w best ≡ bestAligned (tablesOf s) (qualityIn index pairs) (l, r)
 
 abbrev μ-loop : tie.MeasureT-loop
 μ-loop s im index pairs n l r best₀ w₀ best w = length (listFrom (tablesOf s) l r w)
@@ -35,8 +37,8 @@ start-requires c κs = search needs
 loop-holds : tie.Need-loop-holds Inv-loop μ-loop
 loop-holds c =
     let a = c .before .before .before .before .before .before .before .before in
-    going-first (tablesOf (a .args .s .now)) (qualityIn (a .args .index .now) (a .args .pairs .now)) (a .args .l) (a .args .r) _ _ _ (c .start .ensures)
-    (c .before .before .before .num8 .ensures .0 ∙ c .before .before .before .before .size-of .ensures) (c .before .num82 .ensures .0 ∙ c .before .before .mass-of .ensures) (c .before .before .before .num8 .ensures .1) (c .before .num82 .ensures .1)
+    best-first (a .pre .0) (a .pre .1) (qualityIn (a .args .index .now) (a .args .pairs .now)) (a .pre .2) (a .pre .3) (c .start .ensures)
+    (c .before .before .before .num8 .ensures .0 ∙ c .before .before .before .before .size-of .ensures) (c .before .num82 .ensures .0 ∙ c .before .before .mass-of .ensures)
 
 seek-requires : tie.Need-seek-requires Inv-loop μ-loop
 seek-requires c κs = search needs
@@ -47,32 +49,31 @@ enum-told c = search needs
 returns : tie.Need-returns Inv-loop μ-loop
 returns c =
     let l = c .before .before .before in let a = l .before .before .before .before .before .before .before .before .before in
-    let k = rw (c .enum-told .given .1) at (c .before .before .seek .ensures) in
-    going-last (tablesOf (a .args .s .now)) (qualityIn (a .args .index .now) (a .args .pairs .now)) (a .args .l) (a .args .r) (l .loop .best) (l .loop .w) (l .loop .inv) (k .0)
+    sym (best-last (a .pre .0) (a .pre .1) (qualityIn (a .args .index .now) (a .args .pairs .now)) (a .pre .2) (a .pre .3) (l .loop .w) (l .loop .best) (c .before .before .seek .ensures) (length (listFrom (tablesOf (a .args .s .now)) (a .args .l) (a .args .r) (l .loop .w))) (c .enum-told .given .1)) ∙ l .loop .inv
 
 enum-known-v : tie.Need-enum-known-v Inv-loop μ-loop
 enum-known-v c = search needs
 
 offer-requires : tie.Need-offer-requires Inv-loop μ-loop
 offer-requires c κs =
-    let a = c .before .before .before .before .before .before .before .before .before .before .before .before .before in
-    let k = rw (c .before .v .given .1) at (c .before .before .before .seek .ensures) in (a .pre .0, a .pre .1, k .1, a .pre .4, a .pre .5)
+    let l = c .before .before .before .before in let a = l .before .before .before .before .before .before .before .before .before in
+    (a .pre .0, a .pre .1, found-stands (a .pre .0) (a .pre .1) (a .pre .2) (a .pre .3) (l .loop .w) (c .before .before .before .seek .ensures) _ (c .before .v .given .1), a .pre .4, a .pre .5)
 
 after-requires : tie.Need-after-requires Inv-loop μ-loop
 after-requires c κs =
-    let k = rw (c .before .before .v .given .1) at (c .before .before .before .before .seek .ensures) in k .1 .few
+    let l = c .before .before .before .before .before in let a = l .before .before .before .before .before .before .before .before .before in
+    found-stands (a .pre .0) (a .pre .1) (a .pre .2) (a .pre .3) (l .loop .w) (c .before .before .before .before .seek .ensures) _ (c .before .before .v .given .1) .few
 
 loop-less : tie.Need-loop-less Inv-loop μ-loop
 loop-less c =
     let l = c .before .before .before .before .before .before in let a = l .before .before .before .before .before .before .before .before .before in
-    let k = rw (c .before .before .before .v .given .1) at (c .before .before .before .before .before .seek .ensures) in
-    fewer (tablesOf (a .args .s .now)) (a .args .l) (a .args .r) (l .loop .w) _ _ (k .0) (c .after .ensures)
+    rw (c .after .ensures) (found-fewer (a .pre .0) (a .pre .1) (a .pre .2) (a .pre .3) (l .loop .w) (c .before .before .before .before .before .seek .ensures) _ (c .before .before .before .v .given .1))
 
 loop-again : tie.Need-loop-again Inv-loop μ-loop
 loop-again c =
     let l = c .before .before .before .before .before .before in let a = l .before .before .before .before .before .before .before .before .before in
-    let k = rw (c .before .before .before .v .given .1) at (c .before .before .before .before .before .seek .ensures) in
-    going-on (tablesOf (a .args .s .now)) (qualityIn (a .args .index .now) (a .args .pairs .now)) (a .args .l) (a .args .r) (l .loop .best) (l .loop .w) (l .loop .inv) _ _ _ (k .0) (c .before .offer .ensures) (c .after .ensures)
+    let q = qualityIn (a .args .index .now) (a .args .pairs .now) in
+    sym (best-next (a .pre .0) (a .pre .1) q (a .pre .2) (a .pre .3) (l .loop .w) (l .loop .best) (c .before .before .before .before .before .seek .ensures) _ (c .before .before .before .v .given .1) (c .before .offer .ensures) (c .after .ensures)) ∙ l .loop .inv
 
 pub best-aligned-spec : {M : Type 1} → statement M
 best-aligned-spec =

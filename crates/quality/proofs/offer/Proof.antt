@@ -1,6 +1,4 @@
-use Rattle.quality.specs.Known.{qualityIn}
-use Rattle.quality.specs.Offers.{replaces, stays}
-use Rattle.spec.specs.Image.{tablesOf}
+use Rattle.quality.specs.Offers.{offer-by}
 use mathlib.Core.Path.{sym, _∙_}
 use borrow.Author.Needs.{needs}
 use Rattle.quality.proofs.offer.Statement.{statement}
@@ -15,12 +13,12 @@ better-requires c κs = search needs
 returns : tie.Need-returns
 returns c =
     let w = c .before .before .structural-quality in let a = c .before .before .before .before .before .before in
-    replaces (tablesOf (a .args .s .now)) (qualityIn (a .args .index .now) (a .args .pairs .now)) (a .args .v) (a .args .b) (w .result .size) (w .result .mass) (w .ensures) (a .pre .2) (sym (c .if1 .taken) ∙ c .before .better .ensures)
+    offer-by (a .args .v) (a .args .b) (w .ensures) (sym (c .if1 .taken) ∙ c .before .better .ensures)
 
 returns-2 : tie.Need-returns-2
 returns-2 c =
     let w = c .before .before .structural-quality in let a = c .before .before .before .before .before .before in
-    stays (tablesOf (a .args .s .now)) (qualityIn (a .args .index .now) (a .args .pairs .now)) (a .args .v) (a .args .b) (w .result .size) (w .result .mass) (w .ensures) (sym (c .if1 .left) ∙ c .before .better .ensures)
+    offer-by (a .args .v) (a .args .b) (w .ensures) (sym (c .if1 .left) ∙ c .before .better .ensures)
 
 pub offer-spec : {M : Type 1} → statement M
 offer-spec = tie.close (tie.spec structural-quality-requires better-requires returns returns-2)

@@ -69,7 +69,7 @@ returns : tie.Need-returns Inv-loop μ-loop
 returns c =
     let l = c .before in let a = l .before .before .before .before .before in
     summed-all (qualityIn (a .args .index .now) (a .args .pairs .now)) (actionAt (tablesOf (a .args .s .now)) (a .args .v)) (l .loop .k) (l .loop .size) (l .loop .mass) (l .loop .inv)
-    (omega (arith, c .loop-test .left, l .before .count .ensures .0)) (omega (arith, l .before .count .ensures .0, l .before .count .ensures .1))
+    (omega (arith, c .loop-test .left, l .before .count .ensures .0))
 
 pub structural-quality-spec : {M : Type 1} → statement M
 structural-quality-spec =

@@ -2,9 +2,9 @@ use native.Mathlib.Omega.{arith}
 use borrow.Author.Needs.{needs}
 use Rattle.spec.specs.Image.{tablesOf}
 use Rattle.quality.specs.Within.{quality-low}
+use Rattle.quality.specs.Offers.{best-aligns}
 use Rattle.quality.specs.Known.{qualityIn, termIn, numberIn}
 use Rattle.turns.specs.Room.{enough-map}
-use Rattle.turns.specs.Offers.{workOf}
 use Rattle.turns.specs.Ending.{turn-done, turn-left, turn-fits}
 use Rattle.turns.proofs.turn.Statement.{statement}
 use Rattle.turns.proofs.turn.Tie as tie
@@ -38,10 +38,13 @@ returns c =
     let of = termIn (a .index .now) (a .pairs .now) in
     let t = tablesOf (a .s .now) in
     let f = c .before .before .before .before .before .before .before .before .before .before .before .before .before .before .before .before .before .before .before .before .before .before .before .shared-slice-known3 .given (numberIn (a .index .now) (a .l, a .r)) in
+    let x = c .before .before .before .before .before .before .before .before .before .before .before .before .before .before .before .before .best-aligned in
+    let A = best-aligns (b .pre .0) (b .pre .1) q (b .pre .2) (b .pre .3) (x .ensures) in
     enough-map _ (c .before .before .before .before .before .before .before .before .before .before .offer-transports .result)
     (λ y e.
-    let z = turn-fits t q of (a .l, a .r) _ y (turn-done t q of (a .l, a .r) (workOf (a .sizes .now) (a .masses .now) (a .costs .now) (a .flow .now) (a .list .now) (c .before .before .before .before .before .before .before .before .before .before .before .before .before .before .before .before .best-aligned .result)) _ e (c .before .before .before .before .before .before .before .before .before .before .before .before .before .before .before .before .best-aligned .ensures)) (quality-low (b .pre .4)) (omega (arith, f .fits)) in
-    (turn-done t q of (a .l, a .r) (workOf (a .sizes .now) (a .masses .now) (a .costs .now) (a .flow .now) (a .list .now) (c .before .before .before .before .before .before .before .before .before .before .before .before .before .before .before .before .best-aligned .result)) _ e (c .before .before .before .before .before .before .before .before .before .before .before .before .before .before .before .before .best-aligned .ensures), turn-left t q of (a .l, a .r) (workOf (a .sizes .now) (a .masses .now) (a .costs .now) (a .flow .now) (a .list .now) (c .before .before .before .before .before .before .before .before .before .before .before .before .before .before .before .before .best-aligned .result)) _ e (c .before .before .before .before .before .before .before .before .before .before .before .before .before .before .before .before .best-aligned .ensures), z .0, z .1))
+    let d = turn-done t q of (a .l, a .r) (a .sizes .now) (a .masses .now) (a .costs .now) (a .flow .now) (a .list .now) (x .result) _ e A in
+    let z = turn-fits t q of (a .l, a .r) _ y d (quality-low (b .pre .4)) (omega (arith, f .fits)) in
+    (d, turn-left t q of (a .l, a .r) (a .sizes .now) (a .masses .now) (a .costs .now) (a .flow .now) (a .list .now) (x .result) _ e (x .ensures), z .0, z .1))
     (c .before .before .before .before .before .before .before .before .before .before .offer-transports .ensures)
 
 pub turn-spec : {M : Type 1} → statement M

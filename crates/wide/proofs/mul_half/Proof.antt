@@ -47,7 +47,7 @@ returns c =
     let a₀ = c .before .before .before .before .before .before .before .low in
     let s = c .before .before .before .before .before .before .before .before in
     half-law (s .args .a) (s .args .k) (a₀ .result) (a₁ .result) (w .result) (h .result) (t .result) (l₀ .result) (l₁ .result) (hi .result)
-    (s .pre) (a₀ .ensures) (a₁ .ensures) (w .ensures) (h .ensures) (t .ensures) (l₀ .ensures) (l₁ .ensures) (hi .ensures)
+    (a₀ .ensures) (a₁ .ensures) (w .ensures) (h .ensures) (t .ensures) (l₀ .ensures) (l₁ .ensures) (hi .ensures)
 
 pub mul-half-spec : {M : Type 1} → statement M
 mul-half-spec =

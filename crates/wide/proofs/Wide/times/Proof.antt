@@ -1,7 +1,6 @@
 use borrow.Author.Needs.{needs}
 use native.Mathlib.Omega.{arith}
 use mathlib.Core.Path.{refl}
-use Rattle.wide.proofs.Words.{Words}
 use Rattle.wide.proofs.Times.{times-law}
 use Rattle.wide.proofs.Wide.times.Statement.{statement}
 use Rattle.wide.proofs.Wide.times.Tie as tie
