@@ -18,8 +18,7 @@ zeroed a zero l = l
 zeroed a (suc n) l = set (zeroed a n l) (a + n) 0
 
 -- no term: where the first term's runs begin, the chains' last terms and the count are 0
-unfoldable pub emptied : List ℕ → List ℕ
-unfolding zeroed
+abbrev pub emptied : List ℕ → List ℕ
 emptied terms = set (zeroed BUCKET BUCKETS (set terms FIRSTS 0)) COUNT 0
 
 pub zeroed-none : (a : ℕ) (l : List ℕ) → zeroed a 0 l ≡ l
@@ -85,19 +84,15 @@ module _ (terms runs : List ℕ) (none : countIn terms ≡ 0) where
 
 module _ (terms runs : List ℕ) where
   emptied-count : countIn (emptied terms) ≡ 0
-  unfolding emptied
   emptied-count = set-zero (zeroed BUCKET BUCKETS (set terms FIRSTS 0)) COUNT
 
   emptied-chains : (b : ℕ) → b < BUCKETS → bucketIn (emptied terms) b ≡ 0
-  unfolding emptied
   emptied-chains b h = getD-set-other (zeroed BUCKET BUCKETS (set terms FIRSTS 0)) COUNT (BUCKET + b) 0 0 (λ e. omega arith) ∙ zeroed-at BUCKET BUCKETS (set terms FIRSTS 0) b h
 
   emptied-first : firstIn (emptied terms) 0 ≡ 0
-  unfolding emptied
   emptied-first = getD-set-other (zeroed BUCKET BUCKETS (set terms FIRSTS 0)) COUNT FIRSTS 0 0 (λ e. omega arith) ∙ zeroed-after BUCKET BUCKETS (set terms FIRSTS 0) FIRSTS (omega arith) ∙ set-zero terms FIRSTS
 
   pub emptied-length : length (emptied terms) ≡ length terms
-  unfolding emptied
   emptied-length = length-set (zeroed BUCKET BUCKETS (set terms FIRSTS 0)) COUNT 0 ∙ zeroed-length BUCKET BUCKETS (set terms FIRSTS 0) ∙ length-set terms FIRSTS 0
 
   -- Emptied buffers hold the empty pool.

@@ -29,7 +29,6 @@ same-length : tie.Need-same-length
 same-length c = search needs
 
 returns : tie.Need-returns
-unfolding emptied
 returns c =
     c .before .before .put2 .ensures ∙ ap (λ (z : List ℕ). set z COUNT 0) (c .before .before .before .before .before .before .clear-chains .ensures ∙ ap (zeroed BUCKET BUCKETS) (c .before .before .before .before .before .before .before .before .before .before .put .ensures))
 
