@@ -151,7 +151,7 @@ pub record TransportMade (t : Tables) (a : TransportAction) : Type 0 where
   pub narrowColumns : narrow (a .sides .cols) ≡ true
 
 module _ (t : Tables) (v : Valid t) where
-  children-few : (m : Member) (c : ℕ) → In m (membersOf t c) → length (childrenOf t m) ≤ 64
+  pub children-few : (m : Member) (c : ℕ) → In m (membersOf t c) → length (childrenOf t m) ≤ 64
   children-few m c i = let (k, h, e) = member-number t v m c i in let z = v .spans .fewOwnChildren k h in rw e (omega (arith, length-take (theMember t k .count) (drop (theMember t k .first) (t .children))))
 
   member-op : (m : Member) (c : ℕ) → In m (membersOf t c) → m .op < length (t .operations)

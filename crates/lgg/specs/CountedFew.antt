@@ -1,0 +1,245 @@
+-- How many terms are counted for 13, and how many runs they have: from the number of classes, of pairs, and of rounds that improve a pair.
+use mathlib.Core.Path.{_≡_, refl, sym, ap, _∙_}
+use mathlib.Core.Logic.{_⊎_, inl, inr}
+use mathlib.Core.Bool.{Bool, true, false}
+use mathlib.Core.List.{List, [], _∷_, map}
+use Prim.Native.Nat.{ℕ, suc, _+_, _*_, _≤_, _<_}
+use native.Mathlib.Nat.{mul-le-mul-left}
+use native.Mathlib.Omega.{arith}
+use lib.Dec.{eqb}
+use lib.ListN.{length, length-append}
+use Rattle.spec.specs.Bytes.{pick, each, upFrom, sum, Two}
+use Rattle.spec.specs.Image.{Tables, Lit, kindOf, isCommutative, bestMember, childrenOf}
+use Rattle.spec.specs.Pool.{TERMS, RUNS, isGreater}
+use Rattle.spec.specs.Round.{Choice, stay, act, changes, Turn, turnOf}
+use Rattle.spec.specs.Meaning.{In, here, there, Term, lit, node, variants, Runs, done, run}
+use Rattle.laws.specs.Valid.{Valid}
+use Rattle.laws.specs.Buffers.{up-length}
+use Rattle.flow.specs.Queue.{upFrom-in}
+use Rattle.lgg.specs.Lists.{clash, in-cons, in-nil, in-map, in-each, length-map, Distinct, none, more, pigeon}
+use Rattle.lgg.specs.Quality.{⊏-not, ⊑-of-eq}
+use Rattle.lgg.specs.Turn.{Told, turn-told}
+use Rattle.lgg.specs.TurnPlaces.{children-few}
+use Rattle.lgg.specs.Rounds.{qualityAfter, q-next}
+use Rattle.lgg.specs.BestMembers.{IsClass, IsPair, best-in}
+use Rattle.lgg.specs.Counted.{sameTree, joinTree, joinTrees, runsIn, treeRuns, treeCmp, insertTree, sortTrees, childTrees, bestTree, startingTree, planTrees, choiceTree, termAfter, Improved, Begun, Counted, best, starting, final, Beyond}
+use Rattle.lgg.specs.CountedPool.{best-tree}
+
+-- ---- the runs of a term
+join-runs : (r : Runs) → runsIn (joinTrees r) ≤ runsIn r
+unfolding joinTrees runsIn
+join-runs done = omega arith
+join-runs (run a n r) = let z = first (joinTrees r) in let y = join-runs r in omega arith
+  where
+    first : (s : Runs) → runsIn (joinTree a n s) ≤ suc (runsIn s)
+    first done = omega arith
+    first (run b m s) = go (sameTree a b)
+      where
+        go : (x : Bool) → runsIn (pick x (run a (n + m) s) (run a n (run b m s))) ≤ suc (suc (runsIn s))
+        go true = omega arith
+        go false = omega arith
+
+insert-runs : (a : Term) (n : ℕ) (r : Runs) → runsIn (insertTree a n r) ≡ suc (runsIn r)
+unfolding insertTree runsIn
+insert-runs a n done = refl
+insert-runs a n (run b m r) = go (isGreater (treeCmp a b)) (insert-runs a n r)
+  where
+    go : (x : Bool) → runsIn (insertTree a n r) ≡ suc (runsIn r) → runsIn (elim x [ true ↦ run b m (insertTree a n r) | false ↦ run a n (run b m r) ]) ≡ suc (suc (runsIn r))
+    go true ih = ap suc ih
+    go false ih = refl
+
+sort-runs : (r : Runs) → runsIn (sortTrees r) ≡ runsIn r
+unfolding sortTrees runsIn
+sort-runs done = refl
+sort-runs (run a n r) = insert-runs a n (sortTrees r) ∙ ap suc (sort-runs r)
+
+child-runs : (f : ℕ → Term) (l : List Two) → runsIn (childTrees f l) ≡ length l
+unfolding childTrees runsIn
+child-runs f [] = refl
+child-runs f (c ∷ l) = ap suc (child-runs f l)
+
+plan-runs : (f : Two → Term) (ps : List Two) (x : List ℕ) → runsIn (planTrees f ps x) ≤ length ps
+unfolding planTrees runsIn
+plan-runs f [] x = omega arith
+plan-runs f (p ∷ ps) [] = omega arith
+plan-runs f (p ∷ ps) (n ∷ x) = go (eqb n 0) (plan-runs f ps x)
+  where
+    go : (y : Bool) → runsIn (planTrees f ps x) ≤ length ps → runsIn (elim y [ true ↦ planTrees f ps x | false ↦ run (f p) n (planTrees f ps x) ]) ≤ suc (length ps)
+    go true ih = omega arith
+    go false ih = omega arith
+
+-- "child count (2, at most 64)"
+best-runs : (t : Tables) → Valid t → (c : ℕ) → IsClass t c → treeRuns (bestTree t c) ≤ 64
+unfolding treeRuns
+best-runs t v c h = rw (best-tree t v c h) (go (eqb (kindOf t (bestMember t c .op)) Lit))
+  where
+    s : Runs
+    s = childTrees (bestTree t) (childrenOf t (bestMember t c))
+
+    go : (x : Bool) → treeRuns (elim x [ true ↦ lit (bestMember t c .op) (bestMember t c .value) | false ↦ node (bestMember t c .op) (joinTrees s) ]) ≤ 64
+    go true = omega arith
+    go false = omega (arith, join-runs s, child-runs (bestTree t) (childrenOf t (bestMember t c)), children-few t v (bestMember t c) c (best-in t v c h))
+
+marked-runs : (a b : Term) → treeRuns (variants a b) ≤ 2
+unfolding treeRuns runsIn
+marked-runs a b = join-runs (run a 1 (run b 1 done))
+
+-- an improved pair's turn chose an action
+improved-acts : (t : Tables) (ps : List Two) (k : ℕ) (p : Two) → In p ps → Improved t ps k p → (o : ℕ) × (l : List Two) × (x : List ℕ) × (turnOf t (qualityAfter t ps k) p .choice ≡ act o l x)
+improved-acts t ps k p i m = go (turn-told t (qualityAfter t ps k) p)
+  where
+    w : Turn
+    w = turnOf t (qualityAfter t ps k) p
+
+    chose : (c : Choice) → w .choice ≡ c → changes w ≡ true → (o : ℕ) × (l : List Two) × (x : List ℕ) × (w .choice ≡ act o l x)
+    chose stay e z = absurd (clash (sym z ∙ rw e refl))
+    chose (act o l x) e z = (o, l, x, e)
+
+    go : Told (qualityAfter t ps k p) w → (o : ℕ) × (l : List Two) × (x : List ℕ) × (w .choice ≡ act o l x)
+    go (inl (n, e)) = absurd (⊏-not (qualityAfter t ps (suc k) p) (qualityAfter t ps k p) m (⊑-of-eq (sym (q-next t ps k p i ∙ e))))
+    go (inr (n, l)) = chose (w .choice) refl n
+
+-- a final term has at most as many runs as its action has places
+pub final-runs : (t : Tables) (ps : List Two) (k : ℕ) (p : Two) → In p ps → Improved t ps k p → (w : ℕ) → ((o : ℕ) (l : List Two) (x : List ℕ) → turnOf t (qualityAfter t ps k) p .choice ≡ act o l x → length l ≤ w) → treeRuns (termAfter t ps (suc k) p) ≤ w
+unfolding termAfter choiceTree treeRuns
+final-runs t ps k p i m w h = let (o, l, x, e) = improved-acts t ps k p i m in rw e (go o l x (h o l x e) (isCommutative (kindOf t o)))
+  where
+    go : (o : ℕ) (l : List Two) (x : List ℕ) → length l ≤ w → (y : Bool) → runsIn (joinTrees (pick y (sortTrees (planTrees (termAfter t ps k) l x)) (planTrees (termAfter t ps k) l x))) ≤ w
+    go o l x b true = omega (arith, join-runs (sortTrees (planTrees (termAfter t ps k) l x)), sort-runs (planTrees (termAfter t ps k) l x), plan-runs (termAfter t ps k) l x)
+    go o l x b false = omega (arith, join-runs (planTrees (termAfter t ps k) l x), plan-runs (termAfter t ps k) l x)
+
+-- ---- a list in two parts
+record Parted {A : Type 0} (P Q : A → Type 0) (w : A → ℕ) (l : List A) : Type 0 where
+  left : List A
+  right : List A
+  lefts : (x : A) → In x left → P x × In x l
+  rights : (x : A) → In x right → Q x × In x l
+  leftApart : Distinct left
+  rightApart : Distinct right
+  long : length l ≡ length left + length right
+  weigh : sum (map w l) ≡ sum (map w left) + sum (map w right)
+
+part : {A : Type 0} {P Q : A → Type 0} (w : A → ℕ) (l : List A) → Distinct l → ((x : A) → In x l → P x ⊎ Q x) → Parted P Q w l
+unfolding sum
+part w [] d h = record { left = []; right = []; lefts = λ x i. absurd (in-nil i); rights = λ x i. absurd (in-nil i); leftApart = none; rightApart = none; long = refl; weigh = refl }
+part {A} {P} {Q} w (y ∷ l) (more g d) h = go (h y here) (part w l d (λ x i. h x (there i)))
+  where
+    go : P y ⊎ Q y → Parted P Q w l → Parted P Q w (y ∷ l)
+    go (inl p) K = record {
+      left = y ∷ K .left;
+      right = K .right;
+      lefts = λ x i. elim (in-cons i) [ inl e ↦ rw e (p, here) | inr j ↦ let z = K .lefts x j in (z .0, there (z .1)) ];
+      rights = λ x i. let z = K .rights x i in (z .0, there (z .1));
+      leftApart = more (λ i. g (K .lefts y i .1)) (K .leftApart);
+      rightApart = K .rightApart;
+      long = omega (arith, K .long);
+      weigh = omega (arith, K .weigh);
+    }
+    go (inr q) K = record {
+      left = K .left;
+      right = y ∷ K .right;
+      lefts = λ x i. let z = K .lefts x i in (z .0, there (z .1));
+      rights = λ x i. elim (in-cons i) [ inl e ↦ rw e (q, here) | inr j ↦ let z = K .rights x j in (z .0, there (z .1)) ];
+      leftApart = K .leftApart;
+      rightApart = more (λ i. g (K .rights y i .1)) (K .rightApart);
+      long = omega (arith, K .long);
+      weigh = omega (arith, K .weigh);
+    }
+
+sum-few : {A : Type 0} (w : A → ℕ) (m : ℕ) (l : List A) → ((x : A) → In x l → w x ≤ m) → sum (map w l) ≤ m * length l
+unfolding sum
+sum-few w m [] h = omega arith
+sum-few w m (x ∷ l) h = omega (arith, h x here, sum-few w m l (λ y i. h y (there i)))
+
+each-length : {A B : Type 0} (f : A → List B) (n : ℕ) (l : List A) → ((x : A) → In x l → length (f x) ≡ n) → length (each f l) ≡ length l * n
+unfolding each
+each-length f n [] h = omega arith
+each-length f n (x ∷ l) h = omega (arith, length-append (f x) (each f l), h x here, each-length f n l (λ y i. h y (there i)))
+
+-- ---- the counted terms
+-- no round with the index R or above is begun and improves a pair
+abbrev pub Ends : Tables → List Two → ℕ → ℕ → Type 0
+Ends t ps b R = (k : ℕ) (p : Two) → In p ps → Improved t ps k p → Begun (length ps) b k → k < R
+
+-- a final term has at most w runs
+abbrev pub FinalRuns : Tables → List Two → ℕ → ℕ → Type 0
+FinalRuns t ps b w = (k : ℕ) (p : Two) → In p ps → Improved t ps k p → Begun (length ps) b k → treeRuns (termAfter t ps (suc k) p) ≤ w
+
+module _ (t : Tables) (v : Valid t) (ps : List Two) (within : (p : Two) → In p ps → IsPair t p) (b R w : ℕ) (ends : Ends t ps b R) (runs : FinalRuns t ps b w) where
+  abbrev IsBest : Term → Type 0
+  IsBest x = (c : ℕ) × IsClass t c × (x ≡ bestTree t c)
+
+  abbrev IsMarked : Term → Type 0
+  IsMarked x = (p : Two) × In p ps × (x ≡ startingTree t p) × (treeRuns x ≤ 2)
+
+  abbrev IsFinal : Term → Type 0
+  IsFinal x = (p : Two) × (k : ℕ) × In p ps × (k < R) × (x ≡ termAfter t ps (suc k) p) × (treeRuns x ≤ w)
+
+  -- the starting term of a class with itself is a best term
+  abbrev Begins : Term → Type 0
+  Begins x = IsBest x ⊎ IsMarked x
+
+  which : (x : Term) → Counted t ps b x → Begins x ⊎ IsFinal x
+  which x (best c h e) = inl (inl (c, h, e))
+  which x (starting p i e) = inl (go (eqb (p .0) (p .1)) e)
+    where
+      go : (y : Bool) → x ≡ pick y (bestTree t (p .0)) (variants (bestTree t (p .0)) (bestTree t (p .1))) → Begins x
+      go true z = inl (p .0, within p i .0, z)
+      go false z = inr (p, i, e, rw z (marked-runs (bestTree t (p .0)) (bestTree t (p .1))))
+  which x (final p k i m h e) = inr (p, k, i, ends k p i m h, e, rw e (runs k p i m h))
+
+  few-bests : (l : List Term) → Distinct l → ((x : Term) → In x l → IsBest x) → length l ≤ length (t .classes)
+  few-bests l d h =
+      let cs = upFrom 0 (length (t .classes)) in
+      omega (arith, pigeon l (map (bestTree t) cs) d (λ x i. let (c, k, e) = h x i in rw e (in-map (bestTree t) (upFrom-in (length (t .classes)) 0 c (omega arith) (omega arith)))), length-map (bestTree t) cs, up-length (length (t .classes)) 0)
+
+  few-marked : (l : List Term) → Distinct l → ((x : Term) → In x l → IsMarked x) → length l ≤ length ps
+  few-marked l d h = omega (arith, pigeon l (map (startingTree t) ps) d (λ x i. let (p, j, e, n) = h x i in rw e (in-map (startingTree t) j)), length-map (startingTree t) ps)
+
+  few-finals : (l : List Term) → Distinct l → ((x : Term) → In x l → IsFinal x) → length l ≤ R * length ps
+  few-finals l d h =
+      omega (
+        arith,
+        pigeon l (each round (upFrom 0 R)) d (λ x i. there-is x (h x i)),
+        each-length round (length ps) (upFrom 0 R) (λ k i. length-map (termAfter t ps (suc k)) ps),
+        ap (λ (z : ℕ). z * length ps) (up-length R 0),
+      )
+    where
+      round : ℕ → List Term
+      round k = map (termAfter t ps (suc k)) ps
+
+      there-is : (x : Term) → IsFinal x → In x (each round (upFrom 0 R))
+      there-is x (p, k, j, s, e, n) = in-each round (upFrom 0 R) k x (upFrom-in R 0 k (omega arith) (omega arith)) (rw e (in-map (termAfter t ps (suc k)) j))
+
+  -- Best terms are at most as many as classes, starting terms as pairs, and final terms as pairs in R rounds.
+  pub counted-few : length (t .classes) + length ps * (R + 1) ≤ TERMS → 64 * length (t .classes) + 2 * length ps + length ps * R * w ≤ RUNS → Beyond (Counted t ps b) → ⊥
+  counted-few few light B = go (B .beyond)
+    where
+      K : Parted Begins IsFinal treeRuns (B .terms)
+      K = part treeRuns (B .terms) (B .distinct) (λ x i. which x (B .counted x i))
+
+      L : Parted IsBest IsMarked treeRuns (K .left)
+      L = part treeRuns (K .left) (K .leftApart) (λ x i. K .lefts x i .0)
+
+      bests : length (L .left) ≤ length (t .classes)
+      bests = few-bests (L .left) (L .leftApart) (λ x i. L .lefts x i .0)
+
+      marks : length (L .right) ≤ length ps
+      marks = few-marked (L .right) (L .rightApart) (λ x i. L .rights x i .0)
+
+      finals : length (K .right) ≤ R * length ps
+      finals = few-finals (K .right) (K .rightApart) (λ x i. K .rights x i .0)
+
+      go : (TERMS < length (B .terms)) ⊎ (RUNS < sum (map treeRuns (B .terms))) → ⊥
+      go (inl h) = omega (arith, K .long, L .long, bests, marks, finals)
+      go (inr h) = omega (
+        arith,
+        K .weigh,
+        L .weigh,
+        bests,
+        marks,
+        sum-few treeRuns 64 (L .left) (λ x i. let (c, k, e) = L .lefts x i .0 in rw e (best-runs t v c k)),
+        sum-few treeRuns 2 (L .right) (λ x i. let (p, j, e, n) = L .rights x i .0 in n),
+        sum-few treeRuns w (K .right) (λ x i. let (p, k, j, s, e, n) = K .rights x i .0 in n),
+        mul-le-mul-left w finals,
+      )
