@@ -8,7 +8,7 @@ use lib.Dec.{eqb}
 use lib.ListN.{length}
 use Rattle.spec.specs.Bytes.{pick, both, sum, Two}
 use Rattle.spec.specs.Image.{Tables, Lit, kindOf, isCommutative, bestSize, bestMember, childrenOf}
-use Rattle.spec.specs.Pool.{TERMS, RUNS, Order, isGreater}
+use Rattle.spec.specs.Pool.{Order, isGreater}
 use Rattle.spec.specs.Round.{Choice, stay, act, turnOf}
 use Rattle.spec.specs.Meaning.{In, Term, lit, node, variants, Runs, done, run}
 use Rattle.lgg.specs.Lists.{Distinct}
@@ -141,4 +141,4 @@ pub record Beyond (C : Term → Type 0) : Type 0 where
   pub terms : List Term
   pub distinct : Distinct terms
   pub counted : (x : Term) → In x terms → C x
-  pub beyond : (TERMS < length terms) ⊎ (RUNS < sum (map treeRuns terms))
+  pub beyond : (16384 < length terms) ⊎ (65536 < sum (map treeRuns terms))

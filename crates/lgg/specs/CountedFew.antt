@@ -10,7 +10,7 @@ use lib.Dec.{eqb}
 use lib.ListN.{length, length-append}
 use Rattle.spec.specs.Bytes.{pick, each, upFrom, sum, Two}
 use Rattle.spec.specs.Image.{Tables, Lit, kindOf, isCommutative, bestMember, childrenOf}
-use Rattle.spec.specs.Pool.{TERMS, RUNS, isGreater}
+use Rattle.spec.specs.Pool.{isGreater}
 use Rattle.spec.specs.Round.{Choice, stay, act, changes, Turn, turnOf}
 use Rattle.spec.specs.Meaning.{In, here, there, Term, lit, node, variants, Runs, done, run}
 use Rattle.laws.specs.Valid.{Valid}
@@ -212,7 +212,7 @@ module _ (t : Tables) (v : Valid t) (ps : List Two) (within : (p : Two) → In p
       there-is x (p, k, j, s, e, n) = in-each round (upFrom 0 R) k x (upFrom-in R 0 k (omega arith) (omega arith)) (rw e (in-map (termAfter t ps (suc k)) j))
 
   -- Best terms are at most as many as classes, starting terms as pairs, and final terms as pairs in R rounds.
-  pub counted-few : length (t .classes) + length ps * (R + 1) ≤ TERMS → 64 * length (t .classes) + 2 * length ps + length ps * R * w ≤ RUNS → Beyond (Counted t ps b) → ⊥
+  pub counted-few : length (t .classes) + length ps * (R + 1) ≤ 16384 → 64 * length (t .classes) + 2 * length ps + length ps * R * w ≤ 65536 → Beyond (Counted t ps b) → ⊥
   counted-few few light B = go (B .beyond)
     where
       K : Parted Begins IsFinal treeRuns (B .terms)
@@ -230,7 +230,7 @@ module _ (t : Tables) (v : Valid t) (ps : List Two) (within : (p : Two) → In p
       finals : length (K .right) ≤ R * length ps
       finals = few-finals (K .right) (K .rightApart) (λ x i. K .rights x i .0)
 
-      go : (TERMS < length (B .terms)) ⊎ (RUNS < sum (map treeRuns (B .terms))) → ⊥
+      go : (16384 < length (B .terms)) ⊎ (65536 < sum (map treeRuns (B .terms))) → ⊥
       go (inl h) = omega (arith, K .long, L .long, bests, marks, finals)
       go (inr h) = omega (
         arith,

@@ -6,23 +6,24 @@ use mathlib.Core.List.{List, [], _∷_, map}
 use Prim.Native.Nat.{ℕ, zero, suc, _+_, _*_, _<_}
 use native.Mathlib.Nat.{not-suc-le-zero}
 use native.Mathlib.Omega.{arith}
-use lib.ListN.{length}
+use lib.ListN.{length, getD}
 use Rattle.spec.specs.Bytes.{any, place, Two, sameTwo, Res, ok, refused, _>>=_, Checked, passed, cutShort}
 use Rattle.spec.specs.Image.{Tables}
 use Rattle.spec.specs.Action.{joins}
 use Rattle.spec.specs.Graph.{build}
 use Rattle.spec.specs.Pool.{Pool, Interned, startingTerm}
 use Rattle.spec.specs.Round.{Terms, prepend, Choice, stay, act, Turn, changes, startingQuality, lookUp, choiceTerm, turnOf, turnsOf, turnsTerms, qualitiesAfter}
-use Rattle.spec.specs.Run.{State, Outcome, outcome, startingTerms, roundTerms, afterRound, roundsFrom, afterStarting, afterBuilding, runOf}
+use Rattle.spec.specs.Run.{State, Outcome, outcome, startingTerms, roundTerms, afterRound, roundsFrom, started, afterStarting, afterBuilding, runOf}
 use Rattle.spec.specs.Meaning.{In, here, there, Term, treeAt}
 use Rattle.laws.specs.Valid.{Valid}
 use Rattle.lgg.specs.Lists.{clash, in-cons, in-nil, same-eq, same-refl}
-use Rattle.lgg.specs.Results.{ok-inj, refused-ok, bind-refused}
+use Rattle.lgg.specs.Results.{ok-inj, refused-ok, bind-ok, bind-refused}
 use Rattle.lgg.specs.Quality.{_⊏_}
 use Rattle.lgg.specs.Turn.{Told, turn-told}
 use Rattle.lgg.specs.TurnPlaces.{choice-joins}
 use Rattle.lgg.specs.Rounds.{Closed, qualityAfter, q-next}
-use Rattle.lgg.specs.Graph.{build-whole, build-closed, build-passed, build-refused}
+use Rattle.lgg.specs.Enter.{Starts}
+use Rattle.lgg.specs.Graph.{build-whole, build-first, build-closed, build-passed, build-same, build-refused}
 use Rattle.lgg.specs.Outcomes.{root-in}
 use Rattle.lgg.specs.Pool.{empty-valid}
 use Rattle.lgg.specs.PoolIntern.{Extends, extends-refl, extends-trans, extends-within, extends-tree}
@@ -45,6 +46,10 @@ holds-look {pool} {f} (pair {c = d} {a = a} {cs = cs} {l = l} h k hs) c i = go (
     go true e z ih = rw (e, place, same-eq c d e) (h, k)
     go false e (inl z) ih = absurd (clash (sym (rw z (same-refl d)) ∙ e))
     go false e (inr j) ih = rw (e, place) (ih j)
+
+holds-first : {pool : Pool} {f : Two → Term} {cs : List Two} {l : List ℕ} (p : Two) (rest : List Two) → Holds pool f cs l → cs ≡ p ∷ rest → treeAt pool (getD l 0 0) ≡ f p
+holds-first p rest noPair e = absurd (let z : _≡_ {A = ℕ} 0 1 = cc in omega arith)
+holds-first {f = f} p rest (pair {c = c} h k hs) e = k ∙ ap f (let z : c ≡ p = cc in z)
 
 -- what n checks over the pairs cs, begun with b, leave of pool p
 data Walked (C : Term → Type 0) (p : Pool) (f : Two → Term) (cs : List Two) (n b : ℕ) : Checked Terms → Type 0 where
@@ -134,26 +139,33 @@ module _ (t : Tables) (ps : List Two) (closed : Closed t ps) (b : ℕ) where
   unfolding qualitiesAfter
   further s B r left K H e = record { kept = K; holds = H; qualities = ap (λ (l : List Two). map (λ (w : Turn). w .quality) (turnsOf t ps l)) (B .qualities); spent = omega (arith, B .spent) }
 
-  -- the rounds of a run are refused only where its terms are beyond the limits
-  rounds-go : (f : ℕ) (s : State) → Between s → Goes C (λ o. Unit) (roundsFrom f t ps s)
-  unfolding roundsFrom afterRound
-  rounds-go zero s B = fine tt
-  rounds-go (suc f) s B = goes-bind (roundTerms t ps s ws (s .budget)) _ (round-walks s B (s .budget) refl) (λ r W. go r W (λ u D. rounds-go f u D))
-    where
-      ws : List Turn
-      ws = turnsOf t ps (s .qualities)
+  -- the rounds of a run are refused only where its terms are beyond the limits; otherwise its root is the first pair's term after the rounds reported
+  module _ (p : Two) (first : Starts (p ∷ []) ps) where
+    abbrev Final : Outcome → Type 0
+    Final o = treeAt (o .pool) (o .root) ≡ termAfter t ps (o .rounds) p
 
-      go : (r : Checked Terms) → Walked C (s .pool) (termAfter t ps (suc (s .rounds))) ps (suc (length ps)) (s .budget) r → ((u : State) → Between u → Goes C (λ o. Unit) (roundsFrom f t ps u))
-          → Goes C (λ o. Unit) (afterRound (λ u. roundsFrom f t ps u) ps s ws r)
-      go r cut ih = fine tt
-      go r (whole a left K g H e) ih = by (any changes ws)
-        where
-          u : State
-          u = record { pool = a .pool; qualities = map (λ w. w .quality) ws; terms = a .terms; rounds = suc (s .rounds); budget = left }
+    ended : (s : State) → Between s → (complete : Bool) → Final (outcome complete ps s)
+    ended s B complete = holds-first p (first .0) (B .holds) (first .1)
 
-          by : (x : Bool) → Goes C {A = Outcome} (λ o. Unit) (elim x [ false ↦ ok (outcome true ps s) | true ↦ roundsFrom f t ps u ])
-          by true = ih u (further s B a left K H e)
-          by false = fine tt
+    rounds-go : (f : ℕ) (s : State) → Between s → Goes C Final (roundsFrom f t ps s)
+    unfolding roundsFrom afterRound
+    rounds-go zero s B = fine (ended s B false)
+    rounds-go (suc f) s B = goes-bind (roundTerms t ps s ws (s .budget)) _ (round-walks s B (s .budget) refl) (λ r W. go r W (λ u D. rounds-go f u D))
+      where
+        ws : List Turn
+        ws = turnsOf t ps (s .qualities)
+
+        go : (r : Checked Terms) → Walked C (s .pool) (termAfter t ps (suc (s .rounds))) ps (suc (length ps)) (s .budget) r → ((u : State) → Between u → Goes C Final (roundsFrom f t ps u))
+            → Goes C Final (afterRound (λ u. roundsFrom f t ps u) ps s ws r)
+        go r cut ih = fine (ended s B false)
+        go r (whole a left K g H e) ih = by (any changes ws)
+          where
+            u : State
+            u = record { pool = a .pool; qualities = map (λ w. w .quality) ws; terms = a .terms; rounds = suc (s .rounds); budget = left }
+
+            by : (x : Bool) → Goes C {A = Outcome} Final (elim x [ false ↦ ok (outcome true ps s) | true ↦ roundsFrom f t ps u ])
+            by true = ih u (further s B a left K H e)
+            by false = fine (ended s B true)
 
 -- ---- the run
 goes-ok : {C : Term → Type 0} {A : Type 0} {Q : A → Type 0} {r : Res A} (a : A) → Goes C Q r → r ≡ ok a → Q a
@@ -178,7 +190,11 @@ module _ (t : Tables) (v : Valid t) (p : Two) (h : IsPair t p) where
           absurd (counted-few t v (p ∷ []) (λ q i. elim (in-cons i) [ inl e ↦ rw e h | inr j ↦ absurd (in-nil j) ]) 0 0 0
           (λ k q i m l. absurd (omega arith)) (λ k q i m l. absurd (omega arith)) (omega (arith, v .counts .fewClasses)) (omega (arith, v .counts .fewClasses)) B)
 
-  built-goes : (b c : ℕ) (ps : List Two) (root : Interned) → build t p b ≡ ok (passed ps c) → startingTerm t [] p ≡ ok root → Goes (Counted t ps b) (λ o. Unit) (afterBuilding t p root (passed ps c))
+  started-term : (ps : List Two) (root : Interned) (n : ℕ) → startingTerm t [] p ≡ ok root → treeAt (started t p root n .pool) (started t p root n .root) ≡ termAfter t ps (started t p root n .rounds) p
+  unfolding started termAfter
+  started-term ps root n er = goes-ok root (root-goes (p ∷ []) 0 here) er .means
+
+  built-goes : (b c : ℕ) (ps : List Two) (root : Interned) → build t p b ≡ ok (passed ps c) → startingTerm t [] p ≡ ok root → Goes (Counted t ps b) (λ o. treeAt (o .pool) (o .root) ≡ termAfter t ps (o .rounds) p) (afterBuilding t p root (passed ps c))
   unfolding afterBuilding afterStarting termAfter qualitiesAfter
   built-goes b c ps root e er =
       goes-bind (startingTerms t ps c (root .pool)) _
@@ -188,11 +204,23 @@ module _ (t : Tables) (v : Valid t) (p : Two) (h : IsPair t p) where
       C : Term → Type 0
       C = Counted t ps b
 
-      go : (r : Checked Terms) → Walked C (root .pool) (startingTree t) ps (length ps) c r → Goes C (λ o. Unit) (afterStarting t p root ps r)
-      go r cut = fine tt
+      go : (r : Checked Terms) → Walked C (root .pool) (startingTree t) ps (length ps) c r → Goes C (λ o. treeAt (o .pool) (o .root) ≡ termAfter t ps (o .rounds) p) (afterStarting t p root ps r)
+      go r cut = fine (started-term ps root (length ps) er)
       go r (whole a left K g H z) =
-          rounds-go t ps (build-closed t p b c ps e) b left (record { pool = a .pool; qualities = map (startingQuality t) ps; terms = a .terms; rounds = 0; budget = left })
+          rounds-go t ps (build-closed t p b c ps e) b p (build-first t p b c ps e) left (record { pool = a .pool; qualities = map (startingQuality t) ps; terms = a .terms; rounds = 0; budget = left })
           (record { kept = K; holds = H; qualities = refl; spent = omega (arith, build-passed t p (length ps) (ps, build-whole t p b c ps e, refl) b c ps e .1) })
+
+  -- The term that a run gives is the queried pair's after the rounds reported; ps are the pairs of the full graph.
+  pub run-term : (B C : ℕ) (ps : List Two) → build t p B ≡ ok (passed ps C) → (b : ℕ) (o : Outcome) → runOf t p b ≡ ok o → treeAt (o .pool) (o .root) ≡ termAfter t ps (o .rounds) p
+  unfolding runOf afterBuilding
+  run-term B C ps e b o z =
+      let (root, er, z′) = bind-ok (startingTerm t [] p) _ o z in
+      let (g, eg, z″) = bind-ok (build t p b) _ o z′ in
+      go root er g eg z″
+    where
+      go : (root : Interned) → startingTerm t [] p ≡ ok root → (g : Checked (List Two)) → build t p b ≡ ok g → afterBuilding t p root g ≡ ok o → treeAt (o .pool) (o .root) ≡ termAfter t ps (o .rounds) p
+      go root er cutShort eg z = rw (← ok-inj z) (started-term ps root 1 er)
+      go root er (passed qs c) eg z = rw (← build-same t p b c B C qs ps eg e) (goes-ok o (built-goes b c qs root eg er) z)
 
   -- A run is refused by 13 only where its graph is built, and the terms that are counted for it are more than 16,384 or have more than 65,536 runs.
   pub refused-13-beyond : (b : ℕ) → runOf t p b ≡ refused 13 → (ps : List Two) × (c : ℕ) × (build t p b ≡ ok (passed ps c)) × Beyond (Counted t ps b)

@@ -1,0 +1,62 @@
+-- Refusal 13, of a call of `merge`, from its contract: "Distinct terms counted for 13: best terms, starting terms, one final term for each pair improved in a round."
+-- It is returned only where these terms (lgg/Counted) are more than 16,384, or their runs more than 65,536; and not where they are few.
+use mathlib.Core.Path.{_≡_}
+use mathlib.Core.Logic.{_≢_}
+use mathlib.Core.Bool.{Bool}
+use mathlib.Core.List.{List}
+use Prim.Native.Nat.{ℕ, _+_, _*_, _≤_}
+use lib.ListN.{length}
+use Rattle.spec.specs.Bytes.{Two, ok, passed}
+use Rattle.spec.specs.Image.{Tables, tablesOf}
+use Rattle.spec.specs.Graph.{build}
+use Rattle.laws.specs.Valid.{Valid}
+use Rattle.laws.specs.Accepted as A
+use Rattle.lgg.specs.Graph.{PairCount}
+use Rattle.lgg.specs.Counted.{Counted, Beyond}
+use Rattle.lgg.specs.CountedFew.{Ends, FinalRuns}
+use Rattle.lgg.specs.CountedRun as C
+use Rattle.lgg.specs.Refused13 as L
+use Rattle.au.specs.declared.Answer.{Answer}
+use Rattle.au.specs.declared.Answer.the-variants.{Refused}
+use Rattle.au.specs.Merges.{Merges}
+use Rattle.demands.specs.Calls.{Taken, read-of}
+use Rattle.demands.specs.Refusals.{refused-13}
+
+module _ (image : List ℕ) (left right budget : ℕ) (fit : Bool) (out out′ : List ℕ) (r : Answer) (m : Merges image left right budget fit out out′ r) where
+  abbrev t : Tables
+  t = tablesOf image
+
+  valid : Taken fit image left right → Valid t
+  valid T = A.valid image t (read-of image (T .sound))
+
+  -- Only where the graph is built, over pairs ps, and distinct terms counted for 13 are more than 16,384 or have more than 65,536 runs.
+  pub refused-13-beyond : r ≡ Refused 13 → (ps : List Two) × (c : ℕ) × (build t (left, right) budget ≡ ok (passed ps c)) × Beyond (Counted t ps budget)
+  refused-13-beyond e = let (T, z) = refused-13 image left right budget fit out out′ r m .0 e in C.refused-13-beyond t (valid T) (left, right) (T .asked) budget z
+
+  -- Not where these terms are few: best terms are at most as many as classes, with 64 runs at most; starting terms as pairs, with 2; final terms as pairs in R rounds, with w.
+  -- ps are the pairs of the full graph; no round with the index R or above is begun and improves a pair; no final term has more than w runs.
+  -- R: the first quiet round (`ends-quiet`, lgg/Refused13), or the number of pairs (`ends-pairs`), or what the budget allows (`ends-checks`). w: 4,225 (`final-runs-4225`), or what the pairs join (`final-runs-joined`).
+  pub not-refused-13 : (B C : ℕ) (ps : List Two) → build t (left, right) B ≡ ok (passed ps C) → (R w : ℕ) → Ends t ps budget R → FinalRuns t ps budget w
+      → length (t .classes) + length ps * (R + 1) ≤ 16384 → 64 * length (t .classes) + 2 * length ps + length ps * R * w ≤ 65536 → r ≢ Refused 13
+  not-refused-13 B C ps b R w ends runs few light e =
+      let (T, z) = refused-13 image left right budget fit out out′ r m .0 e in
+      L.not-refused-13 t (valid T) (left, right) (T .asked) budget B C ps b R w ends runs few light z
+
+  -- By numbers alone: n pairs, and a budget that ends before round R.
+  pub not-refused-13-checks : (n : ℕ) → PairCount t (left, right) n → (R : ℕ) → budget ≤ 2 * n + R * (n + 1)
+      → length (t .classes) + n * (R + 1) ≤ 16384 → 64 * length (t .classes) + 2 * n + n * R * 4225 ≤ 65536 → r ≢ Refused 13
+  not-refused-13-checks n c R b few light e =
+      let (T, z) = refused-13 image left right budget fit out out′ r m .0 e in
+      L.not-refused-13-checks t (valid T) (left, right) (T .asked) budget n c R b few light z
+
+  -- .. n pairs, whatever the budget
+  pub not-refused-13-pairs : (n : ℕ) → PairCount t (left, right) n → length (t .classes) + n * (n + 1) ≤ 16384 → 64 * length (t .classes) + 2 * n + n * n * 4225 ≤ 65536 → r ≢ Refused 13
+  not-refused-13-pairs n c few light e =
+      let (T, z) = refused-13 image left right budget fit out out′ r m .0 e in
+      L.not-refused-13-pairs t (valid T) (left, right) (T .asked) budget n c few light z
+
+  -- .. and never before the first round
+  pub not-refused-13-before-rounds : (n : ℕ) → PairCount t (left, right) n → budget ≤ 2 * n → r ≢ Refused 13
+  not-refused-13-before-rounds n c b e =
+      let (T, z) = refused-13 image left right budget fit out out′ r m .0 e in
+      L.not-refused-13-before-rounds t (valid T) (left, right) (T .asked) budget n c b z
