@@ -4,7 +4,7 @@ use mathlib.Core.Path.{_≡_}
 use mathlib.Core.Logic.{_≢_}
 use mathlib.Core.Bool.{Bool}
 use mathlib.Core.List.{List}
-use Prim.Native.Nat.{ℕ, _+_, _*_, _≤_}
+use Prim.Native.Nat.{ℕ, _+_, _*_, _≤_, max}
 use lib.ListN.{length}
 use Rattle.spec.specs.Bytes.{Two, ok, passed}
 use Rattle.spec.specs.Image.{Tables, tablesOf}
@@ -45,20 +45,27 @@ module _ (image : List ℕ) (left right budget : ℕ) (fit : Bool) (out out′ :
       let (T, z) = refused-13 image left right budget fit out out′ r m .0 e in
       N.not-refused-13 t (valid T) (left, right) (T .asked) budget B C ps b R w ends runs few light z
 
-  -- .. R the first quiet round, and w places that the actions of a pair join, at most
-  pub not-refused-13-rounds : (B C : ℕ) (ps : List Two) → build t (left, right) B ≡ ok (passed ps C) → (R w : ℕ) → FirstQuiet t ps R → ((q : Two) → In q ps → length (joins t q) ≤ w)
+  -- .. R the first quiet round; w places that the actions of a pair join, at most
+  pub not-refused-13-joined : (B C : ℕ) (ps : List Two) → build t (left, right) B ≡ ok (passed ps C) → (R w : ℕ) → FirstQuiet t ps R → ((q : Two) → In q ps → length (joins t q) ≤ w)
       → length (t .classes) + length ps * (R + 1) ≤ 16384 → 64 * length (t .classes) + 2 * length ps + length ps * R * w ≤ 65536 → r ≢ Refused 13
-  not-refused-13-rounds B C ps b R w quiet joined = not-refused-13 B C ps b R w (N.ends-quiet t ps budget R quiet) (N.final-runs-joined t ps budget w joined)
+  not-refused-13-joined B C ps b R w quiet joined = not-refused-13 B C ps b R w (N.ends-quiet t ps budget R quiet) (N.final-runs-joined t ps budget w joined)
+
+  -- .. or w the larger of 64 and the number of pairs, always
+  pub not-refused-13-rounds : (B C : ℕ) (ps : List Two) → build t (left, right) B ≡ ok (passed ps C) → (R : ℕ) → FirstQuiet t ps R
+      → length (t .classes) + length ps * (R + 1) ≤ 16384 → 64 * length (t .classes) + 2 * length ps + length ps * R * max 64 (length ps) ≤ 65536 → r ≢ Refused 13
+  not-refused-13-rounds B C ps b R quiet few light e =
+      let (T, z) = refused-13 image left right budget fit out out′ r m .0 e in
+      N.not-refused-13-rounds t (valid T) (left, right) (T .asked) budget B C ps b R (N.ends-quiet t ps budget R quiet) few light z
 
   -- By numbers alone: n pairs, and a budget that ends before round R.
   pub not-refused-13-checks : (n : ℕ) → PairCount t (left, right) n → (R : ℕ) → budget ≤ 2 * n + R * (n + 1)
-      → length (t .classes) + n * (R + 1) ≤ 16384 → 64 * length (t .classes) + 2 * n + n * R * 4225 ≤ 65536 → r ≢ Refused 13
+      → length (t .classes) + n * (R + 1) ≤ 16384 → 64 * length (t .classes) + 2 * n + n * R * max 64 n ≤ 65536 → r ≢ Refused 13
   not-refused-13-checks n c R b few light e =
       let (T, z) = refused-13 image left right budget fit out out′ r m .0 e in
       N.not-refused-13-checks t (valid T) (left, right) (T .asked) budget n c R b few light z
 
   -- .. n pairs, whatever the budget
-  pub not-refused-13-pairs : (n : ℕ) → PairCount t (left, right) n → length (t .classes) + n * (n + 1) ≤ 16384 → 64 * length (t .classes) + 2 * n + n * n * 4225 ≤ 65536 → r ≢ Refused 13
+  pub not-refused-13-pairs : (n : ℕ) → PairCount t (left, right) n → length (t .classes) + n * (n + 1) ≤ 16384 → 64 * length (t .classes) + 2 * n + n * n * max 64 n ≤ 65536 → r ≢ Refused 13
   not-refused-13-pairs n c few light e =
       let (T, z) = refused-13 image left right budget fit out out′ r m .0 e in
       N.not-refused-13-pairs t (valid T) (left, right) (T .asked) budget n c few light z

@@ -9,10 +9,9 @@ use native.Mathlib.Omega.{arith}
 use lib.Dec.{eqb}
 use lib.ListN.{length, length-append}
 use Rattle.spec.specs.Bytes.{pick, each, upFrom, sum, Two}
-use Rattle.spec.specs.Image.{Tables, Lit, kindOf, isCommutative, bestMember, childrenOf}
-use Rattle.spec.specs.Pool.{isGreater}
+use Rattle.spec.specs.Image.{Tables, Lit, kindOf, bestMember, childrenOf}
 use Rattle.spec.specs.Round.{Choice, stay, act, changes, Turn, turnOf}
-use Rattle.spec.specs.Meaning.{In, here, there, Term, lit, node, variants, Runs, done, run}
+use Rattle.spec.specs.Meaning.{In, here, there, Term, lit, node, variants, Runs}
 use Rattle.laws.specs.Valid.{Valid}
 use Rattle.laws.specs.Buffers.{up-length}
 use Rattle.flow.specs.Queue.{upFrom-in}
@@ -22,54 +21,13 @@ use Rattle.lgg.specs.Turn.{Told, turn-told}
 use Rattle.lgg.specs.TurnPlaces.{children-few}
 use Rattle.lgg.specs.Rounds.{qualityAfter, q-next}
 use Rattle.lgg.specs.BestMembers.{IsClass, IsPair, best-in}
-use Rattle.lgg.specs.Counted.{sameTree, joinTree, joinTrees, runsIn, treeRuns, treeCmp, insertTree, sortTrees, childTrees, bestTree, startingTree, planTrees, choiceTree, termAfter, Improved, Begun, Counted, best, starting, final, Beyond}
+use Rattle.lgg.specs.Counted.{joinTrees, treeRuns, childTrees, bestTree, startingTree, termAfter, Improved, Begun, Counted, best, starting, final, Beyond}
+use Rattle.lgg.specs.CountedRuns.{join-runs, child-runs, marked-runs, choice-places}
 use Rattle.lgg.specs.CountedPool.{best-tree}
 
 -- ---- the runs of a term
-join-runs : (r : Runs) → runsIn (joinTrees r) ≤ runsIn r
-unfolding joinTrees runsIn
-join-runs done = omega arith
-join-runs (run a n r) = let z = first (joinTrees r) in let y = join-runs r in omega arith
-  where
-    first : (s : Runs) → runsIn (joinTree a n s) ≤ suc (runsIn s)
-    first done = omega arith
-    first (run b m s) = go (sameTree a b)
-      where
-        go : (x : Bool) → runsIn (pick x (run a (n + m) s) (run a n (run b m s))) ≤ suc (suc (runsIn s))
-        go true = omega arith
-        go false = omega arith
-
-insert-runs : (a : Term) (n : ℕ) (r : Runs) → runsIn (insertTree a n r) ≡ suc (runsIn r)
-unfolding insertTree runsIn
-insert-runs a n done = refl
-insert-runs a n (run b m r) = go (isGreater (treeCmp a b)) (insert-runs a n r)
-  where
-    go : (x : Bool) → runsIn (insertTree a n r) ≡ suc (runsIn r) → runsIn (elim x [ true ↦ run b m (insertTree a n r) | false ↦ run a n (run b m r) ]) ≡ suc (suc (runsIn r))
-    go true ih = ap suc ih
-    go false ih = refl
-
-sort-runs : (r : Runs) → runsIn (sortTrees r) ≡ runsIn r
-unfolding sortTrees runsIn
-sort-runs done = refl
-sort-runs (run a n r) = insert-runs a n (sortTrees r) ∙ ap suc (sort-runs r)
-
-child-runs : (f : ℕ → Term) (l : List Two) → runsIn (childTrees f l) ≡ length l
-unfolding childTrees runsIn
-child-runs f [] = refl
-child-runs f (c ∷ l) = ap suc (child-runs f l)
-
-plan-runs : (f : Two → Term) (ps : List Two) (x : List ℕ) → runsIn (planTrees f ps x) ≤ length ps
-unfolding planTrees runsIn
-plan-runs f [] x = omega arith
-plan-runs f (p ∷ ps) [] = omega arith
-plan-runs f (p ∷ ps) (n ∷ x) = go (eqb n 0) (plan-runs f ps x)
-  where
-    go : (y : Bool) → runsIn (planTrees f ps x) ≤ length ps → runsIn (elim y [ true ↦ planTrees f ps x | false ↦ run (f p) n (planTrees f ps x) ]) ≤ suc (length ps)
-    go true ih = omega arith
-    go false ih = omega arith
-
 -- "child count (2, at most 64)"
-best-runs : (t : Tables) → Valid t → (c : ℕ) → IsClass t c → treeRuns (bestTree t c) ≤ 64
+pub best-runs : (t : Tables) → Valid t → (c : ℕ) → IsClass t c → treeRuns (bestTree t c) ≤ 64
 unfolding treeRuns
 best-runs t v c h = rw (best-tree t v c h) (go (eqb (kindOf t (bestMember t c .op)) Lit))
   where
@@ -80,9 +38,12 @@ best-runs t v c h = rw (best-tree t v c h) (go (eqb (kindOf t (bestMember t c .o
     go true = omega arith
     go false = omega (arith, join-runs s, child-runs (bestTree t) (childrenOf t (bestMember t c)), children-few t v (bestMember t c) c (best-in t v c h))
 
-marked-runs : (a b : Term) → treeRuns (variants a b) ≤ 2
-unfolding treeRuns runsIn
-marked-runs a b = join-runs (run a 1 (run b 1 done))
+pub starting-runs : (t : Tables) → Valid t → (p : Two) → IsPair t p → treeRuns (startingTree t p) ≤ 64
+starting-runs t v p (h, k) = go (eqb (p .0) (p .1))
+  where
+    go : (y : Bool) → treeRuns (pick y (bestTree t (p .0)) (variants (bestTree t (p .0)) (bestTree t (p .1)))) ≤ 64
+    go true = best-runs t v (p .0) h
+    go false = omega (arith, marked-runs (bestTree t (p .0)) (bestTree t (p .1)))
 
 -- an improved pair's turn chose an action
 improved-acts : (t : Tables) (ps : List Two) (k : ℕ) (p : Two) → In p ps → Improved t ps k p → (o : ℕ) × (l : List Two) × (x : List ℕ) × (turnOf t (qualityAfter t ps k) p .choice ≡ act o l x)
@@ -101,12 +62,8 @@ improved-acts t ps k p i m = go (turn-told t (qualityAfter t ps k) p)
 
 -- a final term has at most as many runs as its action has places
 pub final-runs : (t : Tables) (ps : List Two) (k : ℕ) (p : Two) → In p ps → Improved t ps k p → (w : ℕ) → ((o : ℕ) (l : List Two) (x : List ℕ) → turnOf t (qualityAfter t ps k) p .choice ≡ act o l x → length l ≤ w) → treeRuns (termAfter t ps (suc k) p) ≤ w
-unfolding termAfter choiceTree treeRuns
-final-runs t ps k p i m w h = let (o, l, x, e) = improved-acts t ps k p i m in rw e (go o l x (h o l x e) (isCommutative (kindOf t o)))
-  where
-    go : (o : ℕ) (l : List Two) (x : List ℕ) → length l ≤ w → (y : Bool) → runsIn (joinTrees (pick y (sortTrees (planTrees (termAfter t ps k) l x)) (planTrees (termAfter t ps k) l x))) ≤ w
-    go o l x b true = omega (arith, join-runs (sortTrees (planTrees (termAfter t ps k) l x)), sort-runs (planTrees (termAfter t ps k) l x), plan-runs (termAfter t ps k) l x)
-    go o l x b false = omega (arith, join-runs (planTrees (termAfter t ps k) l x), plan-runs (termAfter t ps k) l x)
+unfolding termAfter
+final-runs t ps k p i m w h = let (o, l, x, e) = improved-acts t ps k p i m in rw e (omega (arith, h o l x e, choice-places t (termAfter t ps k) (termAfter t ps k p) o l x))
 
 -- ---- a list in two parts
 record Parted {A : Type 0} (P Q : A → Type 0) (w : A → ℕ) (l : List A) : Type 0 where
@@ -165,7 +122,9 @@ Ends t ps b R = (k : ℕ) (p : Two) → In p ps → Improved t ps k p → Begun 
 abbrev pub FinalRuns : Tables → List Two → ℕ → ℕ → Type 0
 FinalRuns t ps b w = (k : ℕ) (p : Two) → In p ps → Improved t ps k p → Begun (length ps) b k → treeRuns (termAfter t ps (suc k) p) ≤ w
 
-module _ (t : Tables) (v : Valid t) (ps : List Two) (within : (p : Two) → In p ps → IsPair t p) (b R w : ℕ) (ends : Ends t ps b R) (runs : FinalRuns t ps b w) where
+-- terms of a kind D that are counted, no final one with more than w runs
+module _ (t : Tables) (v : Valid t) (ps : List Two) (within : (p : Two) → In p ps → IsPair t p) (b R w : ℕ) (ends : Ends t ps b R) (D : Term → Type 0) (counts : (x : Term) → D x → Counted t ps b x)
+    (runs : (x : Term) → D x → (k : ℕ) (p : Two) → In p ps → Improved t ps k p → Begun (length ps) b k → x ≡ termAfter t ps (suc k) p → treeRuns x ≤ w) where
   abbrev IsBest : Term → Type 0
   IsBest x = (c : ℕ) × IsClass t c × (x ≡ bestTree t c)
 
@@ -179,14 +138,17 @@ module _ (t : Tables) (v : Valid t) (ps : List Two) (within : (p : Two) → In p
   abbrev Begins : Term → Type 0
   Begins x = IsBest x ⊎ IsMarked x
 
-  which : (x : Term) → Counted t ps b x → Begins x ⊎ IsFinal x
-  which x (best c h e) = inl (inl (c, h, e))
-  which x (starting p i e) = inl (go (eqb (p .0) (p .1)) e)
+  which : (x : Term) → D x → Begins x ⊎ IsFinal x
+  which x d = by (counts x d)
     where
-      go : (y : Bool) → x ≡ pick y (bestTree t (p .0)) (variants (bestTree t (p .0)) (bestTree t (p .1))) → Begins x
-      go true z = inl (p .0, within p i .0, z)
-      go false z = inr (p, i, e, rw z (marked-runs (bestTree t (p .0)) (bestTree t (p .1))))
-  which x (final p k i m h e) = inr (p, k, i, ends k p i m h, e, rw e (runs k p i m h))
+      by : Counted t ps b x → Begins x ⊎ IsFinal x
+      by (best c h e) = inl (inl (c, h, e))
+      by (starting p i e) = inl (go (eqb (p .0) (p .1)) e)
+        where
+          go : (y : Bool) → x ≡ pick y (bestTree t (p .0)) (variants (bestTree t (p .0)) (bestTree t (p .1))) → Begins x
+          go true z = inl (p .0, within p i .0, z)
+          go false z = inr (p, i, e, rw z (marked-runs (bestTree t (p .0)) (bestTree t (p .1))))
+      by (final p k i m h e) = inr (p, k, i, ends k p i m h, e, runs x d k p i m h e)
 
   few-bests : (l : List Term) → Distinct l → ((x : Term) → In x l → IsBest x) → length l ≤ length (t .classes)
   few-bests l d h =
@@ -212,7 +174,7 @@ module _ (t : Tables) (v : Valid t) (ps : List Two) (within : (p : Two) → In p
       there-is x (p, k, j, s, e, n) = in-each round (upFrom 0 R) k x (upFrom-in R 0 k (omega arith) (omega arith)) (rw e (in-map (termAfter t ps (suc k)) j))
 
   -- Best terms are at most as many as classes, starting terms as pairs, and final terms as pairs in R rounds.
-  pub counted-few : length (t .classes) + length ps * (R + 1) ≤ 16384 → 64 * length (t .classes) + 2 * length ps + length ps * R * w ≤ 65536 → Beyond (Counted t ps b) → ⊥
+  pub counted-few : length (t .classes) + length ps * (R + 1) ≤ 16384 → 64 * length (t .classes) + 2 * length ps + length ps * R * w ≤ 65536 → Beyond D → ⊥
   counted-few few light B = go (B .beyond)
     where
       K : Parted Begins IsFinal treeRuns (B .terms)

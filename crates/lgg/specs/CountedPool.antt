@@ -10,7 +10,7 @@ use lib.Dec.{ltb, leb, eqb}
 use borrow.Author.Tests.{ltb-false, leb-false}
 use lib.ListN.{length, getD, length-append}
 use Rattle.spec.specs.Bytes.{pick, both, sum, place, Two, Res, ok, refused, _>>=_}
-use Rattle.spec.specs.Image.{Tables, Member, Lit, kindOf, isCommutative, bestSize, bestMember, childrenOf}
+use Rattle.spec.specs.Image.{Tables, Member, Lit, kindOf, bestSize, bestMember, childrenOf}
 use Rattle.spec.specs.Pool.{Node, Pool, TERMS, RUNS, sameNode, runCount, Interned, interned, intern, opNode, litNode, variantsNode, Children, childTerms, bestTermIn, bestTerm, startingTerm}
 use Rattle.spec.specs.Round.{Choice, stay, act, planRuns, actionTerm, choiceTerm}
 use Rattle.spec.specs.Meaning.{In, here, there, Term, lit, node, variants, Runs, run, runsOf, treeOf, treesAfter, treeAt}
@@ -20,10 +20,11 @@ use Rattle.lgg.specs.Bag.{map-append, sum-append}
 use Rattle.lgg.specs.Pool.{RunsBelow, runs-below-nil, runs-below-cons, NodeValid, PoolValid, op-valid, lit-valid, variants-valid, trees-length, tree-grows, tree-last, tree-literal, tree-marked}
 use Rattle.lgg.specs.PoolTrees.{trees-apart}
 use Rattle.lgg.specs.PoolIntern.{Extends, extends-refl, extends-trans, extends-within, extends-tree, Interns, intern-enters, added}
-use Rattle.lgg.specs.PoolSort.{plan-below, action-perm, actionRuns, perm-below}
+use Rattle.lgg.specs.PoolSort.{actionRuns}
 use Rattle.lgg.specs.BestMembers.{IsClass, IsPair, best-in, best-falls, child-within, child-counted}
-use Rattle.lgg.specs.Counted.{joinTrees, sortTrees, childTrees, bestTreeIn, bestTree, startingTree, choiceTree, Beyond}
-use Rattle.lgg.specs.CountedTrees.{op-tree, action-tree, plan-trees, pool-runs}
+use Rattle.lgg.specs.Counted.{joinTrees, childTrees, bestTreeIn, bestTree, startingTree, choiceTree, Beyond}
+use Rattle.lgg.specs.CountedTrees.{op-tree, pool-runs}
+use Rattle.lgg.specs.CountedRuns.{Stands, Acts, choice-valid, choice-tree}
 
 -- a valid pool whose terms are all of the kind C
 pub record Kept (C : Term → Type 0) (p : Pool) : Type 0 where
@@ -197,20 +198,9 @@ module _ (t : Tables) (v : Valid t) where
                 (tree-marked (treesAfter [] (y .pool)) (x .term) (y .term) ∙ ap₂ variants (extends-tree (Y .grown) (x .term) (X .within) ∙ X .means) (Y .means)) s)
 
 -- ---- the term of a choice
--- in pool p the number `of c` means the tree `f c`
-abbrev pub Stands : Pool → (Two → ℕ) → (Two → Term) → Two → Type 0
-Stands p of f c = (of c < length p) × (treeAt p (of c) ≡ f c)
-
-abbrev pub Acts : Choice → Type 0
-Acts stay = ⊥
-Acts (act o ps x) = Unit
-
 pub choice-goes : {C : Term → Type 0} (t : Tables) (p : Pool) (of : Two → ℕ) (f : Two → Term) (c : Two) (ch : Choice) → Kept C p → Stands p of f c
     → ((o : ℕ) (ps : List Two) (x : List ℕ) → ch ≡ act o ps x → (d : Two) → In d ps → Stands p of f d) → (Acts ch → C (choiceTree t f (f c) ch)) → Goes C (Entered C p (choiceTree t f (f c) ch)) (choiceTerm t of p (of c) ch)
 unfolding choiceTerm choiceTree actionTerm
 choice-goes t p of f c stay K (a, e) h g = fine (record { kept = K; grown = extends-refl p; within = a; means = e })
 choice-goes t p of f c (act o ps x) K s h g =
-    let l = planRuns of ps x in
-    let b : RunsBelow (length p) l = plan-below of (length p) ps x (λ d i. h o ps x refl d i .0) in
-    intern-goes p (opNode o (actionRuns t p o l)) _ K (op-valid (length p) o (actionRuns t p o l) (perm-below (action-perm t p o l) b))
-    (action-tree p (K .valid) t o l b ∙ ap (λ (z : Runs). node o (joinTrees (pick (isCommutative (kindOf t o)) (sortTrees z) z))) (plan-trees p (K .valid) of f ps x (λ d i. h o ps x refl d i .1))) (g tt)
+    intern-goes p (opNode o (actionRuns t p o (planRuns of ps x))) (choiceTree t f (f c) (act o ps x)) K (choice-valid t p (K .valid) of f o ps x (h o ps x refl)) (choice-tree t p (K .valid) of f o ps x (h o ps x refl) (f c)) (g tt)

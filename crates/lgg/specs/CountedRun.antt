@@ -3,7 +3,7 @@ use mathlib.Core.Path.{_≡_, refl, sym, ap, _∙_, subst}
 use mathlib.Core.Logic.{_⊎_, inl, inr}
 use mathlib.Core.Bool.{Bool, true, false}
 use mathlib.Core.List.{List, [], _∷_, map}
-use Prim.Native.Nat.{ℕ, zero, suc, _+_, _*_, _<_}
+use Prim.Native.Nat.{ℕ, zero, suc, _+_, _*_, _≤_, _<_, max}
 use native.Mathlib.Nat.{not-suc-le-zero}
 use native.Mathlib.Omega.{arith}
 use lib.ListN.{length, getD}
@@ -25,13 +25,14 @@ use Rattle.lgg.specs.Rounds.{Closed, qualityAfter, q-next}
 use Rattle.lgg.specs.Enter.{Starts}
 use Rattle.lgg.specs.Graph.{build-whole, build-first, build-closed, build-passed, build-same, build-refused}
 use Rattle.lgg.specs.Outcomes.{root-in}
-use Rattle.lgg.specs.Pool.{empty-valid}
+use Rattle.lgg.specs.Pool.{PoolValid, empty-valid}
 use Rattle.lgg.specs.PoolIntern.{Extends, extends-refl, extends-trans, extends-within, extends-tree}
 use Rattle.lgg.specs.BestMembers.{IsClass, IsPair}
 use Rattle.lgg.specs.Readings.{reach-within}
-use Rattle.lgg.specs.Counted.{bestTree, startingTree, choiceTree, termAfter, Improved, Counted, best, starting, final, Beyond}
-use Rattle.lgg.specs.CountedFew.{counted-few}
-use Rattle.lgg.specs.CountedPool.{Kept, Goes, fine, full, goes-bind, Entered, starting-goes, Stands, Acts, choice-goes}
+use Rattle.lgg.specs.Counted.{treeRuns, bestTree, startingTree, choiceTree, termAfter, Improved, Counted, best, starting, final, Beyond}
+use Rattle.lgg.specs.CountedFew.{best-runs, starting-runs, counted-few}
+use Rattle.lgg.specs.CountedPool.{Kept, Goes, fine, full, goes-bind, Entered, starting-goes, choice-goes}
+use Rattle.lgg.specs.CountedRuns.{Stands, Acts, turn-few}
 
 -- a term for each pair of a list: pair c has the tree `f c`
 data Holds (pool : Pool) (f : Two → Term) : List Two → List ℕ → Type 0 where
@@ -79,14 +80,15 @@ module _ (t : Tables) (C : Term → Type 0) (q : Two → Two) (of : Two → ℕ)
   abbrev after : Two → Term
   after c = choiceTree t f (f c) (turnOf t q c .choice)
 
-  turns-walk : (cs : List Two) (b : ℕ) (p : Pool) → ((c : Two) → In c cs → Stands p of f c × ((d : Two) → In d (joins t c) → Stands p of f d)) → ((c : Two) → In c cs → Acts (turnOf t q c .choice) → C (after c)) → Kept C p
+  turns-walk : (cs : List Two) (b : ℕ) (p : Pool) → ((c : Two) → In c cs → Stands p of f c × ((d : Two) → In d (joins t c) → Stands p of f d))
+      → ((c : Two) → In c cs → (r : Pool) → PoolValid r → ((d : Two) → In d (joins t c) → Stands r of f d) → Acts (turnOf t q c .choice) → C (after c)) → Kept C p
       → Goes C (Walked C p after cs (length cs) b) (turnsTerms t of cs (map (turnOf t q) cs) b p)
   unfolding turnsTerms
   turns-walk [] b p h g K = fine (whole (record { pool = p; terms = [] }) b K (extends-refl p) noPair (omega arith))
   turns-walk (c ∷ cs) zero p h g K = fine cut
   turns-walk (c ∷ cs) (suc b) p h g K =
       goes-bind (choiceTerm t of p (of c) (turnOf t q c .choice)) _
-      (choice-goes t p of f c (turnOf t q c .choice) K (h c here .0) (λ o ps x e d i. h c here .1 d (choice-joins t q c o ps x e d i)) (g c here))
+      (choice-goes t p of f c (turnOf t q c .choice) K (h c here .0) (λ o ps x e d i. h c here .1 d (choice-joins t q c o ps x e d i)) (g c here p (K .valid) (h c here .1)))
       (λ a A. goes-bind (turnsTerms t of cs (map (turnOf t q) cs) b (a .pool)) _
       (turns-walk cs b (a .pool) (λ d i. (stands-later p (a .pool) of f (A .grown) d (h d (there i) .0), λ e j. stands-later p (a .pool) of f (A .grown) e (h d (there i) .1 e j))) (λ d i. g d (there i)) (A .kept))
       (λ r W. fine (walked-next c cs (length cs) b a r A W)))
@@ -107,9 +109,13 @@ acted-improved t ps k p i a = rw (q-next t ps k p i) (go (turn-told t (qualityAf
     go (inl (n, e)) = absurd (clash (sym (chose (w .choice) refl a) ∙ n))
     go (inr (n, l)) = l
 
-module _ (t : Tables) (ps : List Two) (closed : Closed t ps) (b : ℕ) where
+-- a counted term, with at most 64 runs or as many as there are pairs
+abbrev pub Slim : Tables → List Two → ℕ → Term → Type 0
+Slim t ps b x = Counted t ps b x × (treeRuns x ≤ max 64 (length ps))
+
+module _ (t : Tables) (v : Valid t) (ps : List Two) (closed : Closed t ps) (b : ℕ) where
   abbrev C : Term → Type 0
-  C = Counted t ps b
+  C = Slim t ps b
 
   -- a state between two rounds
   record Between (s : State) : Type 0 where
@@ -131,7 +137,7 @@ module _ (t : Tables) (ps : List Two) (closed : Closed t ps) (b : ℕ) where
       (round-start (s .pool) (termAfter t ps (suc (s .rounds))) c _
       (turns-walk t C (qualityAfter t ps (s .rounds)) (lookUp 0 ps (s .terms)) (termAfter t ps (s .rounds)) ps c (s .pool)
       (λ p i. (holds-look (B .holds) p i, λ d j. holds-look (B .holds) d (closed p d i j)))
-      (λ p i a. final p (s .rounds) i (acted-improved t ps (s .rounds) p i a) (omega (arith, B .spent)) refl)
+      (λ p i r w S a. (final p (s .rounds) i (acted-improved t ps (s .rounds) p i a) (omega (arith, B .spent)) refl, turn-few t v ps closed (qualityAfter t ps (s .rounds)) p i r w (lookUp 0 ps (s .terms)) (termAfter t ps (s .rounds)) S a))
       (B .kept)))
 
   further : (s : State) → Between s → (r : Terms) (left : ℕ) → Kept C (r .pool) → Holds (r .pool) (termAfter t ps (suc (s .rounds))) ps (r .terms) → s .budget ≡ suc (length ps) + left
@@ -177,37 +183,46 @@ goes-refused k (fine q) e = absurd (refused-ok (sym e))
 goes-refused k (full b) e = b
 
 module _ (t : Tables) (v : Valid t) (p : Two) (h : IsPair t p) where
-  root-goes : (ps : List Two) (b : ℕ) → In p ps → Goes (Counted t ps b) (Entered (Counted t ps b) [] (startingTree t p)) (startingTerm t [] p)
-  root-goes ps b i = starting-goes t v (Counted t ps b) (λ c k. best c k refl) [] p h (starting p i refl) (record { valid = empty-valid; kinds = λ a l. absurd (not-suc-le-zero l) })
+  slim-best : (ps : List Two) (b c : ℕ) → IsClass t c → Slim t ps b (bestTree t c)
+  slim-best ps b c k = (best c k refl, omega (arith, best-runs t v c k))
+
+  slim-start : (ps : List Two) (b : ℕ) (q : Two) → In q ps → IsPair t q → Slim t ps b (startingTree t q)
+  slim-start ps b q i k = (starting q i refl, omega (arith, starting-runs t v q k))
+
+  root-goes : (ps : List Two) (b : ℕ) → In p ps → Goes (Slim t ps b) (Entered (Slim t ps b) [] (startingTree t p)) (startingTerm t [] p)
+  root-goes ps b i = starting-goes t v (Slim t ps b) (slim-best ps b) [] p h (slim-start ps b p i h) (record { valid = empty-valid; kinds = λ a l. absurd (not-suc-le-zero l) })
 
   -- The queried pair's starting term is never refused.
   pub root-starts : (root : Interned) × (startingTerm t [] p ≡ ok root)
   root-starts = go (startingTerm t [] p) (root-goes (p ∷ []) 0 here)
     where
-      go : (r : Res Interned) → Goes (Counted t (p ∷ []) 0) (Entered (Counted t (p ∷ []) 0) [] (startingTree t p)) r → (root : Interned) × (r ≡ ok root)
+      go : (r : Res Interned) → Goes (Slim t (p ∷ []) 0) (Entered (Slim t (p ∷ []) 0) [] (startingTree t p)) r → (root : Interned) × (r ≡ ok root)
       go r (fine {a = a} q) = (a, refl)
       go r (full B) =
           absurd (counted-few t v (p ∷ []) (λ q i. elim (in-cons i) [ inl e ↦ rw e h | inr j ↦ absurd (in-nil j) ]) 0 0 0
-          (λ k q i m l. absurd (omega arith)) (λ k q i m l. absurd (omega arith)) (omega (arith, v .counts .fewClasses)) (omega (arith, v .counts .fewClasses)) B)
+          (λ k q i m l. absurd (omega arith)) (Slim t (p ∷ []) 0) (λ x d. d .0) (λ x d k q i m l e. absurd (omega arith)) (omega (arith, v .counts .fewClasses)) (omega (arith, v .counts .fewClasses)) B)
 
   started-term : (ps : List Two) (root : Interned) (n : ℕ) → startingTerm t [] p ≡ ok root → treeAt (started t p root n .pool) (started t p root n .root) ≡ termAfter t ps (started t p root n .rounds) p
   unfolding started termAfter
   started-term ps root n er = goes-ok root (root-goes (p ∷ []) 0 here) er .means
 
-  built-goes : (b c : ℕ) (ps : List Two) (root : Interned) → build t p b ≡ ok (passed ps c) → startingTerm t [] p ≡ ok root → Goes (Counted t ps b) (λ o. treeAt (o .pool) (o .root) ≡ termAfter t ps (o .rounds) p) (afterBuilding t p root (passed ps c))
+  built-goes : (b c : ℕ) (ps : List Two) (root : Interned) → build t p b ≡ ok (passed ps c) → startingTerm t [] p ≡ ok root → Goes (Slim t ps b) (λ o. treeAt (o .pool) (o .root) ≡ termAfter t ps (o .rounds) p) (afterBuilding t p root (passed ps c))
   unfolding afterBuilding afterStarting termAfter qualitiesAfter
   built-goes b c ps root e er =
       goes-bind (startingTerms t ps c (root .pool)) _
-      (starting-walks t v C (λ d k. best d k refl) ps c (root .pool) (λ q i. (reach-within t v p q h (build-whole t p b c ps e .exactly q .0 i), starting q i refl)) (goes-ok root (root-goes ps b (root-in t p b c ps e)) er .kept))
+      (starting-walks t v C (slim-best ps b) ps c (root .pool) (λ q i. (within q i, slim-start ps b q i (within q i))) (goes-ok root (root-goes ps b (root-in t p b c ps e)) er .kept))
       (λ r W. go r W)
     where
       C : Term → Type 0
-      C = Counted t ps b
+      C = Slim t ps b
+
+      within : (q : Two) → In q ps → IsPair t q
+      within q i = reach-within t v p q h (build-whole t p b c ps e .exactly q .0 i)
 
       go : (r : Checked Terms) → Walked C (root .pool) (startingTree t) ps (length ps) c r → Goes C (λ o. treeAt (o .pool) (o .root) ≡ termAfter t ps (o .rounds) p) (afterStarting t p root ps r)
       go r cut = fine (started-term ps root (length ps) er)
       go r (whole a left K g H z) =
-          rounds-go t ps (build-closed t p b c ps e) b p (build-first t p b c ps e) left (record { pool = a .pool; qualities = map (startingQuality t) ps; terms = a .terms; rounds = 0; budget = left })
+          rounds-go t v ps (build-closed t p b c ps e) b p (build-first t p b c ps e) left (record { pool = a .pool; qualities = map (startingQuality t) ps; terms = a .terms; rounds = 0; budget = left })
           (record { kept = K; holds = H; qualities = refl; spent = omega (arith, build-passed t p (length ps) (ps, build-whole t p b c ps e, refl) b c ps e .1) })
 
   -- The term that a run gives is the queried pair's after the rounds reported; ps are the pairs of the full graph.
@@ -223,14 +238,19 @@ module _ (t : Tables) (v : Valid t) (p : Two) (h : IsPair t p) where
       go root er (passed qs c) eg z = rw (← build-same t p b c B C qs ps eg e) (goes-ok o (built-goes b c qs root eg er) z)
 
   -- A run is refused by 13 only where its graph is built, and the terms that are counted for it are more than 16,384 or have more than 65,536 runs.
-  pub refused-13-beyond : (b : ℕ) → runOf t p b ≡ refused 13 → (ps : List Two) × (c : ℕ) × (build t p b ≡ ok (passed ps c)) × Beyond (Counted t ps b)
+  pub refused-13-slim : (b : ℕ) → runOf t p b ≡ refused 13 → (ps : List Two) × (c : ℕ) × (build t p b ≡ ok (passed ps c)) × Beyond (Slim t ps b)
   unfolding runOf afterBuilding
-  refused-13-beyond b e = starts (bind-refused (startingTerm t [] p) (λ root. build t p b >>= λ g. afterBuilding t p root g) 13 e)
+  refused-13-slim b e = starts (bind-refused (startingTerm t [] p) (λ root. build t p b >>= λ g. afterBuilding t p root g) 13 e)
     where
-      built : (root : Interned) → startingTerm t [] p ≡ ok root → (g : Checked (List Two)) → build t p b ≡ ok g → afterBuilding t p root g ≡ refused 13 → (ps : List Two) × (c : ℕ) × (build t p b ≡ ok (passed ps c)) × Beyond (Counted t ps b)
+      built : (root : Interned) → startingTerm t [] p ≡ ok root → (g : Checked (List Two)) → build t p b ≡ ok g → afterBuilding t p root g ≡ refused 13 → (ps : List Two) × (c : ℕ) × (build t p b ≡ ok (passed ps c)) × Beyond (Slim t ps b)
       built root er cutShort eg z = absurd (refused-ok (sym z))
       built root er (passed ps c) eg z = (ps, c, eg, goes-refused 13 (built-goes b c ps root eg er) z)
 
-      starts : (startingTerm t [] p ≡ refused 13) ⊎ ((root : Interned) × (startingTerm t [] p ≡ ok root) × ((build t p b >>= λ g. afterBuilding t p root g) ≡ refused 13)) → (ps : List Two) × (c : ℕ) × (build t p b ≡ ok (passed ps c)) × Beyond (Counted t ps b)
+      starts : (startingTerm t [] p ≡ refused 13) ⊎ ((root : Interned) × (startingTerm t [] p ≡ ok root) × ((build t p b >>= λ g. afterBuilding t p root g) ≡ refused 13)) → (ps : List Two) × (c : ℕ) × (build t p b ≡ ok (passed ps c)) × Beyond (Slim t ps b)
       starts (inl z) = absurd (refused-ok (sym z ∙ root-starts .1))
       starts (inr (root, er, z)) = elim (bind-refused (build t p b) (λ g. afterBuilding t p root g) 13 z) [ inl x ↦ absurd (omega (arith, build-refused t p b 13 x .0)) | inr x ↦ built root er (x .0) (x .1) (x .2) ]
+
+  pub refused-13-beyond : (b : ℕ) → runOf t p b ≡ refused 13 → (ps : List Two) × (c : ℕ) × (build t p b ≡ ok (passed ps c)) × Beyond (Counted t ps b)
+  refused-13-beyond b e =
+      let (ps, c, k, B) = refused-13-slim b e in
+      (ps, c, k, record { terms = B .terms; distinct = B .distinct; counted = λ x i. B .counted x i .0; beyond = B .beyond })

@@ -47,6 +47,7 @@ pub mod TurnRead
 pub mod RunFrom
 pub mod Counted
 pub mod CountedTrees
+pub mod CountedRuns
 pub mod CountedPool
 pub mod CountedFew
 pub mod CountedRun

@@ -2,7 +2,7 @@
 use mathlib.Core.Path.{_≡_, sym, ap, _∙_}
 use mathlib.Core.Logic.{_≢_}
 use mathlib.Core.List.{List, _∷_}
-use Prim.Native.Nat.{ℕ, suc, _+_, _*_, _-_, _≤_, _<_}
+use Prim.Native.Nat.{ℕ, suc, _+_, _*_, _-_, _≤_, _<_, max}
 use native.Mathlib.Nat.{lt-of-not-le, mul-le-mul-right}
 use native.Mathlib.Decide.{decLt, decLe}
 use native.Mathlib.Omega.{arith}
@@ -19,13 +19,13 @@ use Rattle.lgg.specs.Results.{refused-ok}
 use Rattle.lgg.specs.Quality.{⊏-not, ⊑-of-eq}
 use Rattle.lgg.specs.Rounds.{qualityAfter, forever}
 use Rattle.lgg.specs.Graph.{PairCount, build-whole, build-passed, build-same, build-over}
-use Rattle.lgg.specs.TurnPlaces.{turn-choice, turn-placed}
+use Rattle.lgg.specs.TurnPlaces.{turn-choice}
 use Rattle.lgg.specs.BestMembers.{IsPair}
 use Rattle.lgg.specs.Readings.{reach-within}
 use Rattle.lgg.specs.Demand3.{FirstQuiet, settled}
-use Rattle.lgg.specs.Counted.{Improved}
+use Rattle.lgg.specs.Counted.{Improved, Counted, Beyond}
 use Rattle.lgg.specs.CountedFew.{Ends, FinalRuns, final-runs, counted-few}
-use Rattle.lgg.specs.CountedRun.{refused-13-beyond}
+use Rattle.lgg.specs.CountedRun.{Slim, refused-13-slim, refused-13-beyond}
 
 -- ---- the rounds that improve a pair
 -- the budget ends before round R
@@ -59,11 +59,7 @@ ends-pairs t p B C ps e b k q i m l = go (decLt k (length ps))
     go (no z) = absurd (quiet-not t ps k q (settled t p B C ps e k (omega arith)) m)
 
 -- ---- the runs of final terms
--- at most 64 places, or 65 × 65 cells
-pub final-runs-4225 : (t : Tables) → Valid t → (ps : List Two) (b : ℕ) → FinalRuns t ps b 4225
-final-runs-4225 t v ps b k p i m l = final-runs t ps k p i m 4225 (λ o c x e. turn-placed t v (qualityAfter t ps k) p o c x e .few)
-
--- .. and no more than the pair's actions join in all
+-- at most as many as the places that the pair's actions join
 each-longer : {A B : Type 0} (f : A → List B) (l : List A) (x : A) → In x l → length (f x) ≤ length (each f l)
 unfolding each
 each-longer f (y ∷ l) x here = omega (arith, length-append (f x) (each f l))
@@ -91,22 +87,35 @@ module _ (t : Tables) (v : Valid t) (p : Two) (h : IsPair t p) (b : ℕ) where
       → length (t .classes) + length ps * (R + 1) ≤ 16384 → 64 * length (t .classes) + 2 * length ps + length ps * R * w ≤ 65536 → runOf t p b ≢ refused 13
   not-refused-13 B C ps e R w ends runs few light z =
       let (qs, c, k, beyond) = refused-13-beyond t v p h b z in
-      counted-few t v ps (pairs-within B C ps e) b R w ends runs few light (rw (build-same t p b c B C qs ps k e) at beyond)
+      counted-few t v ps (pairs-within B C ps e) b R w ends (Counted t ps b) (λ x d. d) (λ x d k q i m l e. rw e (runs k q i m l)) few light (rw (build-same t p b c B C qs ps k e) at beyond)
+
+  -- The final terms that a run enters have at most 64 runs, or as many as there are pairs.
+  slim : (R c : ℕ) (ps : List Two) → build t p b ≡ ok (passed ps c) → Ends t ps b R
+      → length (t .classes) + length ps * (R + 1) ≤ 16384 → 64 * length (t .classes) + 2 * length ps + length ps * R * max 64 (length ps) ≤ 65536 → Beyond (Slim t ps b) → ⊥
+  slim R c ps e ends = counted-few t v ps (pairs-within b c ps e) b R (max 64 (length ps)) ends (Slim t ps b) (λ x d. d .0) (λ x d k q i m l e. d .1)
+
+  -- So R alone is wanted.
+  pub not-refused-13-rounds : (B C : ℕ) (ps : List Two) → build t p B ≡ ok (passed ps C) → (R : ℕ) → Ends t ps b R
+      → length (t .classes) + length ps * (R + 1) ≤ 16384 → 64 * length (t .classes) + 2 * length ps + length ps * R * max 64 (length ps) ≤ 65536 → runOf t p b ≢ refused 13
+  not-refused-13-rounds B C ps e R ends few light z =
+      let (qs, c, k, beyond) = refused-13-slim t v p h b z in
+      let same = build-same t p b c B C qs ps k e in
+      slim R c ps (rw same at k) ends few light (rw same at beyond)
 
   -- By numbers alone: n pairs, and a budget that ends before round R.
   pub not-refused-13-checks : (n : ℕ) → PairCount t p n → (R : ℕ) → b ≤ 2 * n + R * (n + 1)
-      → length (t .classes) + n * (R + 1) ≤ 16384 → 64 * length (t .classes) + 2 * n + n * R * 4225 ≤ 65536 → runOf t p b ≢ refused 13
+      → length (t .classes) + n * (R + 1) ≤ 16384 → 64 * length (t .classes) + 2 * n + n * R * max 64 n ≤ 65536 → runOf t p b ≢ refused 13
   not-refused-13-checks n count R short few light z =
-      let (ps, c, k, beyond) = refused-13-beyond t v p h b z in
+      let (ps, c, k, beyond) = refused-13-slim t v p h b z in
       let (l, s) = build-passed t p n count b c ps k in
-      counted-few t v ps (pairs-within b c ps k) b R 4225 (ends-checks t ps b R (rw l short)) (final-runs-4225 t v ps b) (rw l few) (rw l light) beyond
+      slim R c ps k (ends-checks t ps b R (rw l short)) (rw l few) (rw l light) beyond
 
   -- .. and n pairs, whatever the budget.
-  pub not-refused-13-pairs : (n : ℕ) → PairCount t p n → length (t .classes) + n * (n + 1) ≤ 16384 → 64 * length (t .classes) + 2 * n + n * n * 4225 ≤ 65536 → runOf t p b ≢ refused 13
+  pub not-refused-13-pairs : (n : ℕ) → PairCount t p n → length (t .classes) + n * (n + 1) ≤ 16384 → 64 * length (t .classes) + 2 * n + n * n * max 64 n ≤ 65536 → runOf t p b ≢ refused 13
   not-refused-13-pairs n count few light z =
-      let (ps, c, k, beyond) = refused-13-beyond t v p h b z in
+      let (ps, c, k, beyond) = refused-13-slim t v p h b z in
       let (l, s) = build-passed t p n count b c ps k in
-      counted-few t v ps (pairs-within b c ps k) b (length ps) 4225 (ends-pairs t p b c ps k b) (final-runs-4225 t v ps b) (rw l few) (rw l light) beyond
+      slim (length ps) c ps k (ends-pairs t p b c ps k b) (rw l few) (rw l light) beyond
 
   -- 13 is met in rounds only: 256 best terms and 4,096 starting terms are within the limits.
   pub not-refused-13-before-rounds : (n : ℕ) → PairCount t p n → b ≤ 2 * n → runOf t p b ≢ refused 13
