@@ -3,3 +3,4 @@ pub mod FirstLine
 pub mod Refusals
 pub mod Demand2
 pub mod Demand3
+pub mod Terms13

@@ -2,7 +2,7 @@
 use mathlib.Core.Path.{_≡_, refl, sym, ap, _∙_}
 use mathlib.Core.Logic.{_≢_, inl, inr, _↔_}
 use mathlib.Core.Bool.{Bool, true, false}
-use mathlib.Core.List.{List, []}
+use mathlib.Core.List.{List}
 use Prim.Native.Nat.{ℕ, _≤_, _<_}
 use native.Mathlib.Omega.{arith}
 use lib.ListN.{length, replicate}
@@ -10,7 +10,6 @@ use borrow.Author.Tests.{le-leb, lt-leb}
 use Rattle.spec.specs.Bytes.{Res, ok, refused, workAfter}
 use Rattle.spec.specs.Image.{tablesOf}
 use Rattle.spec.specs.Graph.{PAIRS}
-use Rattle.spec.specs.Pool.{Interned, startingTerm}
 use Rattle.spec.specs.Run.{Outcome, runOf}
 use Rattle.spec.specs.Listing.{listingOf}
 use Rattle.spec.specs.Merge.{mergeOf, outputAfter}
@@ -20,6 +19,7 @@ use Rattle.laws.specs.Accepted as A
 use Rattle.lgg.specs.Lists.{clash}
 use Rattle.lgg.specs.Results.{refused-ok, refused-inj}
 use Rattle.lgg.specs.Graph.{PairCount}
+use Rattle.lgg.specs.CountedRun.{root-starts}
 use Rattle.lgg.specs.Demand3 as D
 use Rattle.au.specs.declared.Answer.{Answer}
 use Rattle.au.specs.declared.Answer.the-variants.{Listing, Refused, Doubled}
@@ -136,11 +136,13 @@ module _ (image : List ℕ) (left right budget : ℕ) (fit : Bool) (out out′ :
   pub refused-12-only-beyond : r ≡ Refused 12 → (n : ℕ) → PairCount (tablesOf image) (left, right) n → PAIRS < n
   refused-12-only-beyond e n c = elim (D.refused-by (tablesOf image) (left, right) n c budget 12 (refused-12 .0 e .1)) [ inl x ↦ x .1 | inr x ↦ absurd (omega arith) ]
 
-  -- .. and where it has, with 4,096 checks or more, unless there was no room for the queried pair's starting term (13)
-  pub refused-12-beyond : Taken fit image left right → (n : ℕ) → PairCount (tablesOf image) (left, right) n → PAIRS < n → PAIRS ≤ budget → (root : Interned) → startingTerm (tablesOf image) [] (left, right) ≡ ok root → r ≡ Refused 12
-  refused-12-beyond T n c h b root e = refused-12 .1 (T, D.refused-beyond (tablesOf image) (left, right) n c h budget root b e)
+  -- .. and where it has, with 4,096 checks or more
+  pub refused-12-beyond : Taken fit image left right → (n : ℕ) → PairCount (tablesOf image) (left, right) n → PAIRS < n → PAIRS ≤ budget → r ≡ Refused 12
+  refused-12-beyond T n c h b =
+      let (root, e) = root-starts (tablesOf image) (A.valid image (tablesOf image) (read-of image (T .sound))) (left, right) (T .asked) in
+      refused-12 .1 (T, D.refused-beyond (tablesOf image) (left, right) n c h budget root b e)
 
-  -- 13: "a term beyond 16,384 or a run beyond 65,536 would be entered"
+  -- 13: "a term beyond 16,384 or a run beyond 65,536 would be entered"; which terms these are, and where it is not returned: Terms13
   pub refused-13 : (r ≡ Refused 13) ↔ (Taken fit image left right × (R ≡ refused 13))
   refused-13 = of-run 13 (omega arith) (omega arith)
 

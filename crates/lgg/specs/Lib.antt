@@ -45,3 +45,10 @@ pub mod RoundsFrom
 pub mod Standing
 pub mod TurnRead
 pub mod RunFrom
+pub mod Counted
+pub mod CountedTrees
+pub mod CountedRuns
+pub mod CountedPool
+pub mod CountedFew
+pub mod CountedRun
+pub mod Refused13

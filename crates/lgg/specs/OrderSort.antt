@@ -69,10 +69,10 @@ module _ (p : Pool) (v : PoolValid p) where
     nothing : Ascending []
     then : {a : ℕ} {l : List ℕ} → ((b : ℕ) → In b l → NotAfter p a b) → Ascending l → Ascending (a ∷ l)
 
-  not-after-self : (a : ℕ) → a < length p → NotAfter p a a
+  pub not-after-self : (a : ℕ) → a < length p → NotAfter p a a
   not-after-self a h = elim (total p v a a h h) [ inl e ↦ e | inr e ↦ e ]
 
-  all-later : (r : Two) (l : List Two) → RunsBelow (length p) (r ∷ l) → Sorted p (r ∷ l) → (s : Two) → In s l → NotAfter p (r .0) (s .0)
+  pub all-later : (r : Two) (l : List Two) → RunsBelow (length p) (r ∷ l) → Sorted p (r ∷ l) → (s : Two) → In s l → NotAfter p (r .0) (s .0)
   all-later r [] b k s i = absurd (in-nil i)
   all-later r (u ∷ l) b (more h k) s i = go (in-cons i) (λ j. all-later u l (runs-below-tail b) k s j)
     where

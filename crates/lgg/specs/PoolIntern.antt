@@ -102,8 +102,8 @@ abbrev noNode : Node
 noNode = record { head = 0; op = 0; value = 0; runs = [] }
 
 -- a node that is not there makes the pool longer by one
-added : (p : Pool) (n : Node) → PoolValid p → NodeValid (length p) n → ((i : ℕ) → i < length p → nodeAt p i ≡ n → ⊥) → Interns p n (interned (p ++ (n ∷ [])) (length p))
-added p n v w new = record {
+pub added : (p : Pool) (n : Node) → PoolValid p → NodeValid (length p) n → ltb (place (sameNode n) p) (length p) ≡ false → Interns p n (interned (p ++ (n ∷ [])) (length p))
+added p n v w absent = record {
   valid = record { nodes = nodes; apart = apart };
   grown = record { later = n ∷ []; is = refl };
   within = omega (arith, length-append p (n ∷ []));
@@ -111,6 +111,9 @@ added p n v w new = record {
   means = tree-last p n;
 }
   where
+    new : (i : ℕ) → i < length p → nodeAt p i ≡ n → ⊥
+    new i l q = let f = place-first (sameNode n) noNode p i l (rw q (node-same n)) in let g = ltb-false (place (sameNode n) p) (length p) absent in omega arith
+
     long : length (p ++ (n ∷ [])) ≡ suc (length p)
     long = omega (arith, length-append p (n ∷ []))
 
@@ -146,7 +149,7 @@ intern-enters p n r v w e = go (ltb (place (sameNode n) p) (length p)) refl (bot
         let l = ltb-true _ _ h in
         let same : nodeAt p (place (sameNode n) p) ≡ n = sym (same-node n _ (place-passes (sameNode n) noNode p l)) in
         rw (← ok-inj e) (record { valid = v; grown = extends-refl p; within = l; entry = same; means = tree-is p v (place (sameNode n) p) l ∙ ap (treeOf (treesAfter [] p)) same })
-    go false h true e = rw (← ok-inj e) (added p n v w (λ i l q. let f = place-first (sameNode n) noNode p i l (rw q (node-same n)) in let g = ltb-false (place (sameNode n) p) (length p) h in omega arith))
+    go false h true e = rw (← ok-inj e) (added p n v w h)
     go false h false e = absurd (refused-ok e)
 
 -- Interning a node that is there gives its number.

@@ -133,7 +133,7 @@ node-inj ts i x y v w h e = go (v .formed) (w .formed)
         clash : variants (numbered ts c) (numbered ts d) ≡ lit (y .op) (y .value) → x ≡ y
         clash k = cc
 
-valid-below : (i j : ℕ) (n : Node) → i ≤ j → NodeValid i n → NodeValid j n
+pub valid-below : (i j : ℕ) (n : Node) → i ≤ j → NodeValid i n → NodeValid j n
 valid-below i j n h v = record { formed = v .formed; below = record { earlier = λ r k. let z = v .below .earlier r k in omega arith; counted = v .below .counted }; joined = v .joined }
 
 -- Different numbers of a valid pool mean different trees.

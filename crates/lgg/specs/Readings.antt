@@ -30,7 +30,7 @@ pub record RunGood (t : Tables) (p : Two) (o : Outcome) : Type 0 where
   pub within : o .root < length (o .pool)
   pub good : TermFor t p (o .quality) (treeAt (o .pool) (o .root))
 
-reach-within : (t : Tables) → Valid t → (p q : Two) → IsPair t p → Reachable t p q → IsPair t q
+pub reach-within : (t : Tables) → Valid t → (p q : Two) → IsPair t p → Reachable t p q → IsPair t q
 reach-within t v p q h (queried e) = rw e h
 reach-within t v p q h (joined {p = r} k i) = joins-within t v r (reach-within t v p r h k) q i
 

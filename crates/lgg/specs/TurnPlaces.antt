@@ -4,7 +4,7 @@ use mathlib.Core.Logic.{_⊎_, inl, inr}
 use mathlib.Core.Bool.{Bool, true, false}
 use mathlib.Core.List.{List, [], _∷_, map}
 use mathlib.Core.Option.{Option, none, some}
-use Prim.Native.Nat.{ℕ, zero, suc, _+_, _*_, _-_, _≤_, _<_}
+use Prim.Native.Nat.{ℕ, zero, suc, _+_, _*_, _-_, _≤_, _<_, max}
 use native.Mathlib.Nat.{mul-le-mul}
 use native.Mathlib.Decide.{decLt}
 use native.Mathlib.Omega.{arith}
@@ -82,7 +82,7 @@ zip-length (x ∷ xs) [] = omega arith
 zip-length (x ∷ xs) (y ∷ ys) = omega (arith, zip-length xs ys)
 
 abbrev Aligned : ℕ → ℕ → Action → Type 0
-Aligned o n a = (a .op ≡ o) × (length (a .pairs) ≤ n + 2)
+Aligned o n a = (a .op ≡ o) × (length (a .pairs) ≤ max n 2)
 
 alignments-made : (kind o : ℕ) (xs ys : List ℕ) (a : Action) → In a (alignments kind o xs ys) → Aligned o (length xs) a
 unfolding alignments byPosition straightAndCrossed
@@ -107,7 +107,7 @@ alignments-made kind o xs ys a i = go (eqb kind SPair) (either (isAC kind) (eqb 
     go false false true w j = one whole (refl, omega (arith, zip-length xs ys)) j
     go false false false w j = absurd (in-nil j)
 
-structural-made : (t : Tables) (l r : ℕ) (a : Action) → In a (structural t l r) → (m : Member) × In m (membersOf t l) × Aligned (m .op) (length (childrenOf t m)) a
+pub structural-made : (t : Tables) (l r : ℕ) (a : Action) → In a (structural t l r) → (m : Member) × In m (membersOf t l) × Aligned (m .op) (length (childrenOf t m)) a
 unfolding structural alignMembers
 structural-made t l r a h = go (eqb l r) h
   where
@@ -151,7 +151,7 @@ pub record TransportMade (t : Tables) (a : TransportAction) : Type 0 where
   pub narrowColumns : narrow (a .sides .cols) ≡ true
 
 module _ (t : Tables) (v : Valid t) where
-  children-few : (m : Member) (c : ℕ) → In m (membersOf t c) → length (childrenOf t m) ≤ 64
+  pub children-few : (m : Member) (c : ℕ) → In m (membersOf t c) → length (childrenOf t m) ≤ 64
   children-few m c i = let (k, h, e) = member-number t v m c i in let z = v .spans .fewOwnChildren k h in rw e (omega (arith, length-take (theMember t k .count) (drop (theMember t k .first) (t .children))))
 
   member-op : (m : Member) (c : ℕ) → In m (membersOf t c) → m .op < length (t .operations)
