@@ -28,7 +28,7 @@ module _ (image : List ℕ) (left right budget : ℕ) (fit : Bool) (out out′ :
   t = tablesOf image
 
   -- the run behind the listing
-  abbrev o : Outcome
+  abbrev pub o : Outcome
   o = accepted image left right budget fit out out′ n m .o
 
   abbrev ran : runOf t (left, right) budget ≡ ok o
