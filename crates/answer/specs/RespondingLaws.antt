@@ -117,11 +117,8 @@ responds s out out′ out″ fit a r f q w m P = go a refl
     go (Refused k) e = refuses k (ap (answerOf out′) e)
     go (Doubled c) e = refuses 10 (ap (answerOf out′) e)
 
-pub cleared-asked : (fit : Bool) (s : List ℕ) {a a′ b b′ c c′ d d′ e e′ f f′ : List ℕ} → framed s ≡ true → fit ≡ true → Cleared fit a a′ b b′ c c′ d d′ e e′ f f′ → Cleared (framed s) a a′ b b′ c c′ d d′ e e′ f f′
-cleared-asked fit s p q k = rw p (rw q at k)
-
-pub not-asked : (s a b c d e f : List ℕ) → framed s ≡ false → Cleared (framed s) a a b b c c d d e e f f
-not-asked s a b c d e f p = rw p (record { lefts = refl; rights = refl; index = refl; pairs = refl; terms = refl; runs = refl })
+pub cleared-asked : (fit : Bool) {a a′ b b′ c c′ d d′ e e′ f f′ : List ℕ} → fit ≡ true → Cleared fit a a′ b b′ c c′ d d′ e e′ f f′ → Cleared true a a′ b b′ c c′ d d′ e e′ f f′
+cleared-asked fit q k = rw q at k
 
 -- the call that `ask` makes is the one that the input asks for
 pub asks-from : (s part : List ℕ) (n l r b : ℕ) (fit : Bool) (out out′ : List ℕ) (a : Answer) → part ≡ take n s → n ≡ be4 s 0 + 4 → l ≡ be2 s n → r ≡ be2 s (n + 2) → b ≡ be4 s (n + 4) → Merges part l r b fit out out′ a → Asks s fit out out′ a

@@ -8,6 +8,7 @@ ghost use Rattle.listing.specs.Writing.{Wrote};
 ghost use Rattle.answer.specs.Responding.{framed, refusalBytes, Prints, Asks, Rooms, Responds};
 ghost use Rattle.au.specs.Merges.{fitOf, Cleared};
 use au::Answer;
+use au::clear_all;
 use au::merge_plain;
 use image::be2;
 use image::be4;
@@ -113,7 +114,7 @@ fn ask(
     )
 }
 
-// The bytes that program `merge` writes for this input, at the front of `out`, and how many there are.
+// The bytes that program `merge` writes for this input, at the front of `out`, and how many there are. The work buffers are cleared.
 pub fn respond(
     input: &[u8],
     lefts: &mut [u16],
@@ -125,11 +126,12 @@ pub fn respond(
     out: &mut [u8],
 ) -> usize
     requires { ⌜ Rooms (now lefts) (now rights) (now index) (now pairs) (now terms) (now runs) (now out) ⌝ }
-    ensures { λ r. ⌜ Responds (now (input .entry)) (now (out .entry)) (now (out .exit)) r × Cleared (framed (now (input .entry))) (now (lefts .entry)) (now (lefts .exit)) (now (rights .entry)) (now (rights .exit)) (now (index .entry)) (now (index .exit)) (now (pairs .entry)) (now (pairs .exit)) (now (terms .entry)) (now (terms .exit)) (now (runs .entry)) (now (runs .exit)) ⌝ }
+    ensures { λ r. ⌜ Responds (now (input .entry)) (now (out .entry)) (now (out .exit)) r × Cleared true (now (lefts .entry)) (now (lefts .exit)) (now (rights .entry)) (now (rights .exit)) (now (index .entry)) (now (index .exit)) (now (pairs .entry)) (now (pairs .exit)) (now (terms .entry)) (now (terms .exit)) (now (runs .entry)) (now (runs .exit)) ⌝ }
 {
     if is_framed(input) {
         let a = ask(input, lefts, rights, index, pairs, terms, runs, out);
         return print(out, a);
     }
+    clear_all(lefts, rights, index, pairs, terms, runs);
     refusal(out, 2)
 }

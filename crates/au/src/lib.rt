@@ -248,7 +248,7 @@ fn clear8(s: &mut [u64])
 }
 
 // the plain work buffers after a refusal
-fn clear_all(
+pub fn clear_all(
     lefts: &mut [u16],
     rights: &mut [u16],
     index: &mut [u16],

@@ -1,4 +1,4 @@
--- The ways in which a call of `merge` ends, from its contract alone; and the run behind a listing.
+-- The ways in which the definition of a call ends (`mergeOf`); from the contract of a call, which answer goes with which end; and the run behind a listing.
 use mathlib.Core.Path.{_≡_, refl, sym, ap, _∙_}
 use mathlib.Core.Logic.{_≢_, _↔_}
 use mathlib.Core.Bool.{Bool, true, false}
@@ -25,11 +25,11 @@ use Rattle.au.specs.Merges.{answerOf, Carries, Merges}
 abbrev pub Asked : List ℕ → ℕ → ℕ → Type 0
 Asked image left right = (left < length (tablesOf image .classes)) × (right < length (tablesOf image .classes))
 
--- the image keeps the rules of the table of refusals below k
+-- the image keeps the rules of the table of refusals from 2 on, below k
 abbrev pub Sound : List ℕ → ℕ → Type 0
 Sound image k = (j : ℕ) → 2 ≤ j → j < k → Keeps image j
 
--- nothing of 1 to 11 is broken
+-- nothing of 1 to 11 is the case
 pub record Taken (fit : Bool) (image : List ℕ) (left right : ℕ) : Type 0 where
   pub fits : fit ≡ true
   pub sound : Sound image 11

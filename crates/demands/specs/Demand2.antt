@@ -1,4 +1,4 @@
--- Demand 2, of a call of `merge`, from its contract: the formula's readings, its size and mass, and the transport plans of the steps that build it.
+-- Demand 2, of a call of `merge` that is not refused, from its contract: the formula's readings, its size and mass. Then, of the definitions: the transport plans that turns take.
 use mathlib.Core.Path.{_≡_, refl, sym, ap, _∙_, subst}
 use mathlib.Core.Bool.{Bool, true, false}
 use mathlib.Core.List.{List, [], _∷_, map, append-assoc}
@@ -28,7 +28,7 @@ module _ (image : List ℕ) (left right budget : ℕ) (fit : Bool) (out out′ :
   t = tablesOf image
 
   -- the run behind the listing
-  abbrev o : Outcome
+  abbrev pub o : Outcome
   o = accepted image left right budget fit out out′ n m .o
 
   abbrev ran : runOf t (left, right) budget ≡ ok o
@@ -37,18 +37,18 @@ module _ (image : List ℕ) (left right budget : ℕ) (fit : Bool) (out out′ :
   valid : Valid t
   valid = A.valid image t (read-of image (accepted image left right budget fit out out′ n m .taken .sound))
 
-  -- The term is the one that the steps build, and the first n bytes of the output are its listing.
+  -- o is what the run of the definitions gives, and the first n bytes of the output are its listing.
   pub the-listing : (runOf t (left, right) budget ≡ ok o) × (n ≡ length (listingOf o)) × (take n out′ ≡ listingOf o)
   the-listing = let a = accepted image left right budget fit out out′ n m in (a .ran, a .long, a .listed)
 
-  -- "The first line has the status (`complete` or `partial`), pairs, rounds, size, mass."
+  -- The output begins with o's first line; what its bytes tell: `first-line-tells` (FirstLine).
   pub the-first-line : take (length (firstLine o)) out′ ≡ firstLine o
   unfolding listingOf
   the-first-line =
       let a = accepted image left right budget fit out out′ n m in
       ap (take (length (firstLine o))) (a .whole ∙ append-assoc (firstLine o) _ _) ∙ take-at (firstLine o) _ (length (firstLine o)) refl
 
-  -- "The root is last": the pool's terms stand over earlier ones, and the root is one of them.
+  -- o has a term: the pool's terms stand over earlier ones, no two alike, and the root is one of them.
   pub the-term : PoolValid (o .pool) × (o .root < length (o .pool))
   the-term = L.run-pool t valid (left, right) (accepted image left right budget fit out out′ n m .taken .asked) budget o ran
 
@@ -60,12 +60,12 @@ module _ (image : List ℕ) (left right budget : ℕ) (fit : Bool) (out out′ :
   pub second-reading : Belongs t (readSecond (treeAt (o .pool) (o .root))) right
   second-reading = L.readings t valid (left, right) (accepted image left right budget fit out out′ n m .taken .asked) budget o ran .1
 
-  -- The first line's size and mass are the formula's.
+  -- The size and mass of o, which the first line has, are the formula's.
   pub size-and-mass : termQuality (treeAt (o .pool) (o .root)) ≡ o .quality
   size-and-mass = L.run-quality t valid (left, right) (accepted image left right budget fit out out′ n m .taken .asked) budget o ran
 
 -- ---- the transport plans of the steps
--- What a pair's turn chose, over the qualities q of the round before: nothing better; a structural action, each joined pair once; or a transport action with a plan x.
+-- What the turn w of pair p chose, over the qualities q of the round before: its term stays; or a structural action, each joined pair once; or a transport action with a plan x.
 pub data Chose (t : Tables) (q : Two → Two) (p : Two) (w : Turn) : Type 0 where
   stayed : w .choice ≡ stay → w .quality ≡ q p → Chose t q p w
   aligned : (a : Action) → In a (structural t (p .0) (p .1)) → w .choice ≡ act (ofAction a) → w .quality ≡ worth q (ofAction a) → Chose t q p w
@@ -101,7 +101,7 @@ module _ (t : Tables) (q : Two → Two) (p : Two) where
       go none e = W
       go (some x) e = offer-chose (ofPlan a x) w (planned a (h a here) x refl refl (margins P x e) (λ y Y. least P x e y Y)) W
 
-  -- "Each transport plan meets its margins at the least size, then mass, of all whole-number plans": every plan that a turn takes.
+  -- "Each transport plan meets its margins at the least size, then mass, of all whole-number plans": the plan that a turn chooses, if it chooses one.
   -- The turns of round r, over the graph's pairs ps, are `turnsOf t ps (qualitiesAfter r t ps)`: `turnOf` of each pair with q = `lookUp (0, 0) ps (qualitiesAfter r t ps)`.
   pub turn-plans : Chose t q p (turnOf t q p)
   unfolding turnOf
@@ -109,7 +109,7 @@ module _ (t : Tables) (q : Two → Two) (p : Two) where
       transports-chose (transports t (p .0) (p .1)) (λ a i. i) _
       (actions-chose (structural t (p .0) (p .1)) (λ a i. i) _ (stayed refl refl))
 
--- ".. of the steps that build the formula": in every round of a run each turn is one of these.
+-- So each turn of round r, over any pairs ps. In a run (`roundsFrom`, spec/Run) ps are the pairs of its graph.
 each-in-map : {X Y : Type 0} (f : X → Y) (l : List X) (y : Y) → In y (map f l) → (x : X) × In x l × (y ≡ f x)
 each-in-map f (x ∷ l) y here = (x, here, refl)
 each-in-map f (x ∷ l) y (there i) = let (z, j, e) = each-in-map f l y i in (z, there j, e)

@@ -1,4 +1,4 @@
--- Demand 3, of calls of `merge`, from their contracts: short and long runs, least derivations, what is reported. Each premise is what a caller has: the contract of a call, and its own budgets.
+-- Demand 3, of calls of `merge`, from their contracts: short and long runs, least derivations, what is reported. Besides a call's contract and budget, `least-after`, `completes` and `pairs-reported` take the number of pairs of its full graph (`pair-count`: there is one).
 use mathlib.Core.Path.{_≡_, refl, sym, ap, _∙_}
 use mathlib.Core.Logic.{_↔_}
 use mathlib.Core.Bool.{Bool, true, false}
@@ -38,11 +38,11 @@ module _ (image : List ℕ) (left right budget : ℕ) (fit : Bool) (out out′ :
   abbrev ran : runOf t (left, right) budget ≡ ok o
   ran = accepted image left right budget fit out out′ n m .ran
 
-  -- "After any r finished rounds the queried pair has the quality of one of its derivations of height at most r, and every other has at least as much."
+  -- "After any r finished rounds the queried pair has the quality of one of its derivations of height at most r, and every other has at least as much": for r the rounds reported.
   pub least-of-height : LeastOf t (o .rounds) (left, right) (o .quality)
   least-of-height = D.least-of-height t (left, right) budget o ran
 
-  -- "After any r finished rounds": of every r, for a run that is not cut short in building.
+  -- "After any r finished rounds": of every r, reached or not, for a run that is not cut short in building. The run's quality is the one after the rounds reported.
   pub least-after : (k : ℕ) → PairCount t (left, right) k → k ≤ budget
       → (ps : List Two) × (c : ℕ) × (build t (left, right) budget ≡ ok (passed ps c)) × (o .quality ≡ qualityAfter t ps (o .rounds) (left, right)) × ((r : ℕ) → LeastOf t r (left, right) (qualityAfter t ps r (left, right)))
   least-after k n h = go (run-ends t (left, right) budget o ran)
@@ -109,7 +109,7 @@ module _ (image : List ℕ) (left right b c : ℕ) (h : b ≤ c) (fit fit₂ : B
       pub never-above : l .quality ⊑ s .quality
       never-above = D.never-above (tablesOf image) (left, right) b c s l h (ran image left right b fit out out′ n short) (ran image left right c fit₂ out₂ out₂′ k long)
 
-      -- "A complete short run makes a complete long one with the same bytes."
+      -- "A complete short run makes a complete long one with the same bytes": the same outcome, so it is complete, and its listing has the same bytes.
       pub same-run : s .complete ≡ true → l ≡ s
       same-run e = ok-inj (sym (ran image left right c fit₂ out₂ out₂′ k long) ∙ D.stays-complete (tablesOf image) (left, right) b c s h (ran image left right b fit out out′ n short) e)
 
@@ -123,14 +123,14 @@ module _ (image : List ℕ) (left right b c : ℕ) (h : b ≤ c) (fit fit₂ : B
           let q = ap (λ (z : Outcome). listingOf z) (same-run e) in
           (z .long ∙ ap length q ∙ sym (a .long), z .listed ∙ q ∙ sym (a .listed))
 
-    -- .. and the long one is not refused where its buffers are long enough
+    -- .. and the long one is not refused, where no work buffer is too short and the output has room for the short one's listing
     pub long-answers : s .complete ≡ true → (r : Answer) → Merges image left right c fit₂ out₂ out₂′ r → fit₂ ≡ true → n ≤ length out₂ → (k : ℕ) × (r ≡ Listing k)
     long-answers e r m f w =
         let a = accepted image left right b fit out out′ n short in
         listing-where image left right c fit₂ out₂ out₂′ r m .1
         (record { fits = f; sound = a .taken .sound; asked = a .taken .asked }, (s, D.stays-complete (tablesOf image) (left, right) b c s h (a .ran) e, rw (a .long) at w))
 
-  -- A short run that is refused by 12 or 13 makes a long one refused by the same number.
+  -- A short run that is refused by 12 or 13 makes a long one refused by the same number, where no work buffer is too short.
   stays : (k : ℕ) (r₂ : Answer) → fit₂ ≡ true → (Taken fit₂ image left right × (runOf (tablesOf image) (left, right) c ≡ refused k) → r₂ ≡ Refused k)
       → Taken fit image left right × (runOf (tablesOf image) (left, right) b ≡ refused k) → r₂ ≡ Refused k
   stays k r₂ f g (T, e) = g (record { fits = f; sound = T .sound; asked = T .asked }, D.stays-refused (tablesOf image) (left, right) b c k h e)

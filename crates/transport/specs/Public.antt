@@ -5,7 +5,7 @@ use mathlib.Core.List.{List}
 use Prim.Native.Nat.{ℕ, _*_}
 use lib.Dec.{leb, eqb}
 use lib.ListN.{length}
-use Rattle.spec.specs.Bytes.{both, Two, Res, ok, refused, _>>=_, rule}
+use Rattle.spec.specs.Bytes.{both, Two, Res, ok, refused, _>>=_, rule, workAfter}
 use Rattle.spec.specs.Transport.{Problem, Solution, solveCells, solvedBy, planAfter}
 use Rattle.wide.specs.Value.{unsigned}
 use Rattle.transport.specs.declared.Answer.{Answer}
@@ -42,3 +42,10 @@ transportOf fit supply demand sizes masses allowed plan = do
 pub record Told (o : Res Solution) (plan plan′ : List ℕ) (r : Answer) : Type 0 where
   pub is : told r ≡ totalsOf o
   pub after : plan′ ≡ planAfter plan o
+
+-- what `solve_transport` ensures: r is its answer; plan, costs and flow are the lent buffers before the call, plan′, costs′ and flow′ afterwards
+abbrev pub Ensures : (supply demand sizes masses allowed plan costs flow plan′ costs′ flow′ : List ℕ) → Answer → Type 0
+Ensures supply demand sizes masses allowed plan costs flow plan′ costs′ flow′ r =
+    Told (transportOf (both (leb 12675 (length costs)) (leb 4225 (length flow))) supply demand sizes masses allowed (length plan)) plan plan′ r
+    × (costs′ ≡ workAfter 0 (both (leb 12675 (length costs)) (leb 4225 (length flow))) costs)
+    × (flow′ ≡ workAfter 0 (both (leb 12675 (length costs)) (leb 4225 (length flow))) flow)

@@ -2,9 +2,9 @@
 ghost use mathlib.Core.Path.{_≡_};
 ghost use mathlib.Core.List.{List, map};
 ghost use Prim.Native.Nat.{ℕ, _+_, _-_, _*_, _^_, _≤_, _<_, min, max};
-ghost use lib.Dec.{eqb, leb};
+ghost use lib.Dec.{eqb};
 ghost use lib.ListN.{length, getD, set, take, drop, replicate};
-ghost use Rattle.spec.specs.Bytes.{sumTo, sum, pick, both, workAfter};
+ghost use Rattle.spec.specs.Bytes.{sumTo, sum, pick};
 ghost use Rattle.spec.specs.Transport.{largest, massOf};
 ghost use Rattle.wide.specs.Value.{unsigned};
 ghost use Rattle.wide.specs.Wrap.{Natural};
@@ -13,7 +13,7 @@ ghost use Rattle.transport.specs.Path.{Step, Steps, leftOn, leastOn, sen
 ghost use Rattle.transport.specs.Sending.{Midway, Sent, Start, Answered};
 ghost use Rattle.transport.specs.Cells.{cellsFrom, LaidTo, laidFrom, celled, totalFrom};
 ghost use Rattle.transport.specs.Solved.{Shaped, Solves, over};
-ghost use Rattle.transport.specs.Public.{shapeOf, shapedOf, transportOf, Told};
+ghost use Rattle.transport.specs.Public.{shapeOf, shapedOf, Told, Ensures};
 use search::search;
 use search::trace;
 use wide::Wide;
@@ -556,9 +556,7 @@ pub fn solve_transport(
     costs: &mut [u64],
     flow: &mut [u64],
 ) -> Answer
-    ensures { λ r. ⌜ Told (transportOf (both (leb 12675 (length (now (costs .entry)))) (leb 4225 (length (now (flow .entry))))) (now (supply .entry)) (now (demand .entry)) (now (sizes .entry)) (now (masses .entry)) (now (allowed .entry)) (length (now (plan .entry)))) (now (plan .entry)) (now (plan .exit)) r
-        × (now (costs .exit) ≡ workAfter 0 (both (leb 12675 (length (now (costs .entry)))) (leb 4225 (length (now (flow .entry))))) (now (costs .entry)))
-        × (now (flow .exit) ≡ workAfter 0 (both (leb 12675 (length (now (costs .entry)))) (leb 4225 (length (now (flow .entry))))) (now (flow .entry))) ⌝ }
+    ensures { λ r. ⌜ Ensures (now (supply .entry)) (now (demand .entry)) (now (sizes .entry)) (now (masses .entry)) (now (allowed .entry)) (now (plan .entry)) (now (costs .entry)) (now (flow .entry)) (now (plan .exit)) (now (costs .exit)) (now (flow .exit)) r ⌝ }
 {
     if costs.len() < 12675 {
         return Answer::Refused(1);
