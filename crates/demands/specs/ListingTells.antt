@@ -13,17 +13,17 @@ use Rattle.spec.specs.Bytes.{pick, Two, all, any, each, place, text, decimal}
 use Rattle.spec.specs.Pool.{Pool, Node, nodeAt, OP, LIT, VARIANTS, joinRuns, variantsNode}
 use Rattle.spec.specs.Run.{Outcome}
 use Rattle.spec.specs.Listing.{visitRuns, visitTerm, subterms, line, runField, headFields, termLine, listingOf}
-use Rattle.spec.specs.Meaning.{In, here, there, Term, lit, node, variants, Runs, run, runsOf, firstBranch, secondBranch, treeOf, treesAfter, treeAt}
+use Rattle.spec.specs.Meaning.{In, here, there, Term, lit, node, variants, run, runsOf, firstBranch, secondBranch, treeOf, treesAfter, treeAt}
 use Rattle.lgg.specs.Lists.{in-cons, in-nil}
 use Rattle.lgg.specs.Pool.{Formed, operation, literal, marked, PoolValid, numbered, getD-last, tree-operation, tree-literal}
 use Rattle.lgg.specs.PoolTrees.{tree-is}
-use Rattle.listing.specs.WalkLaws.{Closed, visit-fresh, visit-new, subterms-closed}
+use Rattle.listing.specs.WalkLaws.{visit-fresh, visit-new, subterms-closed}
 use Rattle.listing.specs.NumberLaws.{at-in}
 use Rattle.au.specs.declared.Answer.the-variants.{Listing}
 use Rattle.au.specs.Merges.{Merges}
 use Rattle.demands.specs.Calls.{accepted}
 use Rattle.demands.specs.Demand2 as D
-use Rattle.demands.specs.Fields.{All, Solid, Solids, all-append, solids-append, solid-of, heads, nil-cons, cut, line-cut, decimal-digits, decimal-solid, decimal-tells}
+use Rattle.demands.specs.Fields.{Solid, Solids, all-append, solids-append, solid-of, heads, nil-cons, cut, line-cut, decimal-digits, decimal-solid, decimal-tells}
 use Rattle.demands.specs.FirstLine.{SameReport, first-line-cut}
 
 -- ---- the fields of a line
