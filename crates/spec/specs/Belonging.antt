@@ -13,7 +13,7 @@ use Rattle.spec.specs.Monomial.{classes}
 use Rattle.spec.specs.Transport.{Cell, cost, forbidden, Problem, allowed, cellAt, supplyAt, demandAt, moved, rowFlow, colFlow, planSize, planMass}
 use Rattle.spec.specs.Action.{Action, TransportAction, structural, transports, cellPairs, joins}
 use Rattle.spec.specs.Pool.{litNode, opNode, variantsNode, joinRuns}
-use Rattle.spec.specs.Round.{startingQuality, qualityOver, ones, problemOver}
+use Rattle.spec.specs.Round.{startingQuality, qualityOver, ones, problemOver, qualitiesAfter}
 use Rattle.spec.specs.Meaning.{In, here, there, Term, lit, node, variants, Runs, done, run, termQuality, expand, readFirst, readSecond, reading, treeAt, treesAfter, Belongs, literal, ordered, unordered, AllBelong, noMore, andThen, Side, member, itself, padded, occurs, countIn, Plan, _⊑_, Derivation, start, action, transport, Places, noPlace, andPlace, Reachable, queried, joined, HoldsDoubled}
 
 -- ---- terms as trees
@@ -340,6 +340,11 @@ transport-only (transport a i qs ps x l e) = e ∙ go i ps x l
 
 no-transport-at-once : Derivation D 0 (7, 6) (5, 4) → ⊥
 no-transport-at-once d = let e : _≡_ {A = Two} (5, 4) (6, 6) = at-start (omega arith) d in let k : _≡_ {A = ℕ} 5 6 = ap (λ (z : Two). z .0) e in omega arith
+
+-- the same by rounds: (4, 5) improves twice
+by-rounds : qualitiesAfter 2 D ((4, 5) ∷ (2, 3) ∷ (0, 0) ∷ (1, 0) ∷ []) ≡ (6, 2) ∷ (4, 2) ∷ (1, 0) ∷ (2, 2) ∷ []
+unfolding qualitiesAfter
+by-rounds = refl
 
 -- ---- reachable pairs: (4, 5), then (2, 3) and (0, 0), then (1, 0)
 reaches : Reachable D (4, 5) (1, 0)

@@ -116,7 +116,7 @@ abbrev numberOf : Res Interned → ℕ
 numberOf (ok a) = a .term
 numberOf (refused n) = 99
 
-apart : map (λ n. numberOf (intern pool n)) (opNode 0 ((1, 1) ∷ (2, 1) ∷ []) ∷ opNode 4 [] ∷ litNode 0 8 ∷ opNode 5 ((0, 2) ∷ []) ∷ opNode 5 ((1, 1) ∷ (1, 1) ∷ (0, 1) ∷ []) ∷ variantsNode 1 2 ∷ []) ≡ 12 ∷ 12 ∷ 12 ∷ 12 ∷ 10 ∷ 3 ∷ []
+apart : map (λ n. numberOf (intern pool n)) (opNode 0 ((1, 1) ∷ (2, 1) ∷ []) ∷ opNode 4 [] ∷ litNode 0 8 ∷ opNode 5 ((0, 2) ∷ []) ∷ opNode 5 ((0, 1) ∷ []) ∷ opNode 5 ((0, 1) ∷ (1, 1) ∷ (2, 1) ∷ []) ∷ opNode 5 ((1, 1) ∷ (1, 1) ∷ (0, 1) ∷ []) ∷ variantsNode 1 2 ∷ []) ≡ 12 ∷ 12 ∷ 12 ∷ 12 ∷ 12 ∷ 12 ∷ 10 ∷ 3 ∷ []
 unfolding intern pool joinRuns
 apart = refl
 
