@@ -6,10 +6,11 @@ use Prim.Native.Nat.{ℕ, _*_}
 use Prim.Native.String.{String}
 use lib.ListN.{length}
 use Rattle.spec.specs.Bytes.{text, Two, Res, ok, refused}
-use Rattle.spec.specs.Image.{Tables, Operation, Class, Member}
+use Rattle.spec.specs.Image.{Tables, Operation, Class, Member, tablesRules}
 use Rattle.spec.specs.Monomial.{pairOf, padPair, representationPairs, narrowPairs}
 use Rattle.spec.specs.Transport.{Cell, cost, forbidden, Problem, Solution, solveTransport}
 use Rattle.spec.specs.Pool.{Pool, opNode, litNode, variantsNode, joinRuns, intern, Interned, Order, less, greater, structuralCmp, sortRuns}
+use Rattle.spec.specs.Action.{Action, alignments, joins}
 use Rattle.spec.specs.Merge.{programOf}
 use Rattle.spec.specs.Asked.{hex}
 
@@ -90,6 +91,43 @@ pairs-in-order = refl
 no-itself : representationPairs tables 1 2 2 ≡ []
 unfolding representationPairs
 no-itself = refl
+
+-- ---- actions: operations Lit, SPair, MSet with identity 0, PlainN, PlainN
+abbrev classOf : ℕ → ℕ → ℕ → Class
+classOf first count size = record { first = first; count = count; best = first; size = size }
+
+abbrev memberOf : ℕ → ℕ → ℕ → ℕ → Member
+memberOf o v first count = record { op = o; value = v; first = first; count = count }
+
+-- classes 0 and 1 literals; 2 SPair (0, 1) and MSet 0, 1; 3 SPair (0, 0) and operation 4 over 1; 4 operation 3 over 0; 5 the same over 0 and over 1; 6 over 2 and over 3; 7 a literal and MSet over 4,294,967,296 times 0
+abbrev acting : Tables
+acting = record {
+  operations = record { kind = 9; flag = 0; identity = 65535 } ∷ record { kind = 5; flag = 1; identity = 65535 } ∷ record { kind = 7; flag = 1; identity = 0 } ∷ record { kind = 4; flag = 0; identity = 65535 } ∷ record { kind = 4; flag = 0; identity = 65535 } ∷ [];
+  classes = classOf 0 1 1 ∷ classOf 1 1 1 ∷ classOf 2 2 3 ∷ classOf 4 2 3 ∷ classOf 6 1 2 ∷ classOf 7 2 2 ∷ classOf 9 2 4 ∷ classOf 11 2 1 ∷ [];
+  members = memberOf 0 5 0 0 ∷ memberOf 0 7 0 0 ∷ memberOf 1 0 0 2 ∷ memberOf 2 0 2 2 ∷ memberOf 1 0 4 2 ∷ memberOf 4 0 6 1 ∷ memberOf 3 0 7 1 ∷ memberOf 3 0 8 1 ∷ memberOf 3 0 9 1 ∷ memberOf 3 0 10 1 ∷ memberOf 3 0 11 1 ∷ memberOf 0 9 12 0 ∷ memberOf 2 0 12 2 ∷ [];
+  children = (0, 1) ∷ (1, 1) ∷ (0, 1) ∷ (1, 1) ∷ (0, 1) ∷ (0, 1) ∷ (1, 1) ∷ (0, 1) ∷ (0, 1) ∷ (1, 1) ∷ (2, 1) ∷ (3, 1) ∷ (0, 4294967295) ∷ (0, 1) ∷ [];
+}
+
+acting-accepted : tablesRules acting ≡ ok acting
+unfolding tablesRules
+acting-accepted = refl
+
+-- straight, not crossed where one side's classes are equal; then each row with each column; left members outermost
+joins-in-order : map (joins acting) ((2, 3) ∷ (3, 2) ∷ (2, 2) ∷ (0, 1) ∷ (3, 4) ∷ (5, 6) ∷ (7, 1) ∷ [])
+    ≡ ((0, 0) ∷ (1, 0) ∷ (0, 0) ∷ (0, 3) ∷ (1, 0) ∷ (1, 3) ∷ [])
+    ∷ ((0, 0) ∷ (0, 1) ∷ (0, 0) ∷ (0, 1) ∷ (3, 0) ∷ (3, 1) ∷ [])
+    ∷ [] ∷ [] ∷ [] ∷ ((0, 2) ∷ (0, 3) ∷ (1, 2) ∷ (1, 3) ∷ []) ∷ [] ∷ []
+unfolding joins
+joins-in-order = refl
+
+-- MSet, Set and Lit are not paired by position, Plain0 is, without children; unequal arities are not
+by-position : map (λ k. length (alignments k 0 (1 ∷ []) (2 ∷ []))) (1 ∷ 4 ∷ 6 ∷ 7 ∷ 8 ∷ 9 ∷ []) ≡ 1 ∷ 1 ∷ 1 ∷ 0 ∷ 0 ∷ 0 ∷ []
+unfolding alignments
+by-position = refl
+
+no-children : (alignments 0 3 [] [] ≡ record { op = 3; pairs = [] } ∷ []) × (alignments 4 3 (1 ∷ 2 ∷ []) (1 ∷ []) ≡ [])
+unfolding alignments
+no-children = (refl, refl)
 
 -- ---- terms: 0 an operation, 1 and 2 literals, 3 a marked place, then operations over them
 unfoldable pool : Pool
