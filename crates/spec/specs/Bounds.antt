@@ -8,7 +8,8 @@ use lib.ListN.{replicate}
 use Rattle.spec.specs.Bytes.{text, Two, upFrom, ok, refused, cutShort}
 use Rattle.spec.specs.Image.{tablesOf}
 use Rattle.spec.specs.Graph.{enter, buildFrom}
-use Rattle.spec.specs.Pool.{litNode, intern, interned}
+use Rattle.spec.specs.Pool.{Pool, litNode, intern, interned}
+use Rattle.spec.specs.Round.{Turn, act, turnsTerms}
 use Rattle.spec.specs.Transport.{Cell, cost, Problem, Solution, solveTransport}
 use Rattle.spec.specs.Merge.{mergeOf, programOf, OUTPUT}
 use Rattle.spec.specs.Asked.{hex}
@@ -153,6 +154,36 @@ cut-before-12 = refl
 met-12 : buildFrom 1 (tablesOf imageE) ((2, 3) ∷ map (λ i. (i, 9)) (upFrom 0 4095)) 0 ≡ refused 12
 unfolding buildFrom tablesOf imageE upFrom
 met-12 = refl
+
+-- a full pool and a turn that would enter a term: 13 is met only where the check of that turn passes
+unfoldable fullPool : Pool
+unfolding upFrom
+fullPool = map (λ i. litNode 0 i) (upFrom 0 16384)
+
+abbrev turn : Turn
+turn = record { quality = (1, 0); choice = act (record { op = 1; places = []; counts = [] }) }
+
+cut-before-13 : turnsTerms (tablesOf imageE) (λ p. 0) ((2, 3) ∷ []) (turn ∷ []) 0 fullPool ≡ ok cutShort
+unfolding turnsTerms
+cut-before-13 = refl
+
+met-13 : turnsTerms (tablesOf imageE) (λ p. 0) ((2, 3) ∷ []) (turn ∷ []) 1 fullPool ≡ refused 13
+unfolding turnsTerms tablesOf imageE fullPool
+met-13 = refl
+
+-- 3 checks in building, 3 in starting terms: none is left for a round; and a budget of which two bytes are not enough
+budget-6 : mergeOf true imageE 2 3 6 200 ≡ ok (text "partial pairs 3 rounds 0 size 6 mass 6\n0 lit 0 5\n1 lit 0 7\n2 op 1 0:1 1:1\n3 op 1 0:2\n4 variants 2:1 3:1\n")
+unfolding mergeOf imageE text
+budget-6 = refl
+
+budget-65536 : programOf (imageE ++ (0 ∷ 2 ∷ 0 ∷ 3 ∷ 0 ∷ 1 ∷ 0 ∷ 0 ∷ [])) ≡ text "complete pairs 3 rounds 1 size 4 mass 2\n0 lit 0 5\n1 lit 0 7\n2 variants 1:1 0:1\n3 op 1 0:1 2:1\n"
+unfolding programOf imageE text
+budget-65536 = refl
+
+-- literals 5, 7, 6, 7 of four classes
+doubled-apart : programOf (hex "0000005d0100010004000400000900ffff00000001000000000001000100010001000000010002000100020000000100030001000300000001000000000005000000000000000000070000000000000000000600000000000000000007000000000000000100000009") ≡ text "refused 10\n"
+unfolding programOf hex text
+doubled-apart = refl
 
 -- 14 last
 fourteen-after-2 : mergeOf true [] 0 0 0 0 ≡ refused 2

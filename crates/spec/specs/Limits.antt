@@ -97,9 +97,21 @@ refused-15-plan : solveTransport true (problem (1 ∷ []) (1 ∷ []) (cost 1 1 �
 unfolding solveTransport
 refused-15-plan = refl
 
+refused-15-more-cells : solveTransport true (problem (1 ∷ []) (1 ∷ []) (cost 1 1 ∷ cost 1 1 ∷ [])) 1 ≡ refused 15
+unfolding solveTransport
+refused-15-more-cells = refl
+
+refused-15-short-plan : solveTransport true (problem (1 ∷ []) (1 ∷ []) (cost 1 1 ∷ [])) 0 ≡ refused 15
+unfolding solveTransport
+refused-15-short-plan = refl
+
 refused-15-rows : solveTransport true (problem (replicate 66 1) [] []) 0 ≡ refused 15
 unfolding solveTransport
 refused-15-rows = refl
+
+plan-written : planAfter (4 ∷ []) (solveTransport true (problem (2 ∷ []) (2 ∷ []) (cost 1 1 ∷ [])) 1) ≡ 2 ∷ []
+unfolding planAfter solveTransport
+plan-written = refl
 
 plan-kept : planAfter (4 ∷ 5 ∷ []) (refused 16) ≡ 4 ∷ 5 ∷ []
 unfolding planAfter

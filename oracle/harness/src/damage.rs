@@ -1,6 +1,7 @@
 // SPDX-License-Identifier: Apache-2.0
 //! Damaged images: one for each way to break a rule, and some that break two.
 
+use crate::r#gen;
 use crate::img::{Class, Img, Member, Operation, Query};
 
 fn put(bytes: &mut [u8], at: usize, number: u64, width: usize) {
@@ -310,5 +311,33 @@ pub fn small() -> Vec<(String, Vec<u8>)> {
     let mut tiny = vec![0, 0, 0, 9, 1, 0, 1, 0, 1, 0, 1, 0, 0];
     tiny.extend([0; 8]);
     found.push(("5: an image of 13 bytes".to_string(), tiny));
+    found
+}
+
+/// Each kind with an arity, over as many children, one less and one more.
+pub fn more() -> Vec<Vec<u8>> {
+    let op = |kind| Operation {
+        kind,
+        identity: None,
+    };
+    let mut found = Vec::new();
+    for (kind, arity) in [(0, 0), (1, 1), (2, 2), (3, 3), (5, 2)] {
+        for count in usize::max(arity, 1) - 1..=arity + 1 {
+            let children = vec![0; count];
+            let mut img = Img {
+                ops: vec![op(9), op(kind)],
+                classes: vec![
+                    r#gen::class(vec![r#gen::lit(0, 5)]),
+                    r#gen::class(vec![r#gen::over(1, &children)]),
+                ],
+            };
+            img.settle();
+            found.push(img.frame(&Query {
+                left: 1,
+                right: 0,
+                budget: 4,
+            }));
+        }
+    }
     found
 }

@@ -10,7 +10,7 @@ use crate::img::{Class, Img, Member, Operation, Query};
 use crate::limits;
 use crate::rng::Rng;
 
-pub const FAMILIES: [(&str, usize); 17] = [
+pub const FAMILIES: [(&str, usize); 19] = [
     ("mixed", 30),
     ("twins", 24),
     ("ties", 10),
@@ -29,7 +29,13 @@ pub const FAMILIES: [(&str, usize); 17] = [
     ("crowded", 0),
     ("terms", 0),
     ("long", 0),
+    // The sample's second part.
+    ("literals", 4),
+    ("reverse", 4),
 ];
+
+/// The families of the sample's first part.
+pub const FIRST: usize = 17;
 
 const PLAIN: [u8; 5] = [0, 1, 2, 3, 4];
 
@@ -666,6 +672,61 @@ fn huge(rng: &mut Rng) -> Img {
     img
 }
 
+/// Literals of two operations under commutative ones, so that the order of terms
+/// meets heads, operations and values.
+fn literals(rng: &mut Rng) -> Img {
+    let top = *rng.pick(&[5, 7, 8]);
+    let mut img = Img {
+        ops: vec![op(9, None), op(9, None), op(top, None), op(1, None)],
+        classes: vec![],
+    };
+    img.ops.rotate_right(rng.below(4));
+    let find = |kind: u8| img.ops.iter().position(|o| o.kind == kind).unwrap_or(0);
+    let (first, plain) = (find(9), find(1));
+    let top = find(top);
+    let last = img.ops.iter().rposition(|o| o.kind == 9).unwrap_or(0);
+    let mut used = HashSet::new();
+    while img.classes.len() < 4 {
+        let leaf = (*rng.pick(&[first, last]), *rng.pick(&[0, 1, 7, u32::MAX]));
+        if used.insert(leaf) {
+            img.classes.push(class(vec![lit(leaf.0, leaf.1)]));
+        }
+    }
+    for _ in 0..rng.below(3) {
+        let n = img.classes.len();
+        img.classes.push(class(vec![over(plain, &[rng.below(n)])]));
+    }
+    let n = img.classes.len();
+    let width = if img.ops[top].kind == 5 {
+        2
+    } else {
+        rng.range(2, 3)
+    };
+    for _ in 0..2 {
+        let children: Vec<usize> = (0..width).map(|_| rng.below(n)).collect();
+        img.classes.push(class(vec![over(top, &children)]));
+    }
+    img.order();
+    img.settle();
+    img
+}
+
+/// Small transports with an identity, in which a unit is placed and goes back.
+fn reverse(rng: &mut Rng) -> Img {
+    let style = Style {
+        kinds: vec![7, 7, 7, 8],
+        ops: 2,
+        classes: rng.range(4, 8),
+        members: rng.range(1, 3),
+        back: *rng.pick(&[4, 40]),
+        width: 3,
+        count: *rng.pick(&[1, 2, 3]),
+        identities: true,
+        few: true,
+    };
+    draw(rng, &style)
+}
+
 fn image(rng: &mut Rng, family: &str) -> Img {
     match family {
         "crowded" if rng.once_in(2) => limits::crowded(64, rng.range(62, 64)),
@@ -688,6 +749,8 @@ fn image(rng: &mut Rng, family: &str) -> Img {
         "wide" => wide(rng),
         "grid" => grid(rng),
         "huge" => huge(rng),
+        "literals" => literals(rng),
+        "reverse" => reverse(rng),
         _ => mixed(rng),
     }
 }
@@ -727,7 +790,7 @@ pub fn frames(rng: &mut Rng, family: &str) -> Vec<Vec<u8>> {
     let img = image(rng, if family == "damaged" { "mixed" } else { family });
     let n = img.classes.len();
     let last = [
-        "chain", "wide", "grid", "lists", "cells", "crowded", "terms", "long",
+        "chain", "wide", "grid", "lists", "cells", "crowded", "terms", "long", "literals",
     ]
     .contains(&family);
     let drawn = |rng: &mut Rng| {
@@ -796,11 +859,12 @@ fn damage(rng: &mut Rng, frame: &mut Vec<u8>) {
     }
 }
 
-/// A family by its weight.
-pub fn family(rng: &mut Rng) -> &'static str {
-    let all: usize = FAMILIES.iter().map(|f| f.1).sum();
+/// A family by its weight, among the first ones or among all.
+pub fn family(rng: &mut Rng, among: usize) -> &'static str {
+    let among = &FAMILIES[..among];
+    let all: usize = among.iter().map(|f| f.1).sum();
     let mut at = rng.below(all);
-    for (name, weight) in FAMILIES {
+    for &(name, weight) in among {
         if at < weight {
             return name;
         }

@@ -22,7 +22,7 @@ pub fn draw(seed: u64, count: usize, family: Option<&str>) -> Vec<Vec<u8>> {
     let mut rng = Rng::new(seed);
     let mut frames = Vec::new();
     while frames.len() < count {
-        let name = family.unwrap_or_else(|| r#gen::family(&mut rng));
+        let name = family.unwrap_or_else(|| r#gen::family(&mut rng, r#gen::FAMILIES.len()));
         frames.extend(r#gen::frames(&mut rng, name));
     }
     frames.truncate(count);

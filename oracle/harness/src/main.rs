@@ -7,7 +7,7 @@ use harness::drive::{Counts, compare};
 use harness::img::{Img, Query};
 use harness::judge::{Judge, pack, unpack};
 use harness::{budgets, damage, draw, limits, pairs, plans, sample, small, text};
-use model::slip::Slip;
+use model::slip::{SLIPS, Slip};
 
 fn stdin() -> Result<Vec<u8>, String> {
     let mut bytes = Vec::new();
@@ -131,6 +131,15 @@ fn run(words: &[&str]) -> Result<(), String> {
             print!(
                 "{}",
                 plans::slips(number(seed)?, number(count)? as usize, &SOLVER_SLIPS)
+            );
+            Ok(())
+        }
+        ["plans-catch", name, seed, count] => {
+            let slip = SLIPS.iter().find(|slip| slip.1 == *name);
+            let slip = slip.ok_or("no such slip")?.0;
+            print!(
+                "{}",
+                plans::catch(number(seed)?, number(count)? as usize, slip)
             );
             Ok(())
         }

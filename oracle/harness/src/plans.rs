@@ -366,6 +366,19 @@ pub fn slips(seed: u64, count: usize, slips: &[Slip]) -> String {
         .collect()
 }
 
+/// The smallest drawn problem that a slip of the solver changes, with its answer.
+pub fn catch(seed: u64, count: usize, slip: Slip) -> String {
+    let mut rng = Rng::new(seed);
+    let changed = |drawn: &Drawn| by_model(drawn, slip) != by_model(drawn, Slip::None);
+    (0..count)
+        .map(|_| draw(&mut rng))
+        .filter(|drawn| drawn.cells.len() <= 20 && changed(drawn))
+        .min_by_key(|drawn| (drawn.cells.len(), line(drawn).len()))
+        .map_or_else(String::new, |drawn| {
+            format!("{}\n  {}\n", line(&drawn), by_model(&drawn, Slip::None))
+        })
+}
+
 /// The stored problems with their answers: a line each, the answer indented.
 pub fn check(stored: &str) -> Result<usize, String> {
     let mut count = 0;
@@ -386,8 +399,16 @@ pub fn check(stored: &str) -> Result<usize, String> {
     Ok(count)
 }
 
-/// The P items of "Edges of the rules" and refusal 15.
-const EDGES: [&str; 12] = [
+/// Whether a stored problem catches a slip.
+pub fn catches(stored: &str, slip: Slip) -> bool {
+    stored
+        .lines()
+        .filter_map(|asked| parse(asked).ok())
+        .any(|drawn| by_model(&drawn, slip) != by_model(&drawn, Slip::None))
+}
+
+/// The P items of "Edges of the rules", refusal 15, and rare orders.
+const EDGES: [&str; 15] = [
     "supply 2 1 demand 1 2 cells 1,0 2,2 2,2 2,2",
     "supply demand 1 cells",
     "supply 1 demand cells",
@@ -400,6 +421,10 @@ const EDGES: [&str; 12] = [
     "supply 1 demand 1 cells",
     "supply 1 demand cells 1,1",
     "supply 4294967295 demand 4294967295 cells 4294967295,4294967295",
+    // The order of a column's edges, and the edges that lead back from the sink.
+    "supply 1 1 3 demand 3 2 cells - 0,1 0,1 0,0 0,1 0,0",
+    "supply 310868728 829044963 186531264 3533700926 2528021569 460417090 demand 3820217976 1077323100 2951043464 cells - 0,1 0,1 1,2 2,0 2,2 2,1 1,2 1,0 1,2 1,2 0,0 2,1 2,1 1,1 2,0 - 0,0",
+    "supply 29 30 30 29 demand 30 28 30 30 cells 1,2 1,0 0,1 1,1 2,0 2,1 2,0 2,1 1,0 1,2 1,0 0,1 1,2 0,0 2,1 0,2",
 ];
 
 /// Problems for the stored sample: each slip of the solver is caught by some.

@@ -57,39 +57,40 @@ const TOO_LARGE: [&str; 18] = [
 const CATCHES: usize = 4;
 const FRAMES: usize = 380;
 
-pub fn choose(source: &str, seed: u64, drawn: usize) -> Result<Vec<Stored>, String> {
-    let mut fixed: Vec<Vec<u8>> = Vec::new();
-    for (_, img, queries) in small::images(source)? {
-        fixed.extend(queries.iter().map(|query| img.frame(query)));
-    }
-    fixed.extend(damage::small().into_iter().map(|(_, frame)| frame));
-    for (what, frame) in limits::cases() {
-        if !TOO_LARGE.contains(&what.as_str()) {
-            fixed.push(frame);
-        }
-    }
-    let mut rng = Rng::new(seed);
+/// The slips that the first part of the sample is chosen by; the second part, drawn
+/// apart, stands behind it.
+const FIRST_SLIPS: usize = 54;
+
+/// Drawn frames of at most so many bytes, the smallest first.
+fn draw(
+    rng: &mut Rng,
+    count: usize,
+    most: usize,
+    family: fn(&mut Rng) -> &'static str,
+) -> Vec<Vec<u8>> {
     let mut pool: Vec<Vec<u8>> = Vec::new();
-    while pool.len() < drawn {
-        let family = r#gen::family(&mut rng);
-        for frame in r#gen::frames(&mut rng, family) {
-            if frame.len() <= 320 {
+    while pool.len() < count {
+        let family = family(rng);
+        for frame in r#gen::frames(rng, family) {
+            if frame.len() <= most {
                 pool.push(frame);
             }
         }
     }
     pool.sort_by_key(|frame| (frame.len(), frame.clone()));
     pool.dedup();
-    let mut chosen: Vec<Vec<u8>> = Vec::new();
-    let mut taken = BTreeSet::new();
-    for frame in fixed {
-        if taken.insert(frame.clone()) {
-            chosen.push(frame);
-        }
-    }
-    // Every slip caught, by small frames.
+    pool
+}
+
+/// Every slip caught, by small frames.
+fn catch(
+    slips: &[(Slip, &str, &str)],
+    pool: &[Vec<u8>],
+    chosen: &mut Vec<Vec<u8>>,
+    taken: &mut BTreeSet<Vec<u8>>,
+) {
     let answers: Vec<String> = pool.iter().map(|f| model::answer(f, Slip::None)).collect();
-    for &(slip, _, _) in SLIPS {
+    for &(slip, _, _) in slips {
         let mut caught = chosen
             .iter()
             .filter(|f| f.len() < 600 && model::answer(f, slip) != model::answer(f, Slip::None))
@@ -105,6 +106,29 @@ pub fn choose(source: &str, seed: u64, drawn: usize) -> Result<Vec<Stored>, Stri
             }
         }
     }
+}
+
+pub fn choose(source: &str, seed: u64, drawn: usize) -> Result<Vec<Stored>, String> {
+    let mut fixed: Vec<Vec<u8>> = Vec::new();
+    for (_, img, queries) in small::images(source)? {
+        fixed.extend(queries.iter().map(|query| img.frame(query)));
+    }
+    fixed.extend(damage::small().into_iter().map(|(_, frame)| frame));
+    for (what, frame) in limits::cases() {
+        if !TOO_LARGE.contains(&what.as_str()) {
+            fixed.push(frame);
+        }
+    }
+    let mut rng = Rng::new(seed);
+    let pool = draw(&mut rng, drawn, 320, |rng| r#gen::family(rng, r#gen::FIRST));
+    let mut chosen: Vec<Vec<u8>> = Vec::new();
+    let mut taken = BTreeSet::new();
+    for frame in fixed {
+        if taken.insert(frame.clone()) {
+            chosen.push(frame);
+        }
+    }
+    catch(&SLIPS[..FIRST_SLIPS], &pool, &mut chosen, &mut taken);
     // The rest: some of each phase, some crossed, some with several rounds.
     let quotas: [(usize, fn(&Outcome) -> bool); 6] = [
         (14, |o| o.met.crossed > 0),
@@ -128,6 +152,20 @@ pub fn choose(source: &str, seed: u64, drawn: usize) -> Result<Vec<Stored>, Stri
             }
         }
     }
+    // The second part.
+    let mut rng = Rng::new(seed + 1);
+    for frame in damage::more() {
+        if taken.insert(frame.clone()) {
+            chosen.push(frame);
+        }
+    }
+    let pool = draw(&mut rng, drawn, 900, |rng| match rng.below(4) {
+        0 => "literals",
+        1 => "reverse",
+        2 => "cells",
+        _ => r#gen::family(rng, r#gen::FAMILIES.len()),
+    });
+    catch(&SLIPS[FIRST_SLIPS..], &pool, &mut chosen, &mut taken);
     chosen
         .into_iter()
         .map(|frame| {
@@ -138,7 +176,10 @@ pub fn choose(source: &str, seed: u64, drawn: usize) -> Result<Vec<Stored>, Stri
 }
 
 /// Slips that change no result, so that no frame can catch them: see HOW.md.
-pub const EQUAL: [&str; 2] = ["PathsBySizeThenMass", "VFromOpenCells"];
+pub const EQUAL: [&str; 3] = ["PathsBySizeThenMass", "VFromOpenCells", "CapacityOfRow"];
+
+/// Slips of the solver that only stored problems catch (transport.txt).
+pub const BY_PROBLEMS: [&str; 3] = ["RowsFromLast", "SinkLast", "NoSinkEdges"];
 
 /// Which frames catch each slip.
 pub fn table(stored: &[Stored]) -> Vec<(&'static str, &'static str, Vec<usize>)> {

@@ -233,7 +233,8 @@ fn spans_hold(image: &Image, slip: Slip) -> bool {
 fn children_hold(image: &Image, slip: Slip) -> bool {
     image.members.iter().all(|member| {
         let kind = image.kind_of(member);
-        ARITY[usize::from(kind)].is_none_or(|arity| arity == member.count)
+        let any = slip == Slip::Plain1AnyArity && kind == 1;
+        ARITY[usize::from(kind)].is_none_or(|arity| arity == member.count || any)
             && image.children_of(member).iter().all(|child| {
                 child.class < image.classes.len()
                     && child.count >= 1
@@ -269,7 +270,9 @@ fn literals_hold(image: &Image, slip: Slip) -> bool {
     for class in 0..image.classes.len() {
         for member in image.members_of(class) {
             if image.kind_of(member) == LIT {
-                found.push((member.operation, member.literal, class));
+                let by_value = slip == Slip::LiteralByValue;
+                let operation = if by_value { 0 } else { member.operation };
+                found.push((operation, member.literal, class));
             }
         }
     }

@@ -28,7 +28,7 @@ pub fn monomials(image: &Image, class: usize, operation: usize, slip: Slip) -> V
         }
         found.push(monomial);
     }
-    let stands = image.identity(operation).is_some()
+    let stands = (image.identity(operation).is_some() || slip == Slip::SelfWithoutIdentity)
         && slip != Slip::NoSelfMonomial
         && (slip != Slip::SelfOnlyWithoutMember || found.is_empty());
     if stands {
@@ -60,7 +60,11 @@ pub fn pad(
         } else {
             &mut right
         };
-        *short.entry(identity?).or_insert(0) += totals[0].abs_diff(totals[1]);
+        let units = match slip {
+            Slip::PadOnce => 1,
+            _ => totals[0].abs_diff(totals[1]),
+        };
+        *short.entry(identity?).or_insert(0) += units;
     }
     Some((left, right))
 }

@@ -70,12 +70,16 @@ impl Pool {
         } else {
             join(runs)
         };
-        let key = (head, runs);
+        let same = match head {
+            Head::Variants if self.slip == Slip::HeadIgnored => Head::Operation(0),
+            _ => head.clone(),
+        };
+        let key = (same, runs);
         if let Some(&number) = self.number.get(&key) {
             self.again += usize::from(self.slip == Slip::RepeatedTermsCounted);
             return Ok(number);
         }
-        let (head, runs) = key.clone();
+        let runs = key.1.clone();
         if self.nodes.len() + self.again >= 16_384 || self.runs + runs.len() > 65_536 {
             return Err(Refusal(13));
         }
@@ -183,7 +187,17 @@ impl Pool {
             Head::Literal(operation, value) => (1, operation, i64::from(value)),
             Head::Variants => (2, 0, 0),
         };
-        let heads = key(x).cmp(&key(y)).then(x.length.cmp(&y.length));
+        let (a, b) = (key(x), key(y));
+        let heads = match self.slip {
+            Slip::ValueBeforeOperation => (a.0, a.2, a.1).cmp(&(b.0, b.2, b.1)),
+            Slip::OperationBeforeHead => (a.1, a.0, a.2).cmp(&(b.1, b.0, b.2)),
+            Slip::VariantsFirst => ((a.0 + 1) % 3, a.1, a.2).cmp(&((b.0 + 1) % 3, b.1, b.2)),
+            Slip::LengthBeforeOperation => {
+                (a.0, x.length, a.1, a.2).cmp(&(b.0, y.length, b.1, b.2))
+            }
+            _ => a.cmp(&b),
+        };
+        let heads = heads.then(x.length.cmp(&y.length));
         if heads != Ordering::Equal {
             return heads;
         }

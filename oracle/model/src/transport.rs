@@ -123,7 +123,8 @@ fn weight(problem: &Problem, flow: u64, slip: Slip) -> i128 {
         .filter_map(|(_, cell)| cell.map(|(_, mass)| mass))
         .max()
         .unwrap_or(0);
-    i128::from(flow) * i128::from(largest) + 1
+    let flow = if slip == Slip::WithoutF { 1 } else { flow };
+    i128::from(flow) * i128::from(largest) + i128::from(slip != Slip::WithoutOne)
 }
 
 impl Search<'_> {
@@ -169,7 +170,12 @@ impl Search<'_> {
             (Node::Sink, Node::Column(j)) => self.column_flow(j),
             (Node::Row(i), Node::Column(j)) => {
                 let at = i * self.columns() + j;
-                cells[at].map_or(0, |_| supply[i].min(demand[j]) - self.plan[at])
+                let least = if self.slip == Slip::CapacityOfRow {
+                    supply[i]
+                } else {
+                    supply[i].min(demand[j])
+                };
+                cells[at].map_or(0, |_| least.saturating_sub(self.plan[at]))
             }
             (Node::Column(j), Node::Row(i)) => self.plan[i * self.columns() + j],
             _ => 0,
@@ -182,12 +188,20 @@ impl Search<'_> {
         let rows = (0..self.rows()).map(Node::Row);
         let columns = (0..self.columns()).map(Node::Column);
         match node {
+            Node::Source if self.slip == Slip::SourceFromLast => rows.rev().collect(),
             Node::Source => rows.collect(),
             Node::Row(_) if self.slip == Slip::ColumnsFirst => {
                 columns.rev().chain([Node::Source]).collect()
             }
             Node::Row(_) => [Node::Source].into_iter().chain(columns).collect(),
+            Node::Column(_) if self.slip == Slip::NoReverse => vec![Node::Sink],
+            Node::Column(_) if self.slip == Slip::RowsFromLast => {
+                [Node::Sink].into_iter().chain(rows.rev()).collect()
+            }
+            Node::Column(_) if self.slip == Slip::FirstRowOnly => vec![Node::Sink, Node::Row(0)],
+            Node::Column(_) if self.slip == Slip::SinkLast => rows.chain([Node::Sink]).collect(),
             Node::Column(_) => [Node::Sink].into_iter().chain(rows).collect(),
+            Node::Sink if self.slip == Slip::NoSinkEdges => vec![],
             Node::Sink => columns.collect(),
         }
     }
@@ -202,7 +216,11 @@ impl Search<'_> {
             (Node::Row(i), Node::Column(j)) => cell(i, j),
             (Node::Column(j), Node::Row(i)) => {
                 let (weight, size, mass) = cell(i, j);
-                (-weight, -size, -mass)
+                match self.slip {
+                    Slip::ReverseNotNegated => (weight, size, mass),
+                    Slip::ReverseFree => (0, 0, 0),
+                    _ => (-weight, -size, -mass),
+                }
             }
             _ => (0, 0, 0),
         }
@@ -222,10 +240,16 @@ impl Search<'_> {
     /// "Paths come from a first-in first-out queue, a node's edges in insertion
     /// order, a strict improvement only."
     fn run(&mut self, patience: &mut Patience) -> Result<(), Refusal> {
+        let mut joined = vec![false; self.label.len()];
         self.label[0] = Some((0, 0, 0));
         self.queue.push_back(Node::Source);
+        let mut turns = 0;
         while let Some(node) = self.next() {
             patience.wait()?;
+            turns += 1;
+            if self.slip == Slip::FewTurns && turns > self.label.len() {
+                break;
+            }
             let from = self.label[self.place(node)].expect("a queued node has a label");
             for to in self.edges(node) {
                 if self.room((node, to)) == 0 {
@@ -237,7 +261,12 @@ impl Search<'_> {
                 if self.improves(new, self.label[place]) {
                     self.label[place] = Some(new);
                     self.before[place] = node;
-                    if !self.queue.contains(&to) {
+                    let waits = match self.slip {
+                        Slip::QueueOnce => joined[place],
+                        _ => self.queue.contains(&to),
+                    };
+                    joined[place] = true;
+                    if !waits {
                         self.queue.push_back(to);
                     }
                 } else if self.slip == Slip::LooseRelax
