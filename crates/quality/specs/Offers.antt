@@ -50,7 +50,7 @@ module _ {s : List ℕ} {im : Image} (L : Loaded s im) (ok : Valid (tablesOf s))
   t = tablesOf s
 
   -- x is what the actions left at w make of b
-  pub record Makes (w : State) (b x : Best) : Type 0 where
+  record Makes (w : State) (b x : Best) : Type 0 where
     turn : turnAt t x ≡ offerActions q (listFrom t l r w) (turnAt t b)
     stands : StandsAt t (x .how)
 
