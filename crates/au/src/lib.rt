@@ -9,7 +9,7 @@ ghost use Rattle.image.specs.Loaded.{Loaded};
 ghost use Rattle.pair_table.specs.Table.{none};
 ghost use Rattle.au.specs.declared.Answer.the-variants.{Refused};
 ghost use Rattle.au.specs.Merges.{fitOf, fits, Merges, Cleared, Table};
-ghost use Rattle.au.specs.Prepared.{Wide, Full, Goes, GoesAgain, Prepares, pairsBegun, pairsBuilt, pairsOf, engineAnswer};
+ghost use Rattle.au.specs.Prepared.{Wide, Full, Goes, GoesAgain, Prepares, pairsBegun, pairsBuilt, pairsOf, countedAs, Counts, engineAnswer};
 ghost use Rattle.au.specs.Tiers.{shortBegun, shortAnswer};
 ghost use Rattle.exact_fixed.specs.Beginning.{Finishes, EndsShort};
 ghost use Rattle.exact_fixed.specs.Shorts.{UnlessAnswer};
@@ -19,6 +19,7 @@ use graph::Built;
 use image::Image;
 use judge::Verdict;
 use judge::judge;
+use pair_table::Count;
 use pair_table::Pair;
 
 // How many bytes of output; a refusal's number; refusal 10 with a class that holds a literal that stands in two classes.
@@ -103,6 +104,18 @@ fn pairs_of(p: Prepared) -> usize
         Prepared::Stop(a) => 0,
         Prepared::Go(im, b) => pairs_begun(b),
         Prepared::Again(im, g) => pairs_built(g),
+    }
+}
+
+// what has begun, over as many pairs as the table counts
+fn counted(b: Begun, c: Count) -> Begun
+    ensures { λ r. ⌜ r ≡ countedAs b (c .pairs) ⌝ }
+{
+    match b {
+        Begun::Stopped(k) => Begun::Stopped(k),
+        Begun::Cut(root) => Begun::Cut(root),
+        Begun::All(root, n, left) => Begun::All(root, pair_table::pairs_in(c), left),
+        Begun::Short => Begun::Short,
     }
 }
 
@@ -393,12 +406,13 @@ fn run_large(
     left: usize,
     right: usize,
     budget: u32,
+    c: Count,
     lefts: &mut [u16],
     rights: &mut [u16],
     pairs: &mut [u32],
     out: &mut [u8],
 ) -> Answer
-    requires { ⌜ Loaded (now s) im × (imageOf (now s) ≡ ok (tablesOf (now s))) × (left < im .classes) × (right < im .classes) × (4096 ≤ length (now lefts)) × (4096 ≤ length (now rights)) × (24576 ≤ length (now pairs)) ⌝ }
+    requires { ⌜ Loaded (now s) im × (imageOf (now s) ≡ ok (tablesOf (now s))) × (left < im .classes) × (right < im .classes) × (4096 ≤ length (now lefts)) × (4096 ≤ length (now rights)) × (24576 ≤ length (now pairs)) × Counts (now s) left right budget (c .pairs) ⌝ }
     ensures { λ r. ⌜ Merges (now (s .entry)) left right budget true (now (out .entry)) (now (out .exit)) r × (now (lefts .exit) ≡ replicate (length (now (lefts .entry))) 0) × (now (rights .exit) ≡ replicate (length (now (rights .entry))) 0) × (now (pairs .exit) ≡ replicate (length (now (pairs .entry))) 0) ⌝ }
 {
     let mut index = [0u16; 65536];
@@ -422,7 +436,7 @@ fn run_large(
         left,
         right,
         budget,
-        b,
+        counted(b, c),
         lefts,
         rights,
         &mut index,
@@ -441,6 +455,7 @@ fn finish(
     right: usize,
     budget: u32,
     b: Begun,
+    c: Count,
     lefts: &mut [u16],
     rights: &mut [u16],
     index: &mut [u16],
@@ -449,7 +464,7 @@ fn finish(
     runs: &mut [u64],
     out: &mut [u8],
 ) -> Answer
-    requires { ⌜ Wide (now lefts) (now rights) (now index) (now terms) (now runs) × (24576 ≤ length (now pairs)) × Goes (now s) left right budget im b (now lefts) (now rights) (now index) (now terms) (now runs) ⌝ }
+    requires { ⌜ Wide (now lefts) (now rights) (now index) (now terms) (now runs) × (24576 ≤ length (now pairs)) × Goes (now s) left right budget im b (now lefts) (now rights) (now index) (now terms) (now runs) × Counts (now s) left right budget (c .pairs) ⌝ }
     ensures { λ r. ⌜ Merges (now (s .entry)) left right budget true (now (out .entry)) (now (out .exit)) r × Cleared true (now (lefts .entry)) (now (lefts .exit)) (now (rights .entry)) (now (rights .exit)) (now (index .entry)) (now (index .exit)) (now (pairs .entry)) (now (pairs .exit)) (now (terms .entry)) (now (terms .exit)) (now (runs .entry)) (now (runs .exit)) ⌝ }
 {
     let a = finish_small(
@@ -458,7 +473,7 @@ fn finish(
         left,
         right,
         budget,
-        b,
+        counted(b, c),
         lefts,
         rights,
         index,
@@ -468,7 +483,7 @@ fn finish(
         out,
     );
     if answered_short(a) {
-        return run_large(s, im, left, right, budget, lefts, rights, pairs, out);
+        return run_large(s, im, left, right, budget, c, lefts, rights, pairs, out);
     }
     answer_of(a)
 }
@@ -480,6 +495,7 @@ fn finish_again(
     left: usize,
     right: usize,
     budget: u32,
+    c: Count,
     lefts: &mut [u16],
     rights: &mut [u16],
     index: &mut [u16],
@@ -488,11 +504,11 @@ fn finish_again(
     runs: &mut [u64],
     out: &mut [u8],
 ) -> Answer
-    requires { ⌜ Loaded (now s) im × (imageOf (now s) ≡ ok (tablesOf (now s))) × (left < im .classes) × (right < im .classes) × (4096 ≤ length (now lefts)) × (4096 ≤ length (now rights)) × (24576 ≤ length (now pairs)) ⌝ }
+    requires { ⌜ Loaded (now s) im × (imageOf (now s) ≡ ok (tablesOf (now s))) × (left < im .classes) × (right < im .classes) × (4096 ≤ length (now lefts)) × (4096 ≤ length (now rights)) × (24576 ≤ length (now pairs)) × Counts (now s) left right budget (c .pairs) ⌝ }
     ensures { λ r. ⌜ Merges (now (s .entry)) left right budget true (now (out .entry)) (now (out .exit)) r × Cleared true (now (lefts .entry)) (now (lefts .exit)) (now (rights .entry)) (now (rights .exit)) (now (index .entry)) (now (index .exit)) (now (pairs .entry)) (now (pairs .exit)) (now (terms .entry)) (now (terms .exit)) (now (runs .entry)) (now (runs .exit)) ⌝ }
 {
     clear_all(lefts, rights, index, pairs, terms, runs);
-    run_large(s, im, left, right, budget, lefts, rights, pairs, out)
+    run_large(s, im, left, right, budget, c, lefts, rights, pairs, out)
 }
 
 // the run and its listing; the plain work buffers are cleared
@@ -502,6 +518,7 @@ fn conclude(
     right: u16,
     budget: u32,
     p: Prepared,
+    c: Count,
     lefts: &mut [u16],
     rights: &mut [u16],
     index: &mut [u16],
@@ -510,7 +527,7 @@ fn conclude(
     runs: &mut [u64],
     out: &mut [u8],
 ) -> Answer
-    requires { ⌜ Wide (now lefts) (now rights) (now index) (now terms) (now runs) × (24576 ≤ length (now pairs)) × Prepares (now s) left right budget p (now lefts) (now rights) (now index) (now terms) (now runs) ⌝ }
+    requires { ⌜ Wide (now lefts) (now rights) (now index) (now terms) (now runs) × (24576 ≤ length (now pairs)) × Prepares (now s) left right budget p (now lefts) (now rights) (now index) (now terms) (now runs) × (c .pairs ≡ pairsOf p) ⌝ }
     ensures { λ r. ⌜ Merges (now (s .entry)) left right budget true (now (out .entry)) (now (out .exit)) r × Cleared true (now (lefts .entry)) (now (lefts .exit)) (now (rights .entry)) (now (rights .exit)) (now (index .entry)) (now (index .exit)) (now (pairs .entry)) (now (pairs .exit)) (now (terms .entry)) (now (terms .exit)) (now (runs .entry)) (now (runs .exit)) ⌝ }
 {
     match p {
@@ -525,6 +542,7 @@ fn conclude(
             wide(right),
             budget,
             b,
+            c,
             lefts,
             rights,
             index,
@@ -539,6 +557,7 @@ fn conclude(
             wide(left),
             wide(right),
             budget,
+            c,
             lefts,
             rights,
             index,
@@ -551,7 +570,7 @@ fn conclude(
 }
 
 // The merge of two classes of an image, with a budget of checks, into a listing. Refuses as the table of refusals says.
-// The pair table is the records' layer: it looks up or enters the pairs that the engine numbers in plain arrays.
+// The pair table is the records' layer: it looks up or enters the pairs that the engine numbers in plain arrays, and its count is the number of pairs that the rounds run over.
 pub fn merge(
     s: &[u8],
     left: u16,
@@ -582,13 +601,14 @@ pub fn merge(
         return refuse(1);
     }
     let p = prepare(s, left, right, budget, lefts, rights, index, terms, runs);
-    pair_table::enter_from(table, lefts, rights, 0, pairs_of(p));
+    let c = pair_table::enter_graph(table, lefts, rights, pairs_of(p), left, right);
     let a = conclude(
         s,
         left,
         right,
         budget,
         p,
+        c,
         lefts,
         rights,
         index,
