@@ -20,6 +20,7 @@ use image::Image;
 use judge::Verdict;
 use judge::judge;
 use pair_table::Count;
+use pair_table::PAIRS;
 use pair_table::Pair;
 
 // How many bytes of output; a refusal's number; refusal 10 with a class that holds a literal that stands in two classes.
@@ -36,6 +37,27 @@ pub enum Prepared {
     Again(Image, Built),
 }
 
+// The constant lengths of the work buffers (docs/BUFFERS.md); the table, lefts and rights have PAIRS.
+const INDEX: usize = 8192;
+
+const NUMBERS: usize = 24576;
+
+const TERMS: usize = 8194;
+
+const RUNS: usize = 4096;
+
+// Buffers of full length: none is too short for any query.
+const FULL_INDEX: usize = 65536;
+
+const FULL_TERMS: usize = 69634;
+
+const FULL_RUNS: usize = 65536;
+
+// How many cells a turn has room for: with the lent buffers, and the most that there are.
+const FEW_CELLS: usize = 64;
+
+const CELLS: usize = 4225;
+
 // 1: whether a work buffer is below its constant length
 fn short(
     table: usize,
@@ -48,25 +70,25 @@ fn short(
 ) -> bool
     ensures { λ r. ⌜ r ≡ not (fitOf table lefts rights index pairs terms runs) ⌝ }
 {
-    if table < 4096 {
+    if table < PAIRS {
         return true;
     }
-    if lefts < 4096 {
+    if lefts < PAIRS {
         return true;
     }
-    if rights < 4096 {
+    if rights < PAIRS {
         return true;
     }
-    if index < 8192 {
+    if index < INDEX {
         return true;
     }
-    if pairs < 24576 {
+    if pairs < NUMBERS {
         return true;
     }
-    if terms < 8194 {
+    if terms < TERMS {
         return true;
     }
-    runs < 4096
+    runs < RUNS
 }
 
 fn refuse(k: u8) -> Answer
@@ -111,10 +133,11 @@ fn pairs_of(p: Prepared) -> usize
 fn counted(b: Begun, c: Count) -> Begun
     ensures { λ r. ⌜ r ≡ countedAs b (c .pairs) ⌝ }
 {
+    let n = pair_table::pairs_in(c);
     match b {
         Begun::Stopped(k) => Begun::Stopped(k),
         Begun::Cut(root) => Begun::Cut(root),
-        Begun::All(root, n, left) => Begun::All(root, pair_table::pairs_in(c), left),
+        Begun::All(root, m, left) => Begun::All(root, n, left),
         Begun::Short => Begun::Short,
     }
 }
@@ -150,7 +173,7 @@ fn build_again(
     requires { ⌜ Loaded (now s) im × (imageOf (now s) ≡ ok (tablesOf (now s))) × (left < im .classes) × (right < im .classes) × (4096 ≤ length (now lefts)) × (4096 ≤ length (now rights)) ⌝ }
     ensures { λ r. ⌜ GoesAgain (now (s .entry)) left right budget im r (now (lefts .exit)) (now (rights .exit)) ⌝ }
 {
-    let mut index = [0u16; 65536];
+    let mut index = [0u16; FULL_INDEX];
     let b = Budget { left: budget };
     graph::build(s, im, left, right, b, lefts, rights, &mut index)
 }
@@ -321,12 +344,12 @@ fn finish_small(
     ensures { λ r. ⌜ UnlessAnswer r (EndsShort 64 (now (lefts .entry)) (now (rights .entry)) (now (index .entry)) (now (pairs .entry)) (now (terms .entry)) (now (runs .entry)) (now (out .entry)) (now (lefts .exit)) (now (rights .exit)) (now (index .exit)) (now (pairs .exit)) (now (terms .exit)) (now (runs .exit)) (now (out .exit)))
         (Finishes (tablesOf (now (s .entry))) (left, right) budget (now (lefts .entry)) (now (rights .entry)) (now (index .entry)) (now (pairs .entry)) (now (terms .entry)) (now (runs .entry)) (now (out .entry)) (now (lefts .exit)) (now (rights .exit)) (now (index .exit)) (now (pairs .exit)) (now (terms .exit)) (now (runs .exit)) (now (out .exit)) r) ⌝ }
 {
-    let ones = [1u8; 64];
-    let mut sizes = [0u32; 64];
-    let mut masses = [0u32; 64];
-    let mut costs = [0u64; 192];
-    let mut flow = [0u64; 64];
-    let mut list = [0u64; 64];
+    let ones = [1u8; FEW_CELLS];
+    let mut sizes = [0u32; FEW_CELLS];
+    let mut masses = [0u32; FEW_CELLS];
+    let mut costs = [0u64; 3 * FEW_CELLS];
+    let mut flow = [0u64; FEW_CELLS];
+    let mut list = [0u64; FEW_CELLS];
     exact_fixed::finish(
         s,
         im,
@@ -369,12 +392,12 @@ fn finish_large(
     requires { ⌜ Full (now lefts) (now rights) (now index) (now terms) (now runs) × (24576 ≤ length (now pairs)) × Goes (now s) left right budget im b (now lefts) (now rights) (now index) (now terms) (now runs) ⌝ }
     ensures { λ r. ⌜ Merges (now (s .entry)) left right budget true (now (out .entry)) (now (out .exit)) r × Cleared true (now (lefts .entry)) (now (lefts .exit)) (now (rights .entry)) (now (rights .exit)) (now (index .entry)) (now (index .exit)) (now (pairs .entry)) (now (pairs .exit)) (now (terms .entry)) (now (terms .exit)) (now (runs .entry)) (now (runs .exit)) ⌝ }
 {
-    let ones = [1u8; 4225];
-    let mut sizes = [0u32; 4225];
-    let mut masses = [0u32; 4225];
-    let mut costs = [0u64; 12675];
-    let mut flow = [0u64; 4225];
-    let mut list = [0u64; 4225];
+    let ones = [1u8; CELLS];
+    let mut sizes = [0u32; CELLS];
+    let mut masses = [0u32; CELLS];
+    let mut costs = [0u64; 3 * CELLS];
+    let mut flow = [0u64; CELLS];
+    let mut list = [0u64; CELLS];
     let a = exact_fixed::finish(
         s,
         im,
@@ -415,9 +438,9 @@ fn run_large(
     requires { ⌜ Loaded (now s) im × (imageOf (now s) ≡ ok (tablesOf (now s))) × (left < im .classes) × (right < im .classes) × (4096 ≤ length (now lefts)) × (4096 ≤ length (now rights)) × (24576 ≤ length (now pairs)) × Counts (now s) left right budget (c .pairs) ⌝ }
     ensures { λ r. ⌜ Merges (now (s .entry)) left right budget true (now (out .entry)) (now (out .exit)) r × (now (lefts .exit) ≡ replicate (length (now (lefts .entry))) 0) × (now (rights .exit) ≡ replicate (length (now (rights .entry))) 0) × (now (pairs .exit) ≡ replicate (length (now (pairs .entry))) 0) ⌝ }
 {
-    let mut index = [0u16; 65536];
-    let mut terms = [0u32; 69634];
-    let mut runs = [0u64; 65536];
+    let mut index = [0u16; FULL_INDEX];
+    let mut terms = [0u32; FULL_TERMS];
+    let mut runs = [0u64; FULL_RUNS];
     let b = exact_fixed::begin(
         s,
         im,
@@ -622,10 +645,10 @@ pub fn merge(
 }
 
 // An empty pair table.
-fn empty() -> [Pair; 4096]
+fn empty() -> [Pair; PAIRS]
     ensures { λ r. ⌜ r ≡ replicate 4096 none ⌝ }
 {
-    [Pair { left: 0, right: 0 }; 4096]
+    [Pair { left: 0, right: 0 }; PAIRS]
 }
 
 // The merge with a pair table of its own, for callers that lend plain buffers only.

@@ -3,7 +3,7 @@ use mathlib.Core.Path.{ap, subst, _∙_}
 use Rattle.au.specs.declared.Prepared.{Prepared}
 use Rattle.au.specs.Prepared.{pairsOf, Prepares}
 use Rattle.au.specs.PreparedLaws.{merges-stop}
-use Rattle.au.specs.TableHolds.{counts-go, counts-again}
+use Rattle.au.specs.TableCounts.{counts-go, counts-again}
 use Rattle.au.proofs.conclude.Statement.{statement}
 use Rattle.au.proofs.conclude.Tie as tie
 

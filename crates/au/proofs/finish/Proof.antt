@@ -1,7 +1,7 @@
 use borrow.Author.Needs.{needs}
 use mathlib.Core.Path.{sym, _∙_}
 use Rattle.au.specs.PreparedLaws.{merges-finish, cleared-finish}
-use Rattle.au.specs.TableHolds.{goes-counted}
+use Rattle.au.specs.TableCounts.{goes-counted}
 use Rattle.au.specs.Tiers.{finished-long, finished-short, short-cleared, as-long, cleared-large, merges-from}
 use Rattle.au.proofs.finish.Statement.{statement}
 use Rattle.au.proofs.finish.Tie as tie

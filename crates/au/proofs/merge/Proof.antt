@@ -27,7 +27,7 @@ use Rattle.au.specs.declared.Answer.the-variants.{Refused}
 use Rattle.au.specs.declared.Prepared.{Prepared}
 use Rattle.au.specs.Merges.{fits, Merges, Cleared, Table}
 use Rattle.au.specs.Prepared.{Wide, pairsOf, Prepares}
-use Rattle.au.specs.TableHolds.{table-counts}
+use Rattle.au.specs.TableCounts.{table-counts}
 use Rattle.au.specs.Assembled as asm
 use Rattle.au.proofs.Slices.{Param, val, has, tok, lent, shown, kept, kept-shown, lends, backs, shows-as, backs-shown, ends}
 use Rattle.au.proofs.Slices as S

@@ -2,7 +2,7 @@ use borrow.Author.Needs.{needs}
 use native.Mathlib.Omega.{arith}
 use Rattle.au.specs.PreparedLaws.{is-valid, begins-goes}
 use lib.ListN.{replicate}
-use Rattle.au.specs.TableHolds.{goes-counted}
+use Rattle.au.specs.TableCounts.{goes-counted}
 use Rattle.au.specs.Tiers.{begun-full, as-long, zeros-long, whole-zeros, full-arrays, cleared-kept}
 use Rattle.au.proofs.run_large.Statement.{statement}
 use Rattle.au.proofs.run_large.Tie as tie

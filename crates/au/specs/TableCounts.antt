@@ -22,6 +22,33 @@ use Rattle.au.specs.declared.Prepared.{Prepared}
 use Rattle.au.specs.declared.Prepared.the-variants.{Stop, Go, Again}
 use Rattle.au.specs.Prepared.{pairsBegun, pairsBuilt, pairsOf, countedAs, Counts, Goes, GoesAgain, Prepares}
 
+-- ---- the count in the run
+counted-same : (b : Begun) (n : ℕ) → n ≡ pairsBegun b → countedAs b n ≡ b
+counted-same (B.Stopped k) n e = refl
+counted-same (B.Cut root) n e = refl
+counted-same (B.All root m left) n e = ap (λ (j : ℕ). B.All root j left) e
+counted-same B.Short n e = refl
+
+counted-again : (x : Res Interned) (g : Res (Checked (List Two))) (n : ℕ) → n ≡ pairsBuilt (builtOf g) → countedAs (begunOf x g) n ≡ begunOf x g
+counted-again (refused k) g n e = refl
+counted-again (ok a) (refused k) n e = refl
+counted-again (ok a) (ok cutShort) n e = refl
+counted-again (ok a) (ok (passed ps c)) n e = ap (λ (j : ℕ). B.All (a .term) j (budgetOf c)) e
+
+module _ {image : List ℕ} {l r budget : ℕ} (n : ℕ) {im : Image} {ls rs : List ℕ} where
+  -- with the graph alone
+  pub counts-again : {g : Built} → GoesAgain image l r budget im g ls rs → n ≡ pairsBuilt g → Counts image l r budget n
+  counts-again G e = counted-again (startingTerm (tablesOf image) [] (l, r)) (build (tablesOf image) (l, r) budget) n (e ∙ ap pairsBuilt (G .answer))
+
+  module _ {b : Begun} {ix ts us : List ℕ} (G : Goes image l r budget im b ls rs ix ts us) where
+    pub counts-go : n ≡ pairsBegun b → Counts image l r budget n
+    counts-go e = subst (λ (z : Begun). countedAs z n ≡ z) (G .ready .answer) (counted-same b n e)
+
+    -- the run over as many pairs as are counted
+    pub goes-counted : {b′ : Begun} → Counts image l r budget n → b′ ≡ countedAs b n → Goes image l r budget im b′ ls rs ix ts us
+    goes-counted e q = subst (λ (z : Begun). Goes image l r budget im z ls rs ix ts us) (sym (q ∙ subst (λ (z : Begun). countedAs z n ≡ z) (sym (G .ready .answer)) e)) G
+
+-- ---- what the table counts
 -- n pairs are entered, and so many are counted
 abbrev CountsAll : List ℕ → List ℕ → Two → List Pair → ℕ → Type 0
 CountsAll ls rs p table n = countedOf (enteredOf ls rs n 0 table) p .pairs ≡ n
@@ -58,29 +85,3 @@ pub table-counts : (image : List ℕ) (l r budget : ℕ) (g : Prepared) (ls rs i
 table-counts image l r budget (Stop a) ls rs ix ts us table wide h = counts-none ls rs table (l, r)
 table-counts image l r budget (Go im b) ls rs ix ts us table wide h = begun-counts (tablesOf image) (l, r) budget ls rs table wide b ix ts us (h .ready)
 table-counts image l r budget (Again im g) ls rs ix ts us table wide h = built-counts (tablesOf image) (l, r) budget ls rs table wide g (h .answer) (h .lefts) (h .rights)
-
--- ---- the count in the run
-counted-same : (b : Begun) (n : ℕ) → n ≡ pairsBegun b → countedAs b n ≡ b
-counted-same (B.Stopped k) n e = refl
-counted-same (B.Cut root) n e = refl
-counted-same (B.All root m left) n e = ap (λ (j : ℕ). B.All root j left) e
-counted-same B.Short n e = refl
-
-counted-again : (x : Res Interned) (g : Res (Checked (List Two))) (n : ℕ) → n ≡ pairsBuilt (builtOf g) → countedAs (begunOf x g) n ≡ begunOf x g
-counted-again (refused k) g n e = refl
-counted-again (ok a) (refused k) n e = refl
-counted-again (ok a) (ok cutShort) n e = refl
-counted-again (ok a) (ok (passed ps c)) n e = ap (λ (j : ℕ). B.All (a .term) j (budgetOf c)) e
-
-module _ {image : List ℕ} {l r budget : ℕ} (n : ℕ) {im : Image} {ls rs : List ℕ} where
-  -- with the graph alone
-  pub counts-again : {g : Built} → GoesAgain image l r budget im g ls rs → n ≡ pairsBuilt g → Counts image l r budget n
-  counts-again G e = counted-again (startingTerm (tablesOf image) [] (l, r)) (build (tablesOf image) (l, r) budget) n (e ∙ ap pairsBuilt (G .answer))
-
-  module _ {b : Begun} {ix ts us : List ℕ} (G : Goes image l r budget im b ls rs ix ts us) where
-    pub counts-go : n ≡ pairsBegun b → Counts image l r budget n
-    counts-go e = subst (λ (z : Begun). countedAs z n ≡ z) (G .ready .answer) (counted-same b n e)
-
-    -- the run over as many pairs as are counted
-    pub goes-counted : {b′ : Begun} → Counts image l r budget n → b′ ≡ countedAs b n → Goes image l r budget im b′ ls rs ix ts us
-    goes-counted e q = subst (λ (z : Begun). Goes image l r budget im z ls rs ix ts us) (sym (q ∙ subst (λ (z : Begun). countedAs z n ≡ z) (sym (G .ready .answer)) e)) G
