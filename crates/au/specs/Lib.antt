@@ -2,5 +2,5 @@ pub mod Merges
 pub mod Prepared
 pub mod Tiers
 pub mod PreparedLaws
-pub mod TableHolds
+pub mod TableCounts
 pub mod Assembled

@@ -1,12 +1,13 @@
 -- What `prepare` gives and leaves.
 use mathlib.Core.Path.{_≡_}
 use mathlib.Core.Bool.{true}
-use mathlib.Core.List.{List}
+use mathlib.Core.List.{List, []}
 use Prim.Native.Nat.{ℕ, _≤_, _<_}
 use lib.ListN.{length}
 use Rattle.spec.specs.Bytes.{ok, refused}
 use Rattle.spec.specs.Image.{imageOf, tablesOf}
 use Rattle.spec.specs.Graph.{build}
+use Rattle.spec.specs.Pool.{startingTerm}
 use Rattle.spec.specs.Merge.{mergeOf}
 use Rattle.terms.specs.Chains.{Whole}
 use Rattle.graph.specs.Building.{builtOf, leftsAfter, rightsAfter}
@@ -14,7 +15,7 @@ use Rattle.graph.specs.declared.Built.{Built}
 use Rattle.graph.specs.declared.Built.the-variants as G
 use Rattle.image.specs.Loaded.{Loaded}
 use Rattle.image.specs.declared.Image.{Image}
-use Rattle.exact_fixed.specs.Beginning.{Ready}
+use Rattle.exact_fixed.specs.Beginning.{begunOf, Ready}
 use Rattle.exact_fixed.specs.declared.Begun.{Begun}
 use Rattle.exact_fixed.specs.declared.Begun.the-variants.{Stopped, Cut, All, Short}
 use Rattle.exact_fixed.specs.declared.Answer as E
@@ -56,6 +57,21 @@ abbrev pub pairsOf : Prepared → ℕ
 pairsOf (Stop a) = 0
 pairsOf (Go im b) = pairsBegun b
 pairsOf (Again im g) = pairsBuilt g
+
+-- what `begin` answers
+abbrev pub begunAs : List ℕ → ℕ → ℕ → ℕ → Begun
+begunAs image l r budget = begunOf (startingTerm (tablesOf image) [] (l, r)) (build (tablesOf image) (l, r) budget)
+
+-- the same with n pairs
+abbrev pub countedAs : Begun → ℕ → Begun
+countedAs (Stopped k) n = Stopped k
+countedAs (Cut root) n = Cut root
+countedAs (All root m left) n = All root n left
+countedAs Short n = Short
+
+-- n is how many pairs the run has, where it has any
+abbrev pub Counts : List ℕ → ℕ → ℕ → ℕ → ℕ → Type 0
+Counts image l r budget n = countedAs (begunAs image l r budget) n ≡ begunAs image l r budget
 
 -- the engine's answer; there is no refusal 0
 abbrev pub engineAnswer : E.Answer → Answer

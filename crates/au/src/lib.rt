@@ -9,7 +9,7 @@ ghost use Rattle.image.specs.Loaded.{Loaded};
 ghost use Rattle.pair_table.specs.Table.{none};
 ghost use Rattle.au.specs.declared.Answer.the-variants.{Refused};
 ghost use Rattle.au.specs.Merges.{fitOf, fits, Merges, Cleared, Table};
-ghost use Rattle.au.specs.Prepared.{Wide, Full, Goes, GoesAgain, Prepares, pairsBegun, pairsBuilt, pairsOf, engineAnswer};
+ghost use Rattle.au.specs.Prepared.{Wide, Full, Goes, GoesAgain, Prepares, pairsBegun, pairsBuilt, pairsOf, countedAs, Counts, engineAnswer};
 ghost use Rattle.au.specs.Tiers.{shortBegun, shortAnswer};
 ghost use Rattle.exact_fixed.specs.Beginning.{Finishes, EndsShort};
 ghost use Rattle.exact_fixed.specs.Shorts.{UnlessAnswer};
@@ -19,6 +19,8 @@ use graph::Built;
 use image::Image;
 use judge::Verdict;
 use judge::judge;
+use pair_table::Count;
+use pair_table::PAIRS;
 use pair_table::Pair;
 
 // How many bytes of output; a refusal's number; refusal 10 with a class that holds a literal that stands in two classes.
@@ -35,6 +37,27 @@ pub enum Prepared {
     Again(Image, Built),
 }
 
+// The constant lengths of the work buffers (docs/BUFFERS.md); the table, lefts and rights have PAIRS.
+const INDEX: usize = 8192;
+
+const NUMBERS: usize = 24576;
+
+const TERMS: usize = 8194;
+
+const RUNS: usize = 4096;
+
+// Buffers of full length: none is too short for any query.
+const FULL_INDEX: usize = 65536;
+
+const FULL_TERMS: usize = 69634;
+
+const FULL_RUNS: usize = 65536;
+
+// How many cells a turn has room for: with the lent buffers, and the most that there are.
+const FEW_CELLS: usize = 64;
+
+const CELLS: usize = 4225;
+
 // 1: whether a work buffer is below its constant length
 fn short(
     table: usize,
@@ -47,25 +70,25 @@ fn short(
 ) -> bool
     ensures { λ r. ⌜ r ≡ not (fitOf table lefts rights index pairs terms runs) ⌝ }
 {
-    if table < 4096 {
+    if table < PAIRS {
         return true;
     }
-    if lefts < 4096 {
+    if lefts < PAIRS {
         return true;
     }
-    if rights < 4096 {
+    if rights < PAIRS {
         return true;
     }
-    if index < 8192 {
+    if index < INDEX {
         return true;
     }
-    if pairs < 24576 {
+    if pairs < NUMBERS {
         return true;
     }
-    if terms < 8194 {
+    if terms < TERMS {
         return true;
     }
-    runs < 4096
+    runs < RUNS
 }
 
 fn refuse(k: u8) -> Answer
@@ -106,6 +129,19 @@ fn pairs_of(p: Prepared) -> usize
     }
 }
 
+// what has begun, over as many pairs as the table counts
+fn counted(b: Begun, c: Count) -> Begun
+    ensures { λ r. ⌜ r ≡ countedAs b (c .pairs) ⌝ }
+{
+    let n = pair_table::pairs_in(c);
+    match b {
+        Begun::Stopped(k) => Begun::Stopped(k),
+        Begun::Cut(root) => Begun::Cut(root),
+        Begun::All(root, m, left) => Begun::All(root, n, left),
+        Begun::Short => Begun::Short,
+    }
+}
+
 fn wide(x: u16) -> usize
     ensures { λ r. ⌜ (r ≡ x) × (r < 65536) ⌝ }
 {
@@ -137,7 +173,7 @@ fn build_again(
     requires { ⌜ Loaded (now s) im × (imageOf (now s) ≡ ok (tablesOf (now s))) × (left < im .classes) × (right < im .classes) × (4096 ≤ length (now lefts)) × (4096 ≤ length (now rights)) ⌝ }
     ensures { λ r. ⌜ GoesAgain (now (s .entry)) left right budget im r (now (lefts .exit)) (now (rights .exit)) ⌝ }
 {
-    let mut index = [0u16; 65536];
+    let mut index = [0u16; FULL_INDEX];
     let b = Budget { left: budget };
     graph::build(s, im, left, right, b, lefts, rights, &mut index)
 }
@@ -308,12 +344,12 @@ fn finish_small(
     ensures { λ r. ⌜ UnlessAnswer r (EndsShort 64 (now (lefts .entry)) (now (rights .entry)) (now (index .entry)) (now (pairs .entry)) (now (terms .entry)) (now (runs .entry)) (now (out .entry)) (now (lefts .exit)) (now (rights .exit)) (now (index .exit)) (now (pairs .exit)) (now (terms .exit)) (now (runs .exit)) (now (out .exit)))
         (Finishes (tablesOf (now (s .entry))) (left, right) budget (now (lefts .entry)) (now (rights .entry)) (now (index .entry)) (now (pairs .entry)) (now (terms .entry)) (now (runs .entry)) (now (out .entry)) (now (lefts .exit)) (now (rights .exit)) (now (index .exit)) (now (pairs .exit)) (now (terms .exit)) (now (runs .exit)) (now (out .exit)) r) ⌝ }
 {
-    let ones = [1u8; 64];
-    let mut sizes = [0u32; 64];
-    let mut masses = [0u32; 64];
-    let mut costs = [0u64; 192];
-    let mut flow = [0u64; 64];
-    let mut list = [0u64; 64];
+    let ones = [1u8; FEW_CELLS];
+    let mut sizes = [0u32; FEW_CELLS];
+    let mut masses = [0u32; FEW_CELLS];
+    let mut costs = [0u64; 3 * FEW_CELLS];
+    let mut flow = [0u64; FEW_CELLS];
+    let mut list = [0u64; FEW_CELLS];
     exact_fixed::finish(
         s,
         im,
@@ -356,12 +392,12 @@ fn finish_large(
     requires { ⌜ Full (now lefts) (now rights) (now index) (now terms) (now runs) × (24576 ≤ length (now pairs)) × Goes (now s) left right budget im b (now lefts) (now rights) (now index) (now terms) (now runs) ⌝ }
     ensures { λ r. ⌜ Merges (now (s .entry)) left right budget true (now (out .entry)) (now (out .exit)) r × Cleared true (now (lefts .entry)) (now (lefts .exit)) (now (rights .entry)) (now (rights .exit)) (now (index .entry)) (now (index .exit)) (now (pairs .entry)) (now (pairs .exit)) (now (terms .entry)) (now (terms .exit)) (now (runs .entry)) (now (runs .exit)) ⌝ }
 {
-    let ones = [1u8; 4225];
-    let mut sizes = [0u32; 4225];
-    let mut masses = [0u32; 4225];
-    let mut costs = [0u64; 12675];
-    let mut flow = [0u64; 4225];
-    let mut list = [0u64; 4225];
+    let ones = [1u8; CELLS];
+    let mut sizes = [0u32; CELLS];
+    let mut masses = [0u32; CELLS];
+    let mut costs = [0u64; 3 * CELLS];
+    let mut flow = [0u64; CELLS];
+    let mut list = [0u64; CELLS];
     let a = exact_fixed::finish(
         s,
         im,
@@ -393,17 +429,18 @@ fn run_large(
     left: usize,
     right: usize,
     budget: u32,
+    c: Count,
     lefts: &mut [u16],
     rights: &mut [u16],
     pairs: &mut [u32],
     out: &mut [u8],
 ) -> Answer
-    requires { ⌜ Loaded (now s) im × (imageOf (now s) ≡ ok (tablesOf (now s))) × (left < im .classes) × (right < im .classes) × (4096 ≤ length (now lefts)) × (4096 ≤ length (now rights)) × (24576 ≤ length (now pairs)) ⌝ }
+    requires { ⌜ Loaded (now s) im × (imageOf (now s) ≡ ok (tablesOf (now s))) × (left < im .classes) × (right < im .classes) × (4096 ≤ length (now lefts)) × (4096 ≤ length (now rights)) × (24576 ≤ length (now pairs)) × Counts (now s) left right budget (c .pairs) ⌝ }
     ensures { λ r. ⌜ Merges (now (s .entry)) left right budget true (now (out .entry)) (now (out .exit)) r × (now (lefts .exit) ≡ replicate (length (now (lefts .entry))) 0) × (now (rights .exit) ≡ replicate (length (now (rights .entry))) 0) × (now (pairs .exit) ≡ replicate (length (now (pairs .entry))) 0) ⌝ }
 {
-    let mut index = [0u16; 65536];
-    let mut terms = [0u32; 69634];
-    let mut runs = [0u64; 65536];
+    let mut index = [0u16; FULL_INDEX];
+    let mut terms = [0u32; FULL_TERMS];
+    let mut runs = [0u64; FULL_RUNS];
     let b = exact_fixed::begin(
         s,
         im,
@@ -422,7 +459,7 @@ fn run_large(
         left,
         right,
         budget,
-        b,
+        counted(b, c),
         lefts,
         rights,
         &mut index,
@@ -441,6 +478,7 @@ fn finish(
     right: usize,
     budget: u32,
     b: Begun,
+    c: Count,
     lefts: &mut [u16],
     rights: &mut [u16],
     index: &mut [u16],
@@ -449,7 +487,7 @@ fn finish(
     runs: &mut [u64],
     out: &mut [u8],
 ) -> Answer
-    requires { ⌜ Wide (now lefts) (now rights) (now index) (now terms) (now runs) × (24576 ≤ length (now pairs)) × Goes (now s) left right budget im b (now lefts) (now rights) (now index) (now terms) (now runs) ⌝ }
+    requires { ⌜ Wide (now lefts) (now rights) (now index) (now terms) (now runs) × (24576 ≤ length (now pairs)) × Goes (now s) left right budget im b (now lefts) (now rights) (now index) (now terms) (now runs) × Counts (now s) left right budget (c .pairs) ⌝ }
     ensures { λ r. ⌜ Merges (now (s .entry)) left right budget true (now (out .entry)) (now (out .exit)) r × Cleared true (now (lefts .entry)) (now (lefts .exit)) (now (rights .entry)) (now (rights .exit)) (now (index .entry)) (now (index .exit)) (now (pairs .entry)) (now (pairs .exit)) (now (terms .entry)) (now (terms .exit)) (now (runs .entry)) (now (runs .exit)) ⌝ }
 {
     let a = finish_small(
@@ -458,7 +496,7 @@ fn finish(
         left,
         right,
         budget,
-        b,
+        counted(b, c),
         lefts,
         rights,
         index,
@@ -468,7 +506,7 @@ fn finish(
         out,
     );
     if answered_short(a) {
-        return run_large(s, im, left, right, budget, lefts, rights, pairs, out);
+        return run_large(s, im, left, right, budget, c, lefts, rights, pairs, out);
     }
     answer_of(a)
 }
@@ -480,6 +518,7 @@ fn finish_again(
     left: usize,
     right: usize,
     budget: u32,
+    c: Count,
     lefts: &mut [u16],
     rights: &mut [u16],
     index: &mut [u16],
@@ -488,11 +527,11 @@ fn finish_again(
     runs: &mut [u64],
     out: &mut [u8],
 ) -> Answer
-    requires { ⌜ Loaded (now s) im × (imageOf (now s) ≡ ok (tablesOf (now s))) × (left < im .classes) × (right < im .classes) × (4096 ≤ length (now lefts)) × (4096 ≤ length (now rights)) × (24576 ≤ length (now pairs)) ⌝ }
+    requires { ⌜ Loaded (now s) im × (imageOf (now s) ≡ ok (tablesOf (now s))) × (left < im .classes) × (right < im .classes) × (4096 ≤ length (now lefts)) × (4096 ≤ length (now rights)) × (24576 ≤ length (now pairs)) × Counts (now s) left right budget (c .pairs) ⌝ }
     ensures { λ r. ⌜ Merges (now (s .entry)) left right budget true (now (out .entry)) (now (out .exit)) r × Cleared true (now (lefts .entry)) (now (lefts .exit)) (now (rights .entry)) (now (rights .exit)) (now (index .entry)) (now (index .exit)) (now (pairs .entry)) (now (pairs .exit)) (now (terms .entry)) (now (terms .exit)) (now (runs .entry)) (now (runs .exit)) ⌝ }
 {
     clear_all(lefts, rights, index, pairs, terms, runs);
-    run_large(s, im, left, right, budget, lefts, rights, pairs, out)
+    run_large(s, im, left, right, budget, c, lefts, rights, pairs, out)
 }
 
 // the run and its listing; the plain work buffers are cleared
@@ -502,6 +541,7 @@ fn conclude(
     right: u16,
     budget: u32,
     p: Prepared,
+    c: Count,
     lefts: &mut [u16],
     rights: &mut [u16],
     index: &mut [u16],
@@ -510,7 +550,7 @@ fn conclude(
     runs: &mut [u64],
     out: &mut [u8],
 ) -> Answer
-    requires { ⌜ Wide (now lefts) (now rights) (now index) (now terms) (now runs) × (24576 ≤ length (now pairs)) × Prepares (now s) left right budget p (now lefts) (now rights) (now index) (now terms) (now runs) ⌝ }
+    requires { ⌜ Wide (now lefts) (now rights) (now index) (now terms) (now runs) × (24576 ≤ length (now pairs)) × Prepares (now s) left right budget p (now lefts) (now rights) (now index) (now terms) (now runs) × (c .pairs ≡ pairsOf p) ⌝ }
     ensures { λ r. ⌜ Merges (now (s .entry)) left right budget true (now (out .entry)) (now (out .exit)) r × Cleared true (now (lefts .entry)) (now (lefts .exit)) (now (rights .entry)) (now (rights .exit)) (now (index .entry)) (now (index .exit)) (now (pairs .entry)) (now (pairs .exit)) (now (terms .entry)) (now (terms .exit)) (now (runs .entry)) (now (runs .exit)) ⌝ }
 {
     match p {
@@ -525,6 +565,7 @@ fn conclude(
             wide(right),
             budget,
             b,
+            c,
             lefts,
             rights,
             index,
@@ -539,6 +580,7 @@ fn conclude(
             wide(left),
             wide(right),
             budget,
+            c,
             lefts,
             rights,
             index,
@@ -551,7 +593,7 @@ fn conclude(
 }
 
 // The merge of two classes of an image, with a budget of checks, into a listing. Refuses as the table of refusals says.
-// The pair table is the records' layer: it looks up or enters the pairs that the engine numbers in plain arrays.
+// The pair table is the records' layer: it looks up or enters the pairs that the engine numbers in plain arrays, and its count is the number of pairs that the rounds run over.
 pub fn merge(
     s: &[u8],
     left: u16,
@@ -582,13 +624,14 @@ pub fn merge(
         return refuse(1);
     }
     let p = prepare(s, left, right, budget, lefts, rights, index, terms, runs);
-    pair_table::enter_from(table, lefts, rights, 0, pairs_of(p));
+    let c = pair_table::enter_graph(table, lefts, rights, pairs_of(p), left, right);
     let a = conclude(
         s,
         left,
         right,
         budget,
         p,
+        c,
         lefts,
         rights,
         index,
@@ -602,10 +645,10 @@ pub fn merge(
 }
 
 // An empty pair table.
-fn empty() -> [Pair; 4096]
+fn empty() -> [Pair; PAIRS]
     ensures { λ r. ⌜ r ≡ replicate 4096 none ⌝ }
 {
-    [Pair { left: 0, right: 0 }; 4096]
+    [Pair { left: 0, right: 0 }; PAIRS]
 }
 
 // The merge with a pair table of its own, for callers that lend plain buffers only.

@@ -5,9 +5,9 @@ use mathlib.Core.List.{List, [], _∷_, _++_}
 use Prim.Native.Nat.{ℕ, zero, suc, _≤_, _<_, min}
 use native.Mathlib.Nat.{zero-min, min-zero, suc-min-suc, not-suc-le-zero, le-of-suc-le-suc}
 use native.Mathlib.Omega.{arith}
-use lib.Dec.{T, eqb, ltb}
+use lib.Dec.{T, eqb}
 use lib.ListN.{length, getD, take, drop, set}
-use borrow.Author.Tests.{eqb-true, ltb-false}
+use borrow.Author.Tests.{eqb-true, eq-eqb}
 use Rattle.spec.specs.Bytes.{either, any, place, Two, sameTwo}
 
 -- ---- truth values
@@ -27,13 +27,13 @@ pub either-false : (t : Bool) → either t false ≡ t
 either-false true = refl
 either-false false = refl
 
-pub not-less : (a b : ℕ) → T (not (ltb a b)) → b ≤ a
-not-less a b h = ltb-false a b (is-false (ltb a b) h)
-
 pub clash : true ≡ false → ⊥
 clash e = let y : _≡_ {A = ℕ} 0 1 = cc in omega arith
 
 -- ---- pairs of numbers
+pub same-refl : (p : Two) → sameTwo p p ≡ true
+same-refl p = rw (eq-eqb (p .0) (p .0) refl, eq-eqb (p .1) (p .1) refl) refl
+
 pub same-eq : (p q : Two) → sameTwo p q ≡ true → p ≡ q
 same-eq p q e = go (eqb (p .0) (q .0)) refl (eqb (p .1) (q .1)) refl
   where

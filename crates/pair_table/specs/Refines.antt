@@ -14,7 +14,7 @@ use Rattle.spec.specs.Graph.{PAIRS, enter}
 use Rattle.pair_table.specs.declared.Pair.{Pair}
 use Rattle.pair_table.specs.declared.Entered.{Entered}
 use Rattle.pair_table.specs.declared.Entered.the-variants.{At, New, Full}
-use Rattle.pair_table.specs.Table.{twoOf, recordOf, held, findOf, hasRoom, enterOf, tableAfter}
+use Rattle.pair_table.specs.Table.{twoOf, recordOf, held, findOf, hasRoom, enterOf, tableAfter, notNew}
 use Rattle.pair_table.specs.Lists.{clash, take-set}
 use Rattle.pair_table.specs.Enter.{length-held}
 
@@ -37,60 +37,18 @@ map-last f (x ∷ l) y = ap (λ (r : List Two). f x ∷ r) (map-last f l y)
 pub held-set : (s : List Pair) (count : ℕ) (p : Two) → count < length s → held (set s count (recordOf p)) (suc count) ≡ held s count ++ (p ∷ [])
 held-set s count p h = ap (map twoOf) (take-set s count (recordOf p) h) ∙ map-last twoOf (take count s) (recordOf p)
 
--- Full has no number, At and New have one
-full-or : Entered → Bool
-full-or (At i) = false
-full-or (New i) = false
-full-or Full = true
-
-new-or : Entered → Bool
-new-or (At i) = false
-new-or (New i) = true
-new-or Full = false
-
-numberIn : Entered → ℕ
-numberIn (At i) = i
-numberIn (New i) = i
-numberIn Full = 0
-
 module _ (s : List Pair) (count : ℕ) (p : Two) where
   room-below : hasRoom count (length s) ≡ true → (count < PAIRS) × (count < length s)
   room-below e = (omega (arith, ltb-true count (min PAIRS (length s)) e, min-le-left PAIRS (length s)), omega (arith, ltb-true count (min PAIRS (length s)) e, min-le-right PAIRS (length s)))
 
-  -- At: it was there, and nothing changed
-  pub at-says : (i : ℕ) → enterOf s count p ≡ At i → (any (sameTwo p) (held s count) ≡ true) × (i ≡ place (sameTwo p) (held s count)) × (tableAfter s count p ≡ s)
-  unfolding full-or new-or numberIn
-  at-says i e = go (any (sameTwo p) (held s count)) refl (hasRoom count (length s)) refl e
+  -- a pair that is not new leaves the table as it was
+  pub not-new-says : notNew (enterOf s count p) ≡ true → tableAfter s count p ≡ s
+  not-new-says = go (any (sameTwo p) (held s count)) (hasRoom count (length s))
     where
-      go : (t : Bool) → any (sameTwo p) (held s count) ≡ t → (u : Bool) → hasRoom count (length s) ≡ u → pick t (At (findOf s count p)) (pick u (New count) Full) ≡ At i
-          → (any (sameTwo p) (held s count) ≡ true) × (i ≡ place (sameTwo p) (held s count)) × (tableAfter s count p ≡ s)
-      go true a u b q = (a, sym (ap numberIn q), ap (λ (t : Bool). pick t s (pick (hasRoom count (length s)) (set s count (recordOf p)) s)) a)
-      go false a true b q = absurd (clash (ap new-or q))
-      go false a false b q = absurd (clash (ap full-or q))
-
-  pub says-at : any (sameTwo p) (held s count) ≡ true → enterOf s count p ≡ At (place (sameTwo p) (held s count))
-  says-at a = ap (λ (t : Bool). pick t (At (findOf s count p)) (pick (hasRoom count (length s)) (New count) Full)) a
-
-  -- New: it was not there, and now it is the last that is held
-  pub new-says : (i : ℕ) → enterOf s count p ≡ New i → (any (sameTwo p) (held s count) ≡ false) × (i ≡ count) × (held (tableAfter s count p) (suc count) ≡ held s count ++ (p ∷ []))
-  unfolding full-or new-or numberIn
-  new-says i e = go (any (sameTwo p) (held s count)) refl (hasRoom count (length s)) refl e
-    where
-      go : (t : Bool) → any (sameTwo p) (held s count) ≡ t → (u : Bool) → hasRoom count (length s) ≡ u → pick t (At (findOf s count p)) (pick u (New count) Full) ≡ New i
-          → (any (sameTwo p) (held s count) ≡ false) × (i ≡ count) × (held (tableAfter s count p) (suc count) ≡ held s count ++ (p ∷ []))
-      go true a u b q = absurd (clash (sym (ap new-or q)))
-      go false a true b q = (a, sym (ap numberIn q), rw (a, b) (held-set s count p (room-below b .1)))
-      go false a false b q = absurd (clash (ap full-or q))
-
-  -- Full: the table stays as it was
-  pub full-says : enterOf s count p ≡ Full → tableAfter s count p ≡ s
-  unfolding full-or
-  full-says e = go (any (sameTwo p) (held s count)) refl (hasRoom count (length s)) refl e
-    where
-      go : (t : Bool) → any (sameTwo p) (held s count) ≡ t → (u : Bool) → hasRoom count (length s) ≡ u → pick t (At (findOf s count p)) (pick u (New count) Full) ≡ Full → tableAfter s count p ≡ s
-      go true a u b q = absurd (clash (sym (ap full-or q)))
-      go false a true b q = absurd (clash (sym (ap full-or q)))
-      go false a false b q = rw (a, b) refl
+      go : (t u : Bool) → notNew (pick t (At (findOf s count p)) (pick u (New count) Full)) ≡ true → pick t s (pick u (set s count (recordOf p)) s) ≡ s
+      go true u q = refl
+      go false true q = absurd (clash (sym q))
+      go false false q = refl
 
   -- "a pair beyond 4,096 would be entered": a table of 4,096 records answers as `enter` does
   module _ (wide : PAIRS ≤ length s) (within : count ≤ PAIRS) where
@@ -112,7 +70,7 @@ module _ (s : List Pair) (count : ℕ) (p : Two) where
 
     -- Full exactly where `enter` refuses
     pub full-refused : enterOf s count p ≡ Full ↔ enter (held s count) p ≡ refused 12
-    unfolding enter full-or
+    unfolding enter
     full-refused = (λ e. refines ∙ ap (λ (g : Entered). resultOf g (held (tableAfter s count p) (countAfter g count))) e, λ e. go (enterOf s count p) refl (sym refines ∙ e))
       where
         refuses : Res (List Two) → Bool

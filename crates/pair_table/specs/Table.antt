@@ -1,12 +1,13 @@
 -- "The pair table is a lent slice of records, searched from its start": what the functions on it give, and what they leave.
-use Prim.Native.Nat.{ℕ, zero, suc, _+_, min}
-use mathlib.Core.Bool.{Bool, false}
+use Prim.Native.Nat.{ℕ, zero, suc, _+_, _-_, min}
+use mathlib.Core.Bool.{Bool, true, false}
 use mathlib.Core.List.{List, map}
 use lib.Dec.{ltb}
 use lib.ListN.{getD, set, length, take}
 use Rattle.spec.specs.Bytes.{Two, sameTwo, place, any, pick}
 use Rattle.spec.specs.Graph.{PAIRS}
 use Rattle.pair_table.specs.declared.Pair.{Pair}
+use Rattle.pair_table.specs.declared.Count.{Count}
 use Rattle.pair_table.specs.declared.Entered.{Entered}
 use Rattle.pair_table.specs.declared.Entered.the-variants.{At, New, Full}
 
@@ -47,13 +48,21 @@ putIn s i p = pick (hasRoom i (length s)) (set s i p) s
 abbrev pub outcomeOf : ℕ → ℕ → ℕ → Entered
 outcomeOf at count len = pick (ltb at (min count len)) (At at) (pick (hasRoom count len) (New count) Full)
 
--- whether every pair so far was new
-abbrev pub stillNew : Bool → Entered → Bool
-stillNew fresh (New i) = fresh
-stillNew fresh (At i) = false
-stillNew fresh Full = false
+-- whether the pair was there already, or found no room
+abbrev pub notNew : Entered → Bool
+notNew (At i) = true
+notNew (New i) = false
+notNew Full = true
 
--- n pairs from number k on, each entered after the k before it: whether each was new there, and the table
-abbrev pub enterFrom : List ℕ → List ℕ → ℕ → ℕ → Bool → List Pair → Bool × List Pair
-enterFrom ls rs zero k fresh s = (fresh, s)
-enterFrom ls rs (suc n) k fresh s = enterFrom ls rs n (k + 1) (stillNew fresh (enterOf s k (getD ls k 0, getD rs k 0))) (tableAfter s k (getD ls k 0, getD rs k 0))
+-- pair k of two plain arrays
+abbrev pub pairOf : List ℕ → List ℕ → ℕ → Two
+pairOf ls rs k = (getD ls k 0, getD rs k 0)
+
+-- n pairs from number k on, each entered after the k before it, up to one that was there already or finds no room: how many records are held then, and the table
+abbrev pub enteredOf : List ℕ → List ℕ → ℕ → ℕ → List Pair → ℕ × List Pair
+enteredOf ls rs zero k s = (k, s)
+enteredOf ls rs (suc n) k s = pick (notNew (enterOf s k (pairOf ls rs k))) (k, s) (enteredOf ls rs n (k + 1) (tableAfter s k (pairOf ls rs k)))
+
+-- how many records stand from the queried pair's on; none where it is not held
+abbrev pub countedOf : ℕ × List Pair → Two → Count
+countedOf z p = record { pairs = z .0 - findOf (z .1) (z .0) p }

@@ -5,7 +5,7 @@ ghost use Prim.Native.Nat.{min, _-_, _≤_};
 ghost use lib.ListN.{length, getD};
 ghost use Rattle.spec.specs.Bytes.{either, sameTwo, workAfter};
 ghost use Rattle.spec.specs.Graph.{PAIRS};
-ghost use Rattle.pair_table.specs.Table.{none, twoOf, findOf, putIn, outcomeOf, enterOf, tableAfter, stillNew, enterFrom};
+ghost use Rattle.pair_table.specs.Table.{none, twoOf, findOf, putIn, outcomeOf, enterOf, tableAfter, notNew, enteredOf, countedOf};
 ghost use Rattle.pair_table.specs.Code.{codeOf};
 ghost use Rattle.pair_table.specs.Search.{seek, anyFrom};
 
@@ -20,6 +20,11 @@ pub enum Entered {
     At(usize),
     New(usize),
     Full,
+}
+
+// How many records stand in the table from the queried pair's on. Only `enter_graph` makes one.
+pub struct Count {
+    pairs: usize,
 }
 
 // How many pairs there may be.
@@ -76,13 +81,6 @@ fn outcome(at: usize, count: usize, len: usize) -> Entered
         return Entered::New(count);
     }
     Entered::Full
-}
-
-// The length of the table.
-pub fn length_of(table: &[Pair]) -> usize
-    ensures { λ r. ⌜ r ≡ length (now (table .entry)) ⌝ }
-{
-    table.len()
 }
 
 // Whether one of the records numbered from..to is the pair. Every one is looked at, so that many can be compared at once.
@@ -170,29 +168,63 @@ fn word_at(s: &[u16], i: usize) -> u16
     0
 }
 
-// Whether this pair, as those before it, was new.
-fn still_new(fresh: bool, e: Entered) -> bool
-    ensures { λ r. ⌜ r ≡ stillNew fresh e ⌝ }
+// Whether a pair was there already, or found no room.
+fn not_new(e: Entered) -> bool
+    ensures { λ r. ⌜ r ≡ notNew e ⌝ }
 {
     match e {
-        Entered::New(i) => fresh,
-        Entered::At(i) => false,
-        Entered::Full => false,
+        Entered::New(i) => false,
+        Entered::At(i) => true,
+        Entered::Full => true,
     }
 }
 
-// Enters the pairs numbered from..to of two plain slices, each at its own number, and answers whether each was new there.
-pub fn enter_from(table: &mut [Pair], lefts: &[u16], rights: &[u16], from: usize, to: usize) -> bool
-    ensures { λ r. ⌜ (r ≡ enterFrom (now (lefts .entry)) (now (rights .entry)) (to - from) from true (now (table .entry)) .0) × (now (table .exit) ≡ enterFrom (now (lefts .entry)) (now (rights .entry)) (to - from) from true (now (table .entry)) .1) ⌝ }
+// Enters the first n pairs of two plain slices in their order, as long as each is new. Gives how many records are held then.
+fn enter_all(table: &mut [Pair], lefts: &[u16], rights: &[u16], n: usize) -> usize
+    ensures { λ r. ⌜ (r ≡ enteredOf (now (lefts .entry)) (now (rights .entry)) n 0 (now (table .entry)) .0) × (now (table .exit) ≡ enteredOf (now (lefts .entry)) (now (rights .entry)) n 0 (now (table .entry)) .1) ⌝ }
 {
-    let mut fresh = true;
-    let mut k = from;
-    while k < to {
+    let mut k = 0;
+    while k < n {
         let l = word_at(lefts, k);
         let r = word_at(rights, k);
         let e = enter(table, k, l, r);
-        fresh = still_new(fresh, e);
+        if not_new(e) {
+            return k;
+        }
         k = k + 1;
     }
-    fresh
+    k
+}
+
+// The records from place `at` on, of `held` records.
+fn count_from(at: usize, held: usize) -> Count
+    ensures { λ r. ⌜ r ≡ record { pairs = held - at } ⌝ }
+{
+    if at < held {
+        return Count { pairs: held - at };
+    }
+    Count { pairs: 0 }
+}
+
+// Enters the first n pairs of two plain slices, and counts the records from the queried pair's on.
+pub fn enter_graph(
+    table: &mut [Pair],
+    lefts: &[u16],
+    rights: &[u16],
+    n: usize,
+    left: u16,
+    right: u16,
+) -> Count
+    ensures { λ r. ⌜ (r ≡ countedOf (enteredOf (now (lefts .entry)) (now (rights .entry)) n 0 (now (table .entry))) (left, right)) × (now (table .exit) ≡ enteredOf (now (lefts .entry)) (now (rights .entry)) n 0 (now (table .entry)) .1) ⌝ }
+{
+    let held = enter_all(table, lefts, rights, n);
+    let at = find(table, held, left, right);
+    count_from(at, held)
+}
+
+// How many records were counted.
+pub fn pairs_in(c: Count) -> usize
+    ensures { λ r. ⌜ r ≡ c .pairs ⌝ }
+{
+    c.pairs
 }

@@ -1,8 +1,9 @@
 use borrow.Author.Needs.{needs}
-use mathlib.Core.Path.{subst}
+use mathlib.Core.Path.{ap, subst, _∙_}
 use Rattle.au.specs.declared.Prepared.{Prepared}
-use Rattle.au.specs.Prepared.{Prepares}
+use Rattle.au.specs.Prepared.{pairsOf, Prepares}
 use Rattle.au.specs.PreparedLaws.{merges-stop}
+use Rattle.au.specs.TableCounts.{counts-go, counts-again}
 use Rattle.au.proofs.conclude.Statement.{statement}
 use Rattle.au.proofs.conclude.Tie as tie
 
@@ -25,7 +26,7 @@ finish-requires : tie.Need-finish-requires
 finish-requires c κs =
     let a = c .before .before .before .before .before .before .before .before .before .before .before .before .before .before .before .before .before .before .before .before in
     let g = subst (λ (z : Prepared). Prepares (a .args .s .now) (a .args .left) (a .args .right) (a .args .budget) z (a .args .lefts .now) (a .args .rights .now) (a .args .index .now) (a .args .terms .now) (a .args .runs .now)) (c .before .before .before .before .before .before .before .before .before .before .p2 .given .1) (a .pre .2) in
-    (a .pre .0, a .pre .1, rw (c .before .before .before .before .before .before .before .before .wide .ensures .0, c .before .before .before .before .before .before .before .wide2 .ensures .0) g)
+    (a .pre .0, a .pre .1, rw (c .before .before .before .before .before .before .before .before .wide .ensures .0, c .before .before .before .before .before .before .before .wide2 .ensures .0) g, rw (c .before .before .before .before .before .before .before .before .wide .ensures .0, c .before .before .before .before .before .before .before .wide2 .ensures .0) (counts-go (a .args .c .pairs) g (a .pre .3 ∙ ap pairsOf (c .before .before .before .before .before .before .before .before .before .before .p2 .given .1))))
 
 enum-known-p-3 : tie.Need-enum-known-p-3
 enum-known-p-3 c = search needs
@@ -40,7 +41,7 @@ finish-again-requires : tie.Need-finish-again-requires
 finish-again-requires c κs =
     let a = c .before .before .before .before .before .before .before .before .before .before .before .before .before .before .before .before .before .before .before .before in
     let g = subst (λ (z : Prepared). Prepares (a .args .s .now) (a .args .left) (a .args .right) (a .args .budget) z (a .args .lefts .now) (a .args .rights .now) (a .args .index .now) (a .args .terms .now) (a .args .runs .now)) (c .before .before .before .before .before .before .before .before .before .before .p3 .given .1) (a .pre .2) in
-    (g .loaded, g .read, rw (c .before .before .before .before .before .before .before .before .wide3 .ensures .0) (g .left), rw (c .before .before .before .before .before .before .before .wide4 .ensures .0) (g .right), a .pre .0 .lefts, a .pre .0 .rights, a .pre .1)
+    (g .loaded, g .read, rw (c .before .before .before .before .before .before .before .before .wide3 .ensures .0) (g .left), rw (c .before .before .before .before .before .before .before .wide4 .ensures .0) (g .right), a .pre .0 .lefts, a .pre .0 .rights, a .pre .1, rw (c .before .before .before .before .before .before .before .before .wide3 .ensures .0, c .before .before .before .before .before .before .before .wide4 .ensures .0) (counts-again (a .args .c .pairs) g (a .pre .3 ∙ ap pairsOf (c .before .before .before .before .before .before .before .before .before .before .p3 .given .1))))
 
 same-length : tie.Need-same-length
 same-length c = search needs

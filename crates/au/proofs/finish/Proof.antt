@@ -1,22 +1,28 @@
 use borrow.Author.Needs.{needs}
 use mathlib.Core.Path.{sym, _∙_}
 use Rattle.au.specs.PreparedLaws.{merges-finish, cleared-finish}
+use Rattle.au.specs.TableCounts.{goes-counted}
 use Rattle.au.specs.Tiers.{finished-long, finished-short, short-cleared, as-long, cleared-large, merges-from}
 use Rattle.au.proofs.finish.Statement.{statement}
 use Rattle.au.proofs.finish.Tie as tie
 
+counted-requires : tie.Need-counted-requires
+counted-requires c κs = search needs
+
 finish-small-requires : tie.Need-finish-small-requires
-finish-small-requires c κs = search needs
+finish-small-requires c κs =
+    let a = c .before .before .before .before .before .before .before .before .before .before .before .before .before .before .before .before in
+    (a .pre .0, a .pre .1, goes-counted (a .args .c .pairs) (a .pre .2) (a .pre .3) (c .before .before .before .before .before .before .before .counted .ensures))
 
 answered-short-requires : tie.Need-answered-short-requires
 answered-short-requires c κs = search needs
 
 run-large-requires : tie.Need-run-large-requires
 run-large-requires c κs =
-    let a = c .before .before .before .before .before .before .before .before .before .before .before .before .before .before .before .before .before .before .before .before .before .before .before .before .before .before .before .before .before .before .before .before .before .before .before .before in
+    let a = c .before .before .before .before .before .before .before .before .before .before .before .before .before .before .before .before .before .before .before .before .before .before .before .before .before .before .before .before .before .before .before .before .before .before .before .before .before in
     let x = c .before .before .before .before .before .before .before .before .before .before .before .before .before .before .before .before .before .before .before .before .finish-small in
     let g = a .pre .2 in
-    (g .loaded, g .read, g .left, g .right, as-long 4096 (a .pre .0 .lefts) (x .kept .1 .1 .1 .1 .1 .1 .0), as-long 4096 (a .pre .0 .rights) (x .kept .1 .1 .1 .1 .1 .1 .1 .0), as-long 24576 (a .pre .1) (x .kept .1 .1 .1 .1 .1 .1 .1 .1 .1 .0))
+    (g .loaded, g .read, g .left, g .right, as-long 4096 (a .pre .0 .lefts) (x .kept .1 .1 .1 .1 .1 .1 .0), as-long 4096 (a .pre .0 .rights) (x .kept .1 .1 .1 .1 .1 .1 .1 .0), as-long 24576 (a .pre .1) (x .kept .1 .1 .1 .1 .1 .1 .1 .1 .1 .0), a .pre .3)
 
 same-length : tie.Need-same-length
 same-length c = search needs
@@ -72,7 +78,7 @@ same-length-14 c = search needs
 
 returns-2 : tie.Need-returns-2
 returns-2 c =
-    let a = c .before .before .before .before .before .before .before .before .before .before .before .before .before .before .before .before .before .before .before .before .before .before .before .before .before .before .before .before .before .before .before .before .before in
+    let a = c .before .before .before .before .before .before .before .before .before .before .before .before .before .before .before .before .before .before .before .before .before .before .before .before .before .before .before .before .before .before .before .before .before .before in
     let x = c .before .before .before .before .before .before .before .before .before .before .before .before .before .before .before .before .before .finish-small in
     let f = finished-long (x .result) _ (sym (c .before .before .answered-short .ensures) ∙ c .before .if1 .left) (x .ensures) in
     (rw (c .answer-of .ensures) (merges-finish _ _ _ _ _ _ _ _ _ _ _ _ _ _ _ _ _ _ _ _ _ (a .pre .2) f (x .kept .1 .1 .1 .1 .1 .1 .1 .1 .1 .1 .1 .1 .0)), cleared-finish _ _ _ _ _ _ _ _ _ _ _ _ _ _ _ _ _ _ f)
@@ -81,6 +87,7 @@ pub finish-spec : {M : Type 1} → statement M
 finish-spec =
     tie.close
     (tie.spec
+    counted-requires
     finish-small-requires
     answered-short-requires
     run-large-requires

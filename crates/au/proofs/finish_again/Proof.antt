@@ -10,7 +10,7 @@ run-large-requires : tie.Need-run-large-requires
 run-large-requires c κs =
     let a = c .before .before .before .before .before .before .before .before .before .before .before .before .before .before .before .before .before .before .before .before .before .before .before .before .before .before .before .before .before .before .before in
     let x = c .before .before .before .before .before .before .before .before .before .before .before .before .before .before .before .before .clear-all in
-    (a .pre .0, a .pre .1, a .pre .2, a .pre .3, as-long 4096 (a .pre .4) (x .kept .0), as-long 4096 (a .pre .5) (x .kept .1 .0), as-long 24576 (a .pre .6) (x .kept .1 .1 .1 .0))
+    (a .pre .0, a .pre .1, a .pre .2, a .pre .3, as-long 4096 (a .pre .4) (x .kept .0), as-long 4096 (a .pre .5) (x .kept .1 .0), as-long 24576 (a .pre .6) (x .kept .1 .1 .1 .0), a .pre .7)
 
 same-length : tie.Need-same-length
 same-length c = search needs
