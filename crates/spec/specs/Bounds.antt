@@ -171,11 +171,7 @@ met-13 : turnsTerms (tablesOf imageE) (λ p. 0) ((2, 3) ∷ []) (turn ∷ []) 1 
 unfolding turnsTerms tablesOf imageE fullPool
 met-13 = refl
 
--- 3 checks in building, 3 in starting terms: none is left for a round; and a budget of which two bytes are not enough
-budget-6 : mergeOf true imageE 2 3 6 200 ≡ ok (text "partial pairs 3 rounds 0 size 6 mass 6\n0 lit 0 5\n1 lit 0 7\n2 op 1 0:1 1:1\n3 op 1 0:2\n4 variants 2:1 3:1\n")
-unfolding mergeOf imageE text
-budget-6 = refl
-
+-- a budget of which two bytes are not enough
 budget-65536 : programOf (imageE ++ (0 ∷ 2 ∷ 0 ∷ 3 ∷ 0 ∷ 1 ∷ 0 ∷ 0 ∷ [])) ≡ text "complete pairs 3 rounds 1 size 4 mass 2\n0 lit 0 5\n1 lit 0 7\n2 variants 1:1 0:1\n3 op 1 0:1 2:1\n"
 unfolding programOf imageE text
 budget-65536 = refl

@@ -129,23 +129,23 @@ no-children : (alignments 0 3 [] [] ≡ record { op = 3; pairs = [] } ∷ []) ×
 unfolding alignments
 no-children = (refl, refl)
 
--- ---- terms: 0 an operation, 1 and 2 literals, 3 a marked place, then operations over them
+-- ---- terms: 0 and 4 operations, 1, 2 and 12 literals, 3 a marked place, the others operations over them
 unfoldable pool : Pool
 unfolding joinRuns
 pool =
     opNode 3 [] ∷ litNode 0 9 ∷ litNode 1 2 ∷ variantsNode 1 2 ∷ opNode 6 []
-    ∷ opNode 5 ((0, 3) ∷ []) ∷ opNode 5 ((0, 1) ∷ (1, 1) ∷ []) ∷ opNode 5 ((0, 1) ∷ (2, 1) ∷ []) ∷ opNode 5 ((0, 1) ∷ (1, 2) ∷ []) ∷ opNode 5 ((1, 1) ∷ (0, 2) ∷ []) ∷ opNode 5 ((1, 2) ∷ (0, 1) ∷ []) ∷ opNode 5 ((1, 1) ∷ (0, 1) ∷ (1, 1) ∷ [])
+    ∷ opNode 5 ((0, 3) ∷ []) ∷ opNode 5 ((0, 1) ∷ (1, 1) ∷ []) ∷ opNode 5 ((0, 1) ∷ (2, 1) ∷ []) ∷ opNode 5 ((0, 1) ∷ (1, 2) ∷ []) ∷ opNode 5 ((1, 1) ∷ (0, 2) ∷ []) ∷ opNode 5 ((1, 2) ∷ (0, 1) ∷ []) ∷ opNode 5 ((1, 1) ∷ (0, 1) ∷ (1, 1) ∷ []) ∷ litNode 0 12
     ∷ []
 
 -- head, operation, value, length, then children from the left; each pair rises
 rising : List Two
-rising = (0, 1) ∷ (1, 2) ∷ (2, 3) ∷ (0, 3) ∷ (5, 4) ∷ (6, 5) ∷ (6, 7) ∷ (5, 8) ∷ (8, 9) ∷ (9, 11) ∷ (11, 10) ∷ (9, 10) ∷ []
+rising = (0, 1) ∷ (1, 2) ∷ (1, 12) ∷ (2, 3) ∷ (0, 3) ∷ (5, 4) ∷ (6, 5) ∷ (6, 7) ∷ (5, 8) ∷ (8, 9) ∷ (9, 11) ∷ (11, 10) ∷ (9, 10) ∷ []
 
-order-of-terms : (map (λ p. structuralCmp 12 pool (p .0) (p .1)) rising ≡ map (λ p. less) rising) × (map (λ p. structuralCmp 12 pool (p .1) (p .0)) rising ≡ map (λ p. greater) rising)
+order-of-terms : (map (λ p. structuralCmp 13 pool (p .0) (p .1)) rising ≡ map (λ p. less) rising) × (map (λ p. structuralCmp 13 pool (p .1) (p .0)) rising ≡ map (λ p. greater) rising)
 unfolding structuralCmp pool rising
 order-of-terms = (refl, refl)
 
-sorted : sortRuns pool ((3, 1) ∷ (2, 1) ∷ (4, 2) ∷ (1, 1) ∷ (0, 3) ∷ []) ≡ (0, 3) ∷ (4, 2) ∷ (1, 1) ∷ (2, 1) ∷ (3, 1) ∷ []
+sorted : sortRuns pool ((3, 1) ∷ (2, 1) ∷ (4, 2) ∷ (7, 1) ∷ (6, 1) ∷ (1, 1) ∷ (0, 3) ∷ []) ≡ (0, 3) ∷ (6, 1) ∷ (7, 1) ∷ (4, 2) ∷ (1, 1) ∷ (2, 1) ∷ (3, 1) ∷ []
 unfolding sortRuns pool
 sorted = refl
 
@@ -154,7 +154,7 @@ abbrev numberOf : Res Interned → ℕ
 numberOf (ok a) = a .term
 numberOf (refused n) = 99
 
-apart : map (λ n. numberOf (intern pool n)) (opNode 0 ((1, 1) ∷ (2, 1) ∷ []) ∷ opNode 4 [] ∷ litNode 0 8 ∷ opNode 5 ((0, 2) ∷ []) ∷ opNode 5 ((0, 1) ∷ []) ∷ opNode 5 ((0, 1) ∷ (1, 1) ∷ (2, 1) ∷ []) ∷ opNode 5 ((1, 1) ∷ (1, 1) ∷ (0, 1) ∷ []) ∷ variantsNode 1 2 ∷ []) ≡ 12 ∷ 12 ∷ 12 ∷ 12 ∷ 12 ∷ 12 ∷ 10 ∷ 3 ∷ []
+apart : map (λ n. numberOf (intern pool n)) (opNode 0 ((1, 1) ∷ (2, 1) ∷ []) ∷ opNode 4 [] ∷ litNode 0 8 ∷ opNode 5 ((0, 2) ∷ []) ∷ opNode 5 ((0, 1) ∷ []) ∷ opNode 5 ((0, 1) ∷ (1, 1) ∷ (2, 1) ∷ []) ∷ opNode 5 ((1, 1) ∷ (1, 1) ∷ (0, 1) ∷ []) ∷ variantsNode 1 2 ∷ []) ≡ 13 ∷ 13 ∷ 13 ∷ 13 ∷ 13 ∷ 13 ∷ 10 ∷ 3 ∷ []
 unfolding intern pool joinRuns
 apart = refl
 
