@@ -19,8 +19,8 @@
 //! loop asserts. This argument has finite regression coverage but is not yet a
 //! machine-checked theorem; see design chapter 19, section 9.6.
 
-use crate::clock::{Duration, Instant};
 use std::collections::HashMap;
+use crate::clock::{Duration, Instant};
 
 use crate::canon::{MSetCanon, VarCanon};
 use crate::config::{AuIds, EGraphConfig};
