@@ -1,0 +1,84 @@
+#!/usr/bin/env python3
+# run.py [LABEL | mod:MODULE ..]: tries slips of slips.py, each on a copy of crate spec that is checked against its test modules one after the other, and prints what refuses it. From the repository's root; --jobs N at a time (2).
+import os, queue, re, shutil, subprocess, sys, tempfile, threading
+
+from slips import SLIPS
+
+here = os.path.dirname(os.path.abspath(__file__))
+spec = os.path.join(here, '../../crates/spec')
+home = os.path.dirname(os.path.dirname(os.path.realpath(shutil.which('rt'))))
+own = f'{home}/on/{os.uname().machine}'
+definitions = 'Bytes Image Monomial Transport Action Graph Pool Round Run Listing Merge Meaning'.split()
+# groups of test modules, the quickest first
+tests = [['Asked', 'Belonging'], ['Asked', 'Edges', 'Found'], ['Asked', 'Slips'], ['Asked', 'Refusals'], ['Asked', 'Limits', 'Bounds'], ['Asked', 'Samples']]
+
+
+# PASSED; REFUSED with the tests that fail; FORM where the definition itself no longer stands
+def check(module, changes, group):
+    folder = tempfile.mkdtemp()
+    try:
+        os.makedirs(folder + '/src')
+        os.makedirs(folder + '/specs')
+        shutil.copy(spec + '/src/lib.rt', folder + '/src/lib.rt')
+        modules = definitions + group
+        for m in modules:
+            text = open(f'{spec}/specs/{m}.antt', encoding='utf-8').read()
+            if m == module:
+                for old, new in changes:
+                    if text.count(old) != 1:
+                        return 'BAD', [f'the text occurs {text.count(old)} times']
+                    text = text.replace(old, new)
+            open(f'{folder}/specs/{m}.antt', 'w', encoding='utf-8').write(text)
+        open(folder + '/specs/Lib.antt', 'w', encoding='utf-8').write(''.join(f'pub mod {m}\n' for m in modules))
+        command = [own + '/bin/rattle', 'check', '--crate-name', 'spec', folder + '/src/lib.rt', '--extern', f'std={own}/rlib/std.rlib', '-L', f'dependency={own}/rlib', '--antt-project', home + '/logic/antt-project.json', '--logic-built', own + '/logic-built']
+        try:
+            done = subprocess.run(command, capture_output=True, text=True, timeout=300)
+        except subprocess.TimeoutExpired:
+            return 'TIMEOUT', []
+        out = done.stdout + done.stderr
+        errors = [(os.path.basename(f)[:-5], name) for f, name in re.findall(r'^(\S+\.antt):\d+:\d+: error: (?:`([^`]*)`)?', out, re.M)]
+        if 'logic=proved' in out:
+            return 'PASSED', []
+        if not errors or any(m in definitions for m, _ in errors):
+            return 'FORM', [f'{m} {name}' for m, name in errors]
+        return 'REFUSED', [f'{m} {name}' for m, name in errors]
+    finally:
+        shutil.rmtree(folder, ignore_errors=True)
+
+
+def try_slip(module, changes):
+    for group in tests[:1] if module == 'Meaning' else tests[1:]:
+        verdict, why = check(module, changes, group)
+        if verdict != 'PASSED':
+            break
+    return verdict, why
+
+
+words = sys.argv[1:]
+jobs = 2
+if '--jobs' in words:
+    i = words.index('--jobs')
+    jobs = int(words[i + 1])
+    del words[i:i + 2]
+todo = queue.Queue()
+for module in definitions:
+    for label, changes in SLIPS[module]:
+        if not words or label in words or 'mod:' + module in words:
+            todo.put((label, module, changes))
+
+
+def work():
+    while True:
+        try:
+            label, module, changes = todo.get_nowait()
+        except queue.Empty:
+            return
+        verdict, why = try_slip(module, changes)
+        print('\t'.join([verdict, module, label, ' | '.join(why)]), flush=True)
+
+
+threads = [threading.Thread(target=work) for _ in range(jobs)]
+for t in threads:
+    t.start()
+for t in threads:
+    t.join()
