@@ -1,7 +1,7 @@
 // SPDX-License-Identifier: Apache-2.0
 //! Queries for the bench and for the test of the stack: frames (image, left, right, budget).
 
-use harness::draw;
+use harness::{draw, draw_first};
 use harness::r#gen::{class, lit, over};
 use harness::img::{Class, Img, Member, Operation, Query};
 use harness::limits::{many_terms, pairs};
@@ -118,7 +118,7 @@ pub fn families() -> Vec<Family> {
     vec![
         family("quote page: the examples' tariffs", tariffs()),
         family("drawn, family mixed", draw(7, 300, Some("mixed"))),
-        family("drawn, all families", draw(7, 300, None)),
+        family("drawn, all families", draw_first(7, 300)),
         family("transport of 65 × 60", vec![transport(60)]),
         family("graph of 4,096 pairs", vec![frame(full, 127, 128)]),
         family("terms: 30 × 30 chains", vec![frame(chains, n - 2, n - 1)]),

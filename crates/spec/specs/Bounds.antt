@@ -194,6 +194,15 @@ fourteen-after-11 : mergeOf true imageE 4 0 0 0 ≡ refused 11
 unfolding mergeOf imageE
 fourteen-after-11 = refl
 
+-- image E has classes 0 to 3
+right-class-3 : mergeOf true imageE 3 3 0 65536 ≡ ok (text "partial pairs 1 rounds 0 size 3 mass 0\n0 lit 0 5\n1 op 1 0:2\n")
+unfolding mergeOf imageE text
+right-class-3 = refl
+
+right-class-4 : mergeOf true imageE 0 4 0 65536 ≡ refused 11
+unfolding mergeOf imageE
+right-class-4 = refl
+
 rows-65 : solveTransport true (record { supply = 1 ∷ replicate 64 0; demand = 1 ∷ []; cells = replicate 65 (cost 1 0) }) 65 ≡ ok (record { plan = 1 ∷ replicate 64 0; size = 1; mass = 0 })
 unfolding solveTransport
 rows-65 = refl
