@@ -25,7 +25,7 @@ cast-t17 : tie.Need-cast-t17
 cast-t17 c = search needs
 
 list-requires : tie.Need-list-requires
-list-requires c κs = let b = c .before .before .before .before .before .before .before .before .before .before .before in (b .pre .0, b .pre .1, omega (arith, c .before .before .before .before .before .if1 .left, c .before .before .before .before .before .before .count .ensures .0))
+list-requires c κs = let b = c .before .before .before .before .before .before .before .before .before .before .before in (b .pre .0, omega (arith, b .pre .1), omega (arith, c .before .before .before .before .before .if1 .left, c .before .before .before .before .before .before .count .ensures .0))
 
 enum-told : tie.Need-enum-told
 enum-told c = search needs
