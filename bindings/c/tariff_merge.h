@@ -10,7 +10,7 @@
  * and no lent buffer overlapping another or the image.
  *
  * Stack: a call needs up to TARIFF_STACK_BYTES of the calling thread's stack, since a query that is too
- * large for the lent buffers runs in arrays there, about 1.3 MB, and the listing is written by recursion.
+ * large for the lent buffers runs in arrays there, about 1.2 MB, and the listing is written by recursion.
  * The library does not test it: on a thread with less, an overflow ends the process.
  */
 #ifndef TARIFF_MERGE_H
@@ -24,12 +24,12 @@ extern "C" {
 #endif
 
 /* How many elements each work buffer has at least; `tariff_lengths` answers the same. */
-#define TARIFF_LEFTS 4096
-#define TARIFF_RIGHTS 4096
-#define TARIFF_INDEX 8192
-#define TARIFF_PAIRS 24576
-#define TARIFF_TERMS 8194
-#define TARIFF_RUNS 4096
+#define TARIFF_GRAPH 4352
+#define TARIFF_PAIRS 1536
+#define TARIFF_WORK 1024
+#define TARIFF_FLOW 256
+#define TARIFF_TERMS 3074
+#define TARIFF_RUNS 1024
 
 /* An output buffer of the length that program `merge` has. Any length is allowed. */
 #define TARIFF_OUTPUT_BYTES 65536
@@ -79,10 +79,10 @@ struct tariff_returned {
 };
 
 struct tariff_lengths {
-    size_t lefts;
-    size_t rights;
-    size_t index;
+    size_t graph;
     size_t pairs;
+    size_t work;
+    size_t flow;
     size_t terms;
     size_t runs;
 };
@@ -98,22 +98,22 @@ struct tariff_lengths tariff_lengths(void);
 struct tariff_returned tariff_merge(
     const uint8_t *image, size_t image_bytes,
     uint16_t left, uint16_t right, uint32_t budget,
-    uint16_t *lefts, size_t lefts_length,
-    uint16_t *rights, size_t rights_length,
-    uint16_t *index, size_t index_length,
+    uint16_t *graph, size_t graph_length,
     uint32_t *pairs, size_t pairs_length,
+    uint64_t *work, size_t work_length,
+    uint64_t *flow, size_t flow_length,
     uint32_t *terms, size_t terms_length,
     uint64_t *runs, size_t runs_length,
     uint8_t *out, size_t out_bytes);
 
-/* All work buffers, of their constant lengths: about 0.2 MB, static or from malloc, and kept between calls. */
+/* All work buffers, of their constant lengths: about 46 KB, static or from malloc, and kept between calls. */
 struct tariff_work {
+    uint64_t work[TARIFF_WORK];
+    uint64_t flow[TARIFF_FLOW];
     uint64_t runs[TARIFF_RUNS];
     uint32_t pairs[TARIFF_PAIRS];
     uint32_t terms[TARIFF_TERMS];
-    uint16_t lefts[TARIFF_LEFTS];
-    uint16_t rights[TARIFF_RIGHTS];
-    uint16_t index[TARIFF_INDEX];
+    uint16_t graph[TARIFF_GRAPH];
 };
 
 /* `tariff_merge` in these buffers: never TARIFF_WORK_SHORT. */
@@ -125,8 +125,8 @@ static inline struct tariff_returned tariff_merge_in(
 {
     return tariff_merge(
         image, image_bytes, left, right, budget,
-        work->lefts, TARIFF_LEFTS, work->rights, TARIFF_RIGHTS, work->index, TARIFF_INDEX,
-        work->pairs, TARIFF_PAIRS, work->terms, TARIFF_TERMS, work->runs, TARIFF_RUNS,
+        work->graph, TARIFF_GRAPH, work->pairs, TARIFF_PAIRS, work->work, TARIFF_WORK,
+        work->flow, TARIFF_FLOW, work->terms, TARIFF_TERMS, work->runs, TARIFF_RUNS,
         out, out_bytes);
 }
 

@@ -77,8 +77,8 @@ static void refused(struct tariff_returned r, uint32_t number, const char *what)
 int main(void)
 {
     struct tariff_lengths lengths = tariff_lengths();
-    expect(lengths.lefts == TARIFF_LEFTS && lengths.rights == TARIFF_RIGHTS && lengths.index == TARIFF_INDEX
-            && lengths.pairs == TARIFF_PAIRS && lengths.terms == TARIFF_TERMS && lengths.runs == TARIFF_RUNS,
+    expect(lengths.graph == TARIFF_GRAPH && lengths.pairs == TARIFF_PAIRS && lengths.work == TARIFF_WORK
+            && lengths.flow == TARIFF_FLOW && lengths.terms == TARIFF_TERMS && lengths.runs == TARIFF_RUNS,
         "the header's lengths are the library's");
 
     listed(14, "complete pairs 3 rounds 1 size 4 mass 2\n" MERGED);
@@ -88,8 +88,8 @@ int main(void)
 
     soil();
     refused(tariff_merge(image, sizeof image, 2, 3, 14,
-                work.lefts, TARIFF_LEFTS, work.rights, TARIFF_RIGHTS, work.index, TARIFF_INDEX,
-                work.pairs, TARIFF_PAIRS, work.terms, TARIFF_TERMS, work.runs, TARIFF_RUNS - 1,
+                work.graph, TARIFF_GRAPH, work.pairs, TARIFF_PAIRS, work.work, TARIFF_WORK,
+                work.flow, TARIFF_FLOW, work.terms, TARIFF_TERMS, work.runs, TARIFF_RUNS - 1,
                 out, sizeof out),
         TARIFF_WORK_SHORT, "refusal 1: a work buffer one short");
     soil();

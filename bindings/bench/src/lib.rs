@@ -1,11 +1,11 @@
 // SPDX-License-Identifier: Apache-2.0
 //! Queries for the bench and for the test of the stack: frames (image, left, right, budget).
 
-use harness::{draw, draw_first};
 use harness::r#gen::{class, lit, over};
 use harness::img::{Class, Img, Member, Operation, Query};
 use harness::limits::{many_terms, pairs};
 use harness::text;
+use harness::{draw, draw_first};
 
 fn op(kind: u8) -> Operation {
     Operation {

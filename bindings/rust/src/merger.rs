@@ -32,7 +32,7 @@ const LIVES: &str = "the thread of a Merger lives as long as the Merger";
 /// The library runs large queries in arrays on the stack and writes a listing by recursion, with up
 /// to [`raw::STACK`](crate::raw::STACK) bytes in all, and nothing tests the stack. So a `Merger` has
 /// a thread of its own, with four times as much, and every call runs there: a caller's thread may be
-/// as small as it likes. The thread lives as long as the `Merger` and owns the work buffers (0.2 MB)
+/// as small as it likes. The thread lives as long as the `Merger` and owns the work buffers (46 KB)
 /// and the output buffer.
 /// A call costs one hand-over there and back; [`merge_each`](Merger::merge_each) asks many
 /// queries with one. Threads that call at the same time have a `Merger` each.

@@ -2,12 +2,12 @@
 //! The C interface as it is, and one set of buffers for it.
 
 /// How many numbers each work buffer has at least.
-pub const LEFTS: usize = 4_096;
-pub const RIGHTS: usize = 4_096;
-pub const INDEX: usize = 8_192;
-pub const PAIRS: usize = 24_576;
-pub const TERMS: usize = 8_194;
-pub const RUNS: usize = 4_096;
+pub const GRAPH: usize = 4_352;
+pub const PAIRS: usize = 1_536;
+pub const WORK: usize = 1_024;
+pub const FLOW: usize = 256;
+pub const TERMS: usize = 3_074;
+pub const RUNS: usize = 1_024;
 
 /// What a call may need of its thread's stack: a query too large for the lent buffers runs in arrays
 /// there, and the listing is written by recursion.
@@ -25,10 +25,10 @@ pub struct Returned {
 #[repr(C)]
 #[derive(Clone, Copy, Debug, PartialEq, Eq)]
 pub struct Lengths {
-    pub lefts: usize,
-    pub rights: usize,
-    pub index: usize,
+    pub graph: usize,
     pub pairs: usize,
+    pub work: usize,
+    pub flow: usize,
     pub terms: usize,
     pub runs: usize,
 }
@@ -45,14 +45,14 @@ unsafe extern "C" {
         left: u16,
         right: u16,
         budget: u32,
-        lefts: *mut u16,
-        lefts_length: usize,
-        rights: *mut u16,
-        rights_length: usize,
-        index: *mut u16,
-        index_length: usize,
+        graph: *mut u16,
+        graph_length: usize,
         pairs: *mut u32,
         pairs_length: usize,
+        work: *mut u64,
+        work_length: usize,
+        flow: *mut u64,
+        flow_length: usize,
         terms: *mut u32,
         terms_length: usize,
         runs: *mut u64,
@@ -64,10 +64,10 @@ unsafe extern "C" {
 
 /// The buffers of one call after another.
 pub struct Work {
-    lefts: Box<[u16]>,
-    rights: Box<[u16]>,
-    index: Box<[u16]>,
+    graph: Box<[u16]>,
     pairs: Box<[u32]>,
+    work: Box<[u64]>,
+    flow: Box<[u64]>,
     terms: Box<[u32]>,
     runs: Box<[u64]>,
     out: Box<[u8]>,
@@ -76,10 +76,10 @@ pub struct Work {
 impl Work {
     pub fn new(output: usize) -> Work {
         Work {
-            lefts: vec![0; LEFTS].into(),
-            rights: vec![0; RIGHTS].into(),
-            index: vec![0; INDEX].into(),
+            graph: vec![0; GRAPH].into(),
             pairs: vec![0; PAIRS].into(),
+            work: vec![0; WORK].into(),
+            flow: vec![0; FLOW].into(),
             terms: vec![0; TERMS].into(),
             runs: vec![0; RUNS].into(),
             out: vec![0; output].into(),
@@ -106,14 +106,14 @@ impl Work {
                 left,
                 right,
                 budget,
-                self.lefts.as_mut_ptr(),
-                self.lefts.len(),
-                self.rights.as_mut_ptr(),
-                self.rights.len(),
-                self.index.as_mut_ptr(),
-                self.index.len(),
+                self.graph.as_mut_ptr(),
+                self.graph.len(),
                 self.pairs.as_mut_ptr(),
                 self.pairs.len(),
+                self.work.as_mut_ptr(),
+                self.work.len(),
+                self.flow.as_mut_ptr(),
+                self.flow.len(),
                 self.terms.as_mut_ptr(),
                 self.terms.len(),
                 self.runs.as_mut_ptr(),

@@ -94,10 +94,10 @@ fn lengths_are_the_librarys() {
     assert_eq!(
         raw::tariff_lengths(),
         Lengths {
-            lefts: raw::LEFTS,
-            rights: raw::RIGHTS,
-            index: raw::INDEX,
+            graph: raw::GRAPH,
             pairs: raw::PAIRS,
+            work: raw::WORK,
+            flow: raw::FLOW,
             terms: raw::TERMS,
             runs: raw::RUNS,
         }

@@ -1,7 +1,2 @@
-pub mod Buffer
-pub mod Insert
-pub mod Scans
-pub mod Children
-pub mod Padding
 pub mod Places
 pub mod Steps

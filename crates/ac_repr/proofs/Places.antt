@@ -13,12 +13,13 @@ use Rattle.spec.specs.Bytes.{either, any}
 use Rattle.spec.specs.Image.{Tables, Member, NO-IDENTITY, tablesOf, isAC, kindOf, identityOf, theClass, theMember, membersOf}
 use Rattle.laws.specs.Valid.{Valid}
 use Rattle.laws.specs.AcceptedUses.{membersWithin}
+use Rattle.laws.specs.AcceptedTurns.{any-append}
+use Rattle.laws.specs.Scans.{part-slice}
 use Rattle.image.specs.Loaded.{Loaded, memberSpan, classes-many, members-many}
 use Rattle.image.specs.declared.Image.{Image}
 use Rattle.image.specs.declared.Span.{Span}
 use Rattle.ac_repr.specs.WalkLaws.{first-stop, first-more, first-end}
 use Rattle.ac_repr.specs.Walk.{firstFrom, hasPlace, acOp, endOf}
-use Rattle.ac_repr.proofs.Children.{children-slice}
 
 -- ---- the scan for the first number that passes, at number i
 module _ (p : ℕ → Bool) (x e i : ℕ) (inv : firstFrom p i e ≡ firstFrom p x e) where
@@ -45,15 +46,6 @@ module _ (t : Tables) (end o x : ℕ) where
 -- ---- members of an operation
 abbrev pub ofOp : ℕ → Member → Bool
 ofOp o m = eqb (m .op) o
-
-any-append : {A : Type 0} (p : A → Bool) (a b : List A) → any p (a ++ b) ≡ either (any p a) (any p b)
-unfolding any
-any-append p [] b = refl
-any-append p (x ∷ a) b = step (p x) refl (any-append p a b)
-  where
-    step : (q : Bool) → p x ≡ q → any p (a ++ b) ≡ either (any p a) (any p b) → any p ((x ∷ a) ++ b) ≡ either (any p (x ∷ a)) (any p b)
-    step true e ih = rw (any, e) refl
-    step false e ih = rw (any, e) ih
 
 -- member i of the table has operation k
 module _ (t : Tables) (o i to k : ℕ) (h : i < to) (b : to ≤ length (t .members)) (e : k ≡ theMember t i .op) where
@@ -93,7 +85,7 @@ module _ (s : List ℕ) (im : Image) (c : ℕ) (p : Span) (l : Loaded s im) (v :
   span-rises = rw e (omega arith)
 
   pub span-any : (o : ℕ) → any (ofOp o) (slice (p .from) (p .to) (tablesOf s .members)) ≡ any (ofOp o) (membersOf (tablesOf s) c)
-  span-any o = rw (e, children-slice (tablesOf s .members) (theClass (tablesOf s) c .first) (theClass (tablesOf s) c .count) inside) refl
+  span-any o = rw (e, part-slice (tablesOf s .members) (theClass (tablesOf s) c .first) (theClass (tablesOf s) c .count) inside) refl
 
 -- places are small numbers
 pub end-small : (s : List ℕ) (im : Image) (c : ℕ) → Loaded s im → Valid (tablesOf s) → c < im .classes → endOf (tablesOf s) c ≤ 1024

@@ -12,9 +12,9 @@ use Rattle.spec.specs.Bytes.{each}
 use Rattle.spec.specs.Image.{Tables, theClass}
 use Rattle.ac_repr.specs.Walk.{firstFrom, endOf, hasPlace, walkAt, row, rows, under, acOp, pairsFrom, walks, allWalks, afterOf, InRow, InOp, Stepped}
 use Rattle.ac_repr.specs.WalkLaws.{found, passing-stop, passing-end, row-some, row-none, rows-some, rows-none, rows-has, rows-empty, under-has, under-not, stepped}
-use Rattle.ac_repr.specs.declared.pairs.Walk.{Walk}
-use Rattle.ac_repr.specs.declared.pairs.Step.{Step}
-use Rattle.ac_repr.specs.declared.pairs.Step.the-variants.{At, End}
+use Rattle.ac_repr.specs.declared.Walk.{Walk}
+use Rattle.ac_repr.specs.declared.Step.{Step}
+use Rattle.ac_repr.specs.declared.Step.the-variants.{At, End}
 
 -- ---- beside one left place
 module _ (t : Tables) (r o a b to f : ℕ) (e : to ≡ endOf t r) (z : f ≡ firstFrom (hasPlace t to o) b (suc to)) where

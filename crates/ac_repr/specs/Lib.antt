@@ -1,6 +1,3 @@
-pub mod Terms
-pub mod TermLaws
-pub mod Pad
 pub mod Walk
 pub mod WalkLaws
 pub mod Transports

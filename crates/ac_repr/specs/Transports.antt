@@ -15,11 +15,11 @@ use Rattle.spec.specs.Monomial.{Monomial, MonomialPair, monomial, itself, monom
 use Rattle.spec.specs.Action.{TransportAction, acOps, transports}
 use Rattle.laws.specs.Valid.{Valid}
 use Rattle.laws.specs.AcceptedUses.{membersWithin}
-use Rattle.ac_repr.specs.Pad.{monomialAt}
+use Rattle.monomial.specs.Pad.{monomialAt}
 use Rattle.ac_repr.specs.Walk.{passing, endOf, hasPlace, placesFrom, walkAt, row, rows, acOp, pairsFrom, walks, allWalks, afterOf, leftOf, Stepped, actionOver, actionsAt}
-use Rattle.ac_repr.specs.declared.pairs.Walk.{Walk}
-use Rattle.ac_repr.specs.declared.pairs.Step.{Step}
-use Rattle.ac_repr.specs.declared.pairs.Step.the-variants.{At, End}
+use Rattle.ac_repr.specs.declared.Walk.{Walk}
+use Rattle.ac_repr.specs.declared.Step.{Step}
+use Rattle.ac_repr.specs.declared.Step.the-variants.{At, End}
 
 -- ---- lists, one after the other
 each-append : {A B : Type 0} (f : A → List B) (a b : List A) → each f (a ++ b) ≡ each f a ++ each f b

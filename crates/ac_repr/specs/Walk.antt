@@ -10,11 +10,11 @@ use Rattle.spec.specs.Bytes.{pick, both, any, filter, each, upFrom, place, same
 use Rattle.spec.specs.Image.{Tables, NO-IDENTITY, isAC, kindOf, identityOf, theClass, theMember, membersOf}
 use Rattle.spec.specs.Monomial.{Monomial, bothItself, padPair, narrowPairs}
 use Rattle.spec.specs.Action.{TransportAction}
-use Rattle.ac_repr.specs.Pad.{monomialAt, answerOf, Pads}
-use Rattle.ac_repr.specs.declared.Padded.{Padded}
-use Rattle.ac_repr.specs.declared.pairs.Walk.{Walk}
-use Rattle.ac_repr.specs.declared.pairs.Step.{Step}
-use Rattle.ac_repr.specs.declared.pairs.Step.the-variants.{At, End}
+use Rattle.monomial.specs.Pad.{monomialAt, answerOf, Pads}
+use Rattle.monomial.specs.declared.Padded.{Padded}
+use Rattle.ac_repr.specs.declared.Walk.{Walk}
+use Rattle.ac_repr.specs.declared.Step.{Step}
+use Rattle.ac_repr.specs.declared.Step.the-variants.{At, End}
 
 -- the numbers from x to before e that pass, and the first of them (e where there is none)
 unfoldable pub passing : (ℕ → Bool) → ℕ → ℕ → List ℕ

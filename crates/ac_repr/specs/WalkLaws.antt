@@ -8,9 +8,9 @@ use lib.ListN.{length}
 use Rattle.spec.specs.Bytes.{filter, each, upFrom, place}
 use Rattle.spec.specs.Image.{Tables, theClass}
 use Rattle.ac_repr.specs.Walk.{passing, firstFrom, endOf, hasPlace, placesFrom, walkAt, row, rows, under, stepOf, leftOf, Within, Stepped}
-use Rattle.ac_repr.specs.declared.pairs.Walk.{Walk}
-use Rattle.ac_repr.specs.declared.pairs.Step.{Step}
-use Rattle.ac_repr.specs.declared.pairs.Step.the-variants.{At, End}
+use Rattle.ac_repr.specs.declared.Walk.{Walk}
+use Rattle.ac_repr.specs.declared.Step.{Step}
+use Rattle.ac_repr.specs.declared.Step.the-variants.{At, End}
 
 -- ---- the first number that passes
 module _ (p : ℕ → Bool) (x e : ℕ) where

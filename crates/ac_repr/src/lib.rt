@@ -1,57 +1,55 @@
-// Monomials of members (ac_repr.rs): sums lined up class by class, in a lent buffer.
+// The representation pairs of two classes (ac_repr.rs), walked in the Rust's order without storing them: a state by value and a step.
+// From `first`, over `next`, to `End` the actions that `monomials` finds are the transports of the two classes, in order (specs/Transports: left-first, left-next, left-end; specs/Sides: action-one, action-none).
 ghost use mathlib.Core.Path.{_≡_};
-ghost use mathlib.Core.List.{_∷_};
-ghost use Prim.Native.Nat.{_+_, _≤_, _<_, _^_};
-ghost use lib.ListN.{length, getD, set, drop};
-ghost use lib.Seq.{paste};
-ghost use Rattle.spec.specs.Bytes.{sameTwos};
-ghost use Rattle.spec.specs.Image.{tablesOf, theMember, childrenOf};
-ghost use Rattle.spec.specs.Monomial.{insertAdd, monomial, total, narrow, itself, bothItself};
+ghost use Prim.Native.Nat.{suc, _≤_, _<_};
+ghost use lib.Dec.{eqb};
+ghost use lib.ListN.{length};
+ghost use Rattle.spec.specs.Bytes.{any};
+ghost use Rattle.spec.specs.Image.{tablesOf, membersOf};
 ghost use Rattle.laws.specs.Valid.{Valid};
-ghost use Rattle.image.specs.Loaded.{Loaded, theChild};
-ghost use Rattle.ac_repr.specs.Terms.{TERMS, NUMBERS, terms, held, position, Holds, Roomy};
-ghost use Rattle.ac_repr.specs.Pad.{TOTAL, Made, monomialAt, levelBy, unmatched, bothNarrow, paddedOf, answerOf, Pads, Paddable};
+ghost use Rattle.image.specs.Loaded.{Loaded};
+ghost use Rattle.monomial.specs.Terms.{NUMBERS};
+ghost use Rattle.ac_repr.specs.Walk.{firstFrom, hasPlace, rows, under, acOp, pairsFrom, walks, allWalks, afterOf, Within, InRow, InOp, Stepped, Answered};
+ghost use Rattle.ac_repr.specs.declared.Step.the-variants.{At};
 use image::Image;
+use monomial::Padded;
+use monomial::of_place;
+use monomial::pad_pair;
 
-pub mod pairs;
-
-// 64 children and the identity, and the length of a buffer that holds them.
-pub const TERMS: usize = 65;
-
-pub const NUMBERS: usize = 2 * TERMS;
-
-// ---- a term: its class and its count
-pub fn class_at(mono: &[u64], i: usize) -> u64
-    requires { ⌜ (length (now mono) ≡ NUMBERS) × (i < TERMS) ⌝ }
-    ensures { λ r. ⌜ r ≡ getD (terms (now (mono .entry))) i (0, 0) .0 ⌝ }
-{
-    mono[2 * i]
+// An operation, a place of the left class and a place of the right class.
+pub struct Walk {
+    pub op: usize,
+    pub a: usize,
+    pub b: usize,
 }
 
-pub fn count_at(mono: &[u64], i: usize) -> u64
-    requires { ⌜ (length (now mono) ≡ NUMBERS) × (i < TERMS) ⌝ }
-    ensures { λ r. ⌜ r ≡ getD (terms (now (mono .entry))) i (0, 0) .1 ⌝ }
-{
-    mono[2 * i + 1]
+pub enum Step {
+    At(Walk),
+    End,
 }
 
-fn put_term(mono: &mut [u64], i: usize, c: u64, k: u64)
-    requires { ⌜ (length (now mono) ≡ NUMBERS) × (i < TERMS) ⌝ }
-    ensures { λ _. ⌜ terms (now (mono .exit)) ≡ set (terms (now (mono .entry))) i (c, k) ⌝ }
+// ---- places of a class whose members end at `end`
+fn has_place(s: &[u8], im: Image, end: usize, op: usize, x: usize) -> bool
+    requires { ⌜ Loaded (now s) im × (end ≤ im .members) × (op < im .operations) ⌝ }
+    ensures { λ r. ⌜ r ≡ hasPlace (tablesOf (now (s .entry))) end op x ⌝ }
 {
-    let at = 2 * i;
-    mono[at] = c;
-    mono[at + 1] = k;
+    if x < end {
+        return image::member_op(s, im, x) == op;
+    }
+    if end < x {
+        return false;
+    }
+    image::identity(s, im, op) != Image::NO_IDENTITY
 }
 
-// The first of n places whose class is not below c.
-fn place(mono: &[u64], n: usize, c: u64) -> usize
-    requires { ⌜ (length (now mono) ≡ NUMBERS) × (n ≤ TERMS) ⌝ }
-    ensures { λ r. ⌜ (r ≡ position c (held n (now (mono .entry)))) × (r ≤ n) ⌝ }
+// The first place from x on that has a monomial; one past the end where there is none.
+fn next_place(s: &[u8], im: Image, end: usize, op: usize, x: usize) -> usize
+    requires { ⌜ Loaded (now s) im × (end ≤ im .members) × (op < im .operations) × (end < 131072) ⌝ }
+    ensures { λ r. ⌜ r ≡ firstFrom (hasPlace (tablesOf (now (s .entry))) end op) x (suc end) ⌝ }
 {
-    let mut i = 0;
-    while i < n {
-        if class_at(mono, i) >= c {
+    let mut i = x;
+    while i <= end {
+        if has_place(s, im, end, op, i) {
             return i;
         }
         i += 1;
@@ -59,219 +57,168 @@ fn place(mono: &[u64], n: usize, c: u64) -> usize
     i
 }
 
-// The term (c, k) at place p, and the n terms that stood there one place up.
-fn insert_term(mono: &mut [u64], p: usize, n: usize, c: u64, k: u64)
-    requires { ⌜ (length (now mono) ≡ NUMBERS) × (p + n < TERMS) ⌝ }
-    ensures { λ _. ⌜ terms (now (mono .exit)) ≡ paste (terms (now (mono .entry))) p ((c, k) ∷ drop p (terms (now (mono .entry)))) (n + 1) ⌝ }
-{
-    let mut x = c;
-    let mut y = k;
-    let mut j = 0;
-    while j <= n {
-        let t = class_at(mono, p + j);
-        let u = count_at(mono, p + j);
-        put_term(mono, p + j, x, y);
-        x = t;
-        y = u;
-        j += 1;
-    }
-}
-
-// k more of class c in the monomial of n terms: how many terms it has then.
-fn add_class(mono: &mut [u64], n: usize, c: u64, k: u64) -> usize
-    requires { ⌜ Roomy n k (now mono) ⌝ }
-    ensures { λ r. ⌜ Holds (insertAdd c k (held n (now (mono .entry)))) (now (mono .entry)) (now (mono .exit)) r ⌝ }
-{
-    let p = place(mono, n, c);
-    if p < n {
-        if class_at(mono, p) == c {
-            let v = count_at(mono, p) + k;
-            put_term(mono, p, c, v);
-            return n;
-        }
-    }
-    insert_term(mono, p, n - p, c, k);
-    n + 1
-}
-
-// ---- the monomial of a member's children
-fn long(x: usize) -> u64
-    ensures { λ r. ⌜ r ≡ x ⌝ }
-{
-    x as u64
-}
-
-// Child k of the image, added to the monomial of n terms.
-fn add_child(s: &[u8], im: Image, k: usize, mono: &mut [u64], n: usize) -> usize
-    requires { ⌜ Loaded (now s) im × (k < im .children) × Roomy n 4294967295 (now mono) ⌝ }
-    ensures { λ r. ⌜ Holds (insertAdd (theChild (tablesOf (now (s .entry))) k .0) (theChild (tablesOf (now (s .entry))) k .1) (held n (now (mono .entry)))) (now (mono .entry)) (now (mono .exit)) r
-        × (theChild (tablesOf (now (s .entry))) k .1 < 4294967296) ⌝ }
-{
-    let c = long(image::child_class(s, im, k));
-    let times = image::child_times(s, im, k);
-    add_class(mono, n, c, times)
-}
-
-// "Classes rising, counts of one class added."
-fn of_member(s: &[u8], im: Image, m: usize, mono: &mut [u64]) -> usize
-    requires { ⌜ Loaded (now s) im × Valid (tablesOf (now s)) × (m < im .members) × (length (now mono) ≡ NUMBERS) ⌝ }
-    ensures { λ r. ⌜ Made (monomial (childrenOf (tablesOf (now (s .entry))) (theMember (tablesOf (now (s .entry))) m))) (now (mono .entry)) (now (mono .exit)) r ⌝ }
-{
-    let span = image::children_of(s, im, m);
-    let mut n = 0;
-    let mut k = span.from;
-    while k < span.to {
-        n = add_child(s, im, k, mono, n);
-        k += 1;
-    }
-    n
-}
-
-// "the monomial of itself once"
-fn itself(mono: &mut [u64], c: usize) -> usize
-    requires { ⌜ length (now mono) ≡ NUMBERS ⌝ }
-    ensures { λ r. ⌜ Made (itself c) (now (mono .entry)) (now (mono .exit)) r ⌝ }
-{
-    put_term(mono, 0, long(c), 1);
-    1
-}
-
-// The monomial at place x of class c: of its member x, or of the class itself once where x is past its members.
-fn of_place(s: &[u8], im: Image, c: usize, x: usize, mono: &mut [u64]) -> usize
-    requires { ⌜ Loaded (now s) im × Valid (tablesOf (now s)) × (c < im .classes) × (length (now mono) ≡ NUMBERS) ⌝ }
-    ensures { λ r. ⌜ Made (monomialAt (tablesOf (now (s .entry))) c x) (now (mono .entry)) (now (mono .exit)) r ⌝ }
+// ---- "An MSet or Set operation of either class"
+fn has_op(s: &[u8], im: Image, c: usize, op: usize) -> bool
+    requires { ⌜ Loaded (now s) im × Valid (tablesOf (now s)) × (c < im .classes) ⌝ }
+    ensures { λ r. ⌜ r ≡ any (λ m. eqb (m .op) op) (membersOf (tablesOf (now (s .entry))) c) ⌝ }
 {
     let span = image::members_of(s, im, c);
-    if x < span.to {
-        return of_member(s, im, x, mono);
-    }
-    itself(mono, c)
-}
-
-// ---- a pair of monomials: padding, both classes as themselves, narrowing
-pub fn total(mono: &[u64], n: usize) -> u64
-    requires { ⌜ (length (now mono) ≡ NUMBERS) × (n ≤ TERMS) × (total (held n (now mono)) < 2 ^ 64) ⌝ }
-    ensures { λ r. ⌜ r ≡ total (held n (now (mono .entry))) ⌝ }
-{
-    let mut sum: u64 = 0;
-    let mut i = 0;
-    while i < n {
-        sum += count_at(mono, i);
-        i += 1;
-    }
-    sum
-}
-
-// No count is above 4,294,967,295.
-fn narrow(mono: &[u64], n: usize) -> bool
-    requires { ⌜ (length (now mono) ≡ NUMBERS) × (n ≤ TERMS) ⌝ }
-    ensures { λ r. ⌜ r ≡ narrow (held n (now (mono .entry))) ⌝ }
-{
-    let mut i = 0;
-    while i < n {
-        if count_at(mono, i) > id::multiplicity::MAX {
-            return false;
+    let mut i = span.from;
+    while i < span.to {
+        if image::member_op(s, im, i) == op {
+            return true;
         }
         i += 1;
-    }
-    true
-}
-
-fn both_narrow(left: &[u64], n: usize, right: &[u64], m: usize) -> bool
-    requires { ⌜ (length (now left) ≡ NUMBERS) × (n ≤ TERMS) × (length (now right) ≡ NUMBERS) × (m ≤ TERMS) ⌝ }
-    ensures { λ r. ⌜ r ≡ bothNarrow (held n (now (left .entry))) (held m (now (right .entry))) ⌝ }
-{
-    if narrow(left, n) {
-        return narrow(right, m);
     }
     false
 }
 
-// The monomial is class c itself once.
-fn is_itself(mono: &[u64], n: usize, c: usize) -> bool
-    requires { ⌜ (length (now mono) ≡ NUMBERS) × (n ≤ TERMS) ⌝ }
-    ensures { λ r. ⌜ r ≡ sameTwos (held n (now (mono .entry))) (itself c) ⌝ }
+fn is_ac_op(s: &[u8], im: Image, l: usize, r: usize, op: usize) -> bool
+    requires { ⌜ Loaded (now s) im × Valid (tablesOf (now s)) × (l < im .classes) × (r < im .classes) × (op < im .operations) ⌝ }
+    ensures { λ x. ⌜ x ≡ acOp (tablesOf (now (s .entry))) l r op ⌝ }
 {
-    if n != 1 {
+    if !id::is_ac(image::kind(s, im, op)) {
         return false;
     }
-    if class_at(mono, 0) != long(c) {
-        return false;
+    if has_op(s, im, l, op) {
+        return true;
     }
-    count_at(mono, 0) == 1
+    has_op(s, im, r, op)
 }
 
-fn both_itself(left: &[u64], n: usize, l: usize, right: &[u64], m: usize, r: usize) -> bool
-    requires { ⌜ (length (now left) ≡ NUMBERS) × (n ≤ TERMS) × (length (now right) ≡ NUMBERS) × (m ≤ TERMS) ⌝ }
-    ensures { λ x. ⌜ x ≡ bothItself l r (held n (now (left .entry))) (held m (now (right .entry))) ⌝ }
+// The first operation from o on that acts by transport; the number of operations where there is none.
+fn next_op(s: &[u8], im: Image, l: usize, r: usize, o: usize) -> usize
+    requires { ⌜ Loaded (now s) im × Valid (tablesOf (now s)) × (l < im .classes) × (r < im .classes) ⌝ }
+    ensures { λ x. ⌜ x ≡ firstFrom (acOp (tablesOf (now (s .entry))) l r) o (im .operations) ⌝ }
 {
-    if is_itself(left, n, l) {
-        return is_itself(right, m, r);
+    let mut i = o;
+    while i < im.operations {
+        if is_ac_op(s, im, l, r, i) {
+            return i;
+        }
+        i += 1;
     }
-    false
+    i
 }
 
-fn unmatched(id: usize, a: u64, b: u64) -> bool
-    ensures { λ r. ⌜ r ≡ unmatched id a b ⌝ }
+// ---- pairs under one operation
+// Left place a beside the first right place from b on.
+fn in_row(s: &[u8], im: Image, r: usize, op: usize, a: usize, b: usize) -> Step
+    requires { ⌜ Loaded (now s) im × Valid (tablesOf (now s)) × (r < im .classes) × (op < im .operations) ⌝ }
+    ensures { λ x. ⌜ InRow (tablesOf (now (s .entry))) r op a b x ⌝ }
 {
-    if a == b {
-        return false;
+    let right = image::members_of(s, im, r);
+    let y = next_place(s, im, right.to, op, b);
+    if right.to < y {
+        return Step::End;
     }
-    id == Image::NO_IDENTITY
+    Step::At(Walk { op: op, a: a, b: y })
 }
 
-// The monomial of n terms, whose total is a, with the identities that it lacks where the other's total is b.
-fn level(mono: &mut [u64], n: usize, id: usize, a: u64, b: u64) -> usize
-    requires { ⌜ (length (now mono) ≡ NUMBERS) × (n ≤ 64) × (a ≡ total (held n (now mono))) × (b ≤ TOTAL) ⌝ }
-    ensures { λ r. ⌜ Holds (levelBy id (held n (now (mono .entry))) a b) (now (mono .entry)) (now (mono .exit)) r ⌝ }
+// The first left place from x on beside the first right place.
+fn in_rows(s: &[u8], im: Image, l: usize, r: usize, op: usize, x: usize) -> Step
+    requires { ⌜ Loaded (now s) im × Valid (tablesOf (now s)) × (l < im .classes) × (r < im .classes) × (op < im .operations) ⌝ }
+    ensures { λ y. ⌜ InOp (tablesOf (now (s .entry))) l r op (rows (tablesOf (now (s .entry))) l r op x) y ⌝ }
 {
-    if a < b {
-        if id != Image::NO_IDENTITY {
-            return add_class(mono, n, long(id), b - a);
+    let left = image::members_of(s, im, l);
+    let a = next_place(s, im, left.to, op, x);
+    if left.to < a {
+        return Step::End;
+    }
+    let b = image::first_member(s, im, r);
+    in_row(s, im, r, op, a, b)
+}
+
+// The first pair from w on under w's operation.
+fn in_op(s: &[u8], im: Image, l: usize, r: usize, w: Walk) -> Step
+    requires { ⌜ Loaded (now s) im × Valid (tablesOf (now s)) × (l < im .classes) × (r < im .classes) × (w .op < im .operations) × (w .a < 131072) ⌝ }
+    ensures { λ x. ⌜ InOp (tablesOf (now (s .entry))) l r (w .op) (under (tablesOf (now (s .entry))) l r w) x ⌝ }
+{
+    let left = image::members_of(s, im, l);
+    if has_place(s, im, left.to, w.op, w.a) {
+        let x = in_row(s, im, r, w.op, w.a, w.b);
+        match x {
+            Step::At(v) => {
+                return Step::At(v);
+            }
+            Step::End => {
+                return in_rows(s, im, l, r, w.op, w.a + 1);
+            }
         }
     }
-    n
+    in_rows(s, im, l, r, w.op, w.a + 1)
 }
 
-pub enum Padded {
-    // rows and columns
-    Pair(usize, usize),
-    Nothing,
-}
-
-// "Unequal totals are padded with the identity; without one there is no pair."
-fn pad(id: usize, left: &mut [u64], n: usize, right: &mut [u64], m: usize) -> Padded
-    requires { ⌜ Paddable n m (now left) (now right) ⌝ }
-    ensures { λ x. ⌜ Pads (paddedOf id (held n (now (left .entry))) (held m (now (right .entry)))) id (held n (now (left .entry))) (held m (now (right .entry))) (now (left .entry)) (now (right .entry)) (now (left .exit)) (now (right .exit)) x ⌝ }
+// ---- pairs under all operations
+// The first pair under an operation from o on.
+fn from_op(s: &[u8], im: Image, l: usize, r: usize, o: usize) -> Step
+    requires { ⌜ Loaded (now s) im × Valid (tablesOf (now s)) × (l < im .classes) × (r < im .classes) ⌝ }
+    ensures { λ x. ⌜ Stepped (tablesOf (now (s .entry))) l r (walks (tablesOf (now (s .entry))) l r) (pairsFrom (tablesOf (now (s .entry))) l r o) x ⌝ }
 {
-    let a = total(left, n);
-    let b = total(right, m);
-    if unmatched(id, a, b) {
-        return Padded::Nothing;
+    let from = image::first_member(s, im, l);
+    let mut i = next_op(s, im, l, r, o);
+    while i < im.operations {
+        let x = in_rows(s, im, l, r, i, from);
+        match x {
+            Step::At(v) => {
+                return Step::At(v);
+            }
+            Step::End => {
+                i = next_op(s, im, l, r, i + 1);
+            }
+        }
     }
-    let rows = level(left, n, id, a, b);
-    let cols = level(right, m, id, b, a);
-    if both_narrow(left, rows, right, cols) {
-        return Padded::Pair(rows, cols);
-    }
-    Padded::Nothing
+    Step::End
 }
 
-// "except both classes as themselves once"
-fn pad_pair(
-    id: usize,
+// The first representation pair of two classes: "A class paired with itself has no actions."
+pub fn first(s: &[u8], im: Image, l: usize, r: usize) -> Step
+    requires { ⌜ Loaded (now s) im × Valid (tablesOf (now s)) × (l < im .classes) × (r < im .classes) ⌝ }
+    ensures { λ x. ⌜ Stepped (tablesOf (now (s .entry))) l r (walks (tablesOf (now (s .entry))) l r) (allWalks (tablesOf (now (s .entry))) l r) x ⌝ }
+{
+    if l == r {
+        return Step::End;
+    }
+    from_op(s, im, l, r, 0)
+}
+
+// The representation pair after w.
+pub fn next(s: &[u8], im: Image, l: usize, r: usize, w: Walk) -> Step
+    requires { ⌜ Loaded (now s) im × Valid (tablesOf (now s)) × (l < im .classes) × (r < im .classes) × Within (tablesOf (now s)) l r (At w) ⌝ }
+    ensures { λ x. ⌜ Stepped (tablesOf (now (s .entry))) l r (walks (tablesOf (now (s .entry))) l r) (walks (tablesOf (now (s .entry))) l r (afterOf w)) x ⌝ }
+{
+    let x = in_op(
+        s,
+        im,
+        l,
+        r,
+        Walk {
+            op: w.op,
+            a: w.a,
+            b: w.b + 1,
+        },
+    );
+    match x {
+        Step::At(v) => Step::At(v),
+        Step::End => from_op(s, im, l, r, w.op + 1),
+    }
+}
+
+// ---- the monomials of a pair of places, padded
+pub fn monomials(
+    s: &[u8],
+    im: Image,
     l: usize,
     r: usize,
+    w: Walk,
     left: &mut [u64],
-    n: usize,
     right: &mut [u64],
-    m: usize,
 ) -> Padded
-    requires { ⌜ Paddable n m (now left) (now right) ⌝ }
-    ensures { λ x. ⌜ Pads (answerOf l r id (held n (now (left .entry))) (held m (now (right .entry)))) id (held n (now (left .entry))) (held m (now (right .entry))) (now (left .entry)) (now (right .entry)) (now (left .exit)) (now (right .exit)) x ⌝ }
+    requires { ⌜ Loaded (now s) im × Valid (tablesOf (now s)) × (l < im .classes) × (r < im .classes) × (w .op < im .operations) × (length (now left) ≡ NUMBERS) × (length (now right) ≡ NUMBERS) ⌝ }
+    ensures { λ x. ⌜ Answered (tablesOf (now (s .entry))) l r w (now (left .entry)) (now (right .entry)) (now (left .exit)) (now (right .exit)) x ⌝ }
 {
-    if both_itself(left, n, l, right, m, r) {
-        return Padded::Nothing;
-    }
-    pad(id, left, n, right, m)
+    let n = of_place(s, im, l, w.a, left);
+    let m = of_place(s, im, r, w.b, right);
+    let id = image::identity(s, im, w.op);
+    pad_pair(id, l, r, left, n, right, m)
 }

@@ -35,7 +35,7 @@ Asks s fit out out′ a = Merges (take (be4 s 0 + 4) s) (be2 s (be4 s 0 + 4)) (b
 
 -- the buffers that the program lends
 pub record Rooms (a b c d e f out : List ℕ) : Type 0 where
-  pub fit : fitOf 4096 (length a) (length b) (length c) (length d) (length e) (length f) ≡ true
+  pub fit : fitOf 256 (length a) (length b) (length c) (length d) (length e) (length f) ≡ true
   pub output : length out ≡ OUTPUT
 
 -- what the program writes

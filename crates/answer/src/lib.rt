@@ -82,18 +82,18 @@ fn print(out: &mut [u8], a: Answer) -> usize
 // the merge that a framed input asks for
 fn ask(
     input: &[u8],
-    lefts: &mut [u16],
-    rights: &mut [u16],
-    index: &mut [u16],
+    graph: &mut [u16],
     pairs: &mut [u32],
+    work: &mut [u64],
+    flow: &mut [u64],
     terms: &mut [u32],
     runs: &mut [u64],
     out: &mut [u8],
 ) -> Answer
     requires { ⌜ framed (now input) ≡ true ⌝ }
     ensures { λ r. do
-      let fit = fitOf 4096 (length (now (lefts .entry))) (length (now (rights .entry))) (length (now (index .entry))) (length (now (pairs .entry))) (length (now (terms .entry))) (length (now (runs .entry)))
-      ⌜ Asks (now (input .entry)) fit (now (out .entry)) (now (out .exit)) r × Cleared fit (now (lefts .entry)) (now (lefts .exit)) (now (rights .entry)) (now (rights .exit)) (now (index .entry)) (now (index .exit)) (now (pairs .entry)) (now (pairs .exit)) (now (terms .entry)) (now (terms .exit)) (now (runs .entry)) (now (runs .exit)) ⌝ }
+      let fit = fitOf 256 (length (now (graph .entry))) (length (now (pairs .entry))) (length (now (work .entry))) (length (now (flow .entry))) (length (now (terms .entry))) (length (now (runs .entry)))
+      ⌜ Asks (now (input .entry)) fit (now (out .entry)) (now (out .exit)) r × Cleared fit (now (graph .entry)) (now (graph .exit)) (now (pairs .entry)) (now (pairs .exit)) (now (work .entry)) (now (work .exit)) (now (flow .entry)) (now (flow .exit)) (now (terms .entry)) (now (terms .exit)) (now (runs .entry)) (now (runs .exit)) ⌝ }
 {
     let n = size(be4(input, 0)) + 4;
     let left = narrow2(be2(input, n));
@@ -104,10 +104,10 @@ fn ask(
         left,
         right,
         budget,
-        lefts,
-        rights,
-        index,
+        graph,
         pairs,
+        work,
+        flow,
         terms,
         runs,
         out,
@@ -117,21 +117,21 @@ fn ask(
 // The bytes that program `merge` writes for this input, at the front of `out`, and how many there are. The work buffers are cleared.
 pub fn respond(
     input: &[u8],
-    lefts: &mut [u16],
-    rights: &mut [u16],
-    index: &mut [u16],
+    graph: &mut [u16],
     pairs: &mut [u32],
+    work: &mut [u64],
+    flow: &mut [u64],
     terms: &mut [u32],
     runs: &mut [u64],
     out: &mut [u8],
 ) -> usize
-    requires { ⌜ Rooms (now lefts) (now rights) (now index) (now pairs) (now terms) (now runs) (now out) ⌝ }
-    ensures { λ r. ⌜ Responds (now (input .entry)) (now (out .entry)) (now (out .exit)) r × Cleared true (now (lefts .entry)) (now (lefts .exit)) (now (rights .entry)) (now (rights .exit)) (now (index .entry)) (now (index .exit)) (now (pairs .entry)) (now (pairs .exit)) (now (terms .entry)) (now (terms .exit)) (now (runs .entry)) (now (runs .exit)) ⌝ }
+    requires { ⌜ Rooms (now graph) (now pairs) (now work) (now flow) (now terms) (now runs) (now out) ⌝ }
+    ensures { λ r. ⌜ Responds (now (input .entry)) (now (out .entry)) (now (out .exit)) r × Cleared true (now (graph .entry)) (now (graph .exit)) (now (pairs .entry)) (now (pairs .exit)) (now (work .entry)) (now (work .exit)) (now (flow .entry)) (now (flow .exit)) (now (terms .entry)) (now (terms .exit)) (now (runs .entry)) (now (runs .exit)) ⌝ }
 {
     if is_framed(input) {
-        let a = ask(input, lefts, rights, index, pairs, terms, runs, out);
+        let a = ask(input, graph, pairs, work, flow, terms, runs, out);
         return print(out, a);
     }
-    clear_all(lefts, rights, index, pairs, terms, runs);
+    clear_all(graph, pairs, work, flow, terms, runs);
     refusal(out, 2)
 }

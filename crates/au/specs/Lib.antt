@@ -1,6 +1,6 @@
 pub mod Merges
 pub mod Prepared
-pub mod Tiers
+pub mod Engine
+pub mod Counts
 pub mod PreparedLaws
-pub mod TableCounts
 pub mod Assembled

@@ -17,11 +17,11 @@ use Rattle.au.specs.declared.Answer.the-variants.{Listing, Refused, Doub
 
 -- The constant lengths of the work buffers (docs/BUFFERS.md): whether none is "below its constant length".
 abbrev pub fitOf : ℕ → ℕ → ℕ → ℕ → ℕ → ℕ → ℕ → Bool
-fitOf table lefts rights index pairs terms runs =
-    both (leb 4096 table) (both (leb 4096 lefts) (both (leb 4096 rights) (both (leb 8192 index) (both (leb 24576 pairs) (both (leb 8194 terms) (leb 4096 runs))))))
+fitOf table graph pairs work flow terms runs =
+    both (leb 256 table) (both (leb 4352 graph) (both (leb 1536 pairs) (both (leb 1024 work) (both (leb 256 flow) (both (leb 3074 terms) (leb 1024 runs))))))
 
 abbrev pub fits : List Pair → List ℕ → List ℕ → List ℕ → List ℕ → List ℕ → List ℕ → Bool
-fits table lefts rights index pairs terms runs = fitOf (length table) (length lefts) (length rights) (length index) (length pairs) (length terms) (length runs)
+fits table graph pairs work flow terms runs = fitOf (length table) (length graph) (length pairs) (length work) (length flow) (length terms) (length runs)
 
 -- "When an answer is an enum, a definition provides this paper's number and values for each of the enum's cases": the listing, that is the first n bytes of the output buffer afterwards, or "Returned".
 abbrev pub answerOf : List ℕ → Answer → Res (List ℕ)
@@ -43,10 +43,10 @@ pub record Merges (image : List ℕ) (left right budget : ℕ) (fit : Bool) (out
 
 -- The plain work buffers before and after the call: "every number zero", and as they were where one was too short.
 pub record Cleared (fit : Bool) (a a′ b b′ c c′ d d′ e e′ f f′ : List ℕ) : Type 0 where
-  pub lefts : a′ ≡ workAfter 0 fit a
-  pub rights : b′ ≡ workAfter 0 fit b
-  pub index : c′ ≡ workAfter 0 fit c
-  pub pairs : d′ ≡ workAfter 0 fit d
+  pub graph : a′ ≡ workAfter 0 fit a
+  pub pairs : b′ ≡ workAfter 0 fit b
+  pub work : c′ ≡ workAfter 0 fit c
+  pub flow : d′ ≡ workAfter 0 fit d
   pub terms : e′ ≡ workAfter 0 fit e
   pub runs : f′ ≡ workAfter 0 fit f
 

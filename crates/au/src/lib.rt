@@ -1,27 +1,28 @@
-// The public merge: "the pair table is a lent slice of records", a thin layer above an engine on plain arrays.
+// The public merge: "the pair table is a lent slice of records", a thin layer above an engine on plain arrays; first at small limits in the lent buffers, and where one is met once more at document 01's.
 ghost use mathlib.Core.Path.{_≡_};
 ghost use mathlib.Core.Bool.{true, not};
 ghost use Prim.Native.Nat.{_≤_, _<_};
 ghost use lib.ListN.{length, replicate};
 ghost use Rattle.spec.specs.Bytes.{ok};
 ghost use Rattle.spec.specs.Image.{imageOf, tablesOf};
+ghost use Rattle.spec.specs.Run.{documentLimits};
 ghost use Rattle.image.specs.Loaded.{Loaded};
+ghost use Rattle.query.specs.Settings.{limitsOf};
+ghost use Rattle.terms.specs.Chains.{Rooms};
 ghost use Rattle.pair_table.specs.Table.{none};
 ghost use Rattle.au.specs.declared.Answer.the-variants.{Refused};
 ghost use Rattle.au.specs.Merges.{fitOf, fits, Merges, Cleared, Table};
-ghost use Rattle.au.specs.Prepared.{Wide, Full, Goes, GoesAgain, Prepares, pairsBegun, pairsBuilt, pairsOf, countedAs, Counts, engineAnswer};
-ghost use Rattle.au.specs.Tiers.{shortBegun, shortAnswer};
-ghost use Rattle.exact_fixed.specs.Beginning.{Finishes, EndsShort};
-ghost use Rattle.exact_fixed.specs.Shorts.{UnlessAnswer};
-use budget::Budget;
+ghost use Rattle.au.specs.Engine.{smallLimits, Roomy, roomFor, Prepares, pairsBegun, pairsOf, keysOf, countedAs, answerAs, Runs, limited};
+ghost use Rattle.au.specs.Assembled.{Wide, Full};
 use exact_fixed::Begun;
-use graph::Built;
 use image::Image;
 use judge::Verdict;
 use judge::judge;
+use numbers::size_u16;
 use pair_table::Count;
-use pair_table::PAIRS;
 use pair_table::Pair;
+use query::Limits;
+use query::Query;
 
 // How many bytes of output; a refusal's number; refusal 10 with a class that holds a literal that stands in two classes.
 pub enum Answer {
@@ -30,59 +31,80 @@ pub enum Answer {
     Doubled(usize),
 }
 
-// Before the pair table is filled: a refusal of 2 to 11; the image and what the run has begun in the lent buffers; the image and its graph, where a lent buffer is too short to begin.
+// Before the pair table is filled: a refusal of 2 to 11; the image and what the run has begun; an image for whose classes the graph's array has no room.
 pub enum Prepared {
     Stop(Answer),
     Go(Image, Begun),
-    Again(Image, Built),
+    Large(Image),
 }
 
-// The constant lengths of the work buffers (docs/BUFFERS.md); the table, lefts and rights have PAIRS.
-const INDEX: usize = 8192;
+// The constant lengths of the work buffers (docs/BUFFERS.md): room for the first run.
+const TABLE: usize = 256;
 
-const NUMBERS: usize = 24576;
+const GRAPH: usize = 4352;
 
-const TERMS: usize = 8194;
+const PAIRS: usize = 1536;
 
-const RUNS: usize = 4096;
+const WORK: usize = 1024;
 
-// Buffers of full length: none is too short for any query.
-const FULL_INDEX: usize = 65536;
+const FLOW: usize = 256;
 
-const FULL_TERMS: usize = 69634;
+const TERMS: usize = 3074;
+
+const RUNS: usize = 1024;
+
+// Room for every run within document 01's limits.
+const FULL_TABLE: usize = 4096;
+
+const FULL_GRAPH: usize = 69632;
+
+const FULL_PAIRS: usize = 24576;
+
+const FULL_WORK: usize = 16384;
+
+const FULL_FLOW: usize = 4096;
+
+const FULL_TERMS: usize = 66562;
 
 const FULL_RUNS: usize = 65536;
 
-// How many cells a turn has room for: with the lent buffers, and the most that there are.
-const FEW_CELLS: usize = 64;
+// The limits of the first run.
+fn small() -> Limits
+    ensures { λ r. ⌜ limitsOf r ≡ smallLimits ⌝ }
+{
+    Limits {
+        pairs: 256,
+        terms: 512,
+        runs: 1024,
+    }
+}
 
-const CELLS: usize = 4225;
-
+// ---- before the run
 // 1: whether a work buffer is below its constant length
 fn short(
     table: usize,
-    lefts: usize,
-    rights: usize,
-    index: usize,
+    graph: usize,
     pairs: usize,
+    work: usize,
+    flow: usize,
     terms: usize,
     runs: usize,
 ) -> bool
-    ensures { λ r. ⌜ r ≡ not (fitOf table lefts rights index pairs terms runs) ⌝ }
+    ensures { λ r. ⌜ r ≡ not (fitOf table graph pairs work flow terms runs) ⌝ }
 {
-    if table < PAIRS {
+    if table < TABLE {
         return true;
     }
-    if lefts < PAIRS {
+    if graph < GRAPH {
         return true;
     }
-    if rights < PAIRS {
+    if pairs < PAIRS {
         return true;
     }
-    if index < INDEX {
+    if work < WORK {
         return true;
     }
-    if pairs < NUMBERS {
+    if flow < FLOW {
         return true;
     }
     if terms < TERMS {
@@ -97,7 +119,104 @@ fn refuse(k: u8) -> Answer
     Answer::Refused(k)
 }
 
-// how many pairs the graph has where it is built in full
+// ---- up to the graph
+// Whether an array of `len` numbers has room for the graph of the image.
+fn has_room(lim: Limits, im: Image, len: usize) -> bool
+    requires { ⌜ (im .classes ≤ 256) × (lim .pairs ≤ 4096) ⌝ }
+    ensures { λ r. ⌜ r ≡ roomFor (limitsOf lim) im len ⌝ }
+{
+    arrays::keys(im.classes) + lim.pairs <= len
+}
+
+// 11, the root's starting term, and building.
+fn start(
+    lim: Limits,
+    s: &[u8],
+    im: Image,
+    q: Query,
+    graph: &mut [u16],
+    terms: &mut [u32],
+    runs: &mut [u64],
+) -> Prepared
+    requires { ⌜ Loaded (now s) im × (imageOf (now s) ≡ ok (tablesOf (now s))) × (lim .pairs ≤ 4096) × Rooms (limitsOf lim) (now terms) (now runs) ⌝ }
+    ensures { λ r. ⌜ Prepares (limitsOf lim) (now (s .entry)) q r (now (graph .exit)) (now (terms .exit)) (now (runs .exit)) ⌝ }
+{
+    if size_u16(q.left) >= im.classes {
+        return Prepared::Stop(Answer::Refused(11));
+    }
+    if size_u16(q.right) >= im.classes {
+        return Prepared::Stop(Answer::Refused(11));
+    }
+    if has_room(lim, im, graph.len()) {
+        let b = exact_fixed::begin(lim, s, im, q, graph, terms, runs);
+        return Prepared::Go(im, b);
+    }
+    Prepared::Large(im)
+}
+
+// 2 to 11, the root's starting term, and building.
+fn prepare(
+    lim: Limits,
+    s: &[u8],
+    q: Query,
+    graph: &mut [u16],
+    terms: &mut [u32],
+    runs: &mut [u64],
+) -> Prepared
+    requires { ⌜ (lim .pairs ≤ 4096) × Rooms (limitsOf lim) (now terms) (now runs) ⌝ }
+    ensures { λ r. ⌜ Prepares (limitsOf lim) (now (s .entry)) q r (now (graph .exit)) (now (terms .exit)) (now (runs .exit)) ⌝ }
+{
+    let v = judge(s);
+    match v {
+        Verdict::Refused(k) => Prepared::Stop(Answer::Refused(k)),
+        Verdict::Doubled(c) => Prepared::Stop(Answer::Doubled(c)),
+        Verdict::Accepted(im) => start(lim, s, im, q, graph, terms, runs),
+    }
+}
+
+// The same for the first run.
+fn prepare_small(
+    s: &[u8],
+    left: u16,
+    right: u16,
+    budget: u32,
+    graph: &mut [u16],
+    terms: &mut [u32],
+    runs: &mut [u64],
+) -> Prepared
+    requires { ⌜ (3074 ≤ length (now terms)) × (1024 ≤ length (now runs)) ⌝ }
+    ensures { λ r. ⌜ Prepares smallLimits (now (s .entry)) (record { left = left; right = right; budget = budget }) r (now (graph .exit)) (now (terms .exit)) (now (runs .exit)) ⌝ }
+{
+    let q = Query {
+        left: left,
+        right: right,
+        budget: budget,
+    };
+    prepare(small(), s, q, graph, terms, runs)
+}
+
+// The same for the second.
+fn prepare_full(
+    s: &[u8],
+    left: u16,
+    right: u16,
+    budget: u32,
+    graph: &mut [u16],
+    terms: &mut [u32],
+    runs: &mut [u64],
+) -> Prepared
+    requires { ⌜ (66562 ≤ length (now terms)) × (65536 ≤ length (now runs)) ⌝ }
+    ensures { λ r. ⌜ Prepares documentLimits (now (s .entry)) (record { left = left; right = right; budget = budget }) r (now (graph .exit)) (now (terms .exit)) (now (runs .exit)) ⌝ }
+{
+    let q = Query {
+        left: left,
+        right: right,
+        budget: budget,
+    };
+    prepare(query::document(), s, q, graph, terms, runs)
+}
+
+// ---- between: the pair table
 fn pairs_begun(b: Begun) -> usize
     ensures { λ r. ⌜ r ≡ pairsBegun b ⌝ }
 {
@@ -105,31 +224,33 @@ fn pairs_begun(b: Begun) -> usize
         Begun::Stopped(k) => 0,
         Begun::Cut(root) => 0,
         Begun::All(root, n, left) => n,
-        Begun::Short => 0,
     }
 }
 
-fn pairs_built(g: Built) -> usize
-    ensures { λ r. ⌜ r ≡ pairsBuilt g ⌝ }
-{
-    match g {
-        Built::All(n, left) => n,
-        Built::Cut => 0,
-        Built::Full => 0,
-    }
-}
-
+// How many pairs the graph has where it is built in full.
 fn pairs_of(p: Prepared) -> usize
     ensures { λ r. ⌜ r ≡ pairsOf p ⌝ }
 {
     match p {
         Prepared::Stop(a) => 0,
         Prepared::Go(im, b) => pairs_begun(b),
-        Prepared::Again(im, g) => pairs_built(g),
+        Prepared::Large(im) => 0,
     }
 }
 
-// what has begun, over as many pairs as the table counts
+// Where the keys of its pairs begin.
+fn keys_of(p: Prepared) -> usize
+    requires { ⌜ keysOf p ≤ 65536 ⌝ }
+    ensures { λ r. ⌜ r ≡ keysOf p ⌝ }
+{
+    match p {
+        Prepared::Stop(a) => 0,
+        Prepared::Go(im, b) => im.classes * im.classes,
+        Prepared::Large(im) => 0,
+    }
+}
+
+// What has begun, over as many pairs as the table counts.
 fn counted(b: Begun, c: Count) -> Begun
     ensures { λ r. ⌜ r ≡ countedAs b (c .pairs) ⌝ }
 {
@@ -138,403 +259,206 @@ fn counted(b: Begun, c: Count) -> Begun
         Begun::Stopped(k) => Begun::Stopped(k),
         Begun::Cut(root) => Begun::Cut(root),
         Begun::All(root, m, left) => Begun::All(root, n, left),
-        Begun::Short => Begun::Short,
     }
 }
 
-fn wide(x: u16) -> usize
-    ensures { λ r. ⌜ (r ≡ x) × (r < 65536) ⌝ }
+// ---- from the graph on
+// What the engine answers.
+fn answer_of(a: outcome::Answer) -> Answer
+    ensures { λ r. ⌜ r ≡ answerAs a ⌝ }
 {
-    x as usize
-}
-
-// whether a lent buffer is too short for the root's starting term or for the graph
-fn begun_short(b: Begun) -> bool
-    ensures { λ r. ⌜ r ≡ shortBegun b ⌝ }
-{
-    match b {
-        Begun::Stopped(k) => false,
-        Begun::Cut(root) => false,
-        Begun::All(root, n, left) => false,
-        Begun::Short => true,
+    match a {
+        outcome::Answer::Listing(n) => Answer::Listing(n),
+        outcome::Answer::Refused(k) => Answer::Refused(k),
     }
 }
 
-// building with an index of full length; the graph stands in the lent lefts and rights, for the pair table
-fn build_again(
-    s: &[u8],
-    im: Image,
-    left: usize,
-    right: usize,
-    budget: u32,
-    lefts: &mut [u16],
-    rights: &mut [u16],
-) -> Built
-    requires { ⌜ Loaded (now s) im × (imageOf (now s) ≡ ok (tablesOf (now s))) × (left < im .classes) × (right < im .classes) × (4096 ≤ length (now lefts)) × (4096 ≤ length (now rights)) ⌝ }
-    ensures { λ r. ⌜ GoesAgain (now (s .entry)) left right budget im r (now (lefts .exit)) (now (rights .exit)) ⌝ }
-{
-    let mut index = [0u16; FULL_INDEX];
-    let b = Budget { left: budget };
-    graph::build(s, im, left, right, b, lefts, rights, &mut index)
-}
-
-// 11, the root's starting term, and building
-fn start(
-    s: &[u8],
-    im: Image,
-    left: usize,
-    right: usize,
-    budget: u32,
-    lefts: &mut [u16],
-    rights: &mut [u16],
-    index: &mut [u16],
+// The plain work buffers: every number zero.
+pub fn clear_all(
+    graph: &mut [u16],
+    pairs: &mut [u32],
+    work: &mut [u64],
+    flow: &mut [u64],
     terms: &mut [u32],
     runs: &mut [u64],
-) -> Prepared
-    requires { ⌜ Loaded (now s) im × (imageOf (now s) ≡ ok (tablesOf (now s))) × Wide (now lefts) (now rights) (now index) (now terms) (now runs) ⌝ }
-    ensures { λ r. ⌜ Prepares (now (s .entry)) left right budget r (now (lefts .exit)) (now (rights .exit)) (now (index .exit)) (now (terms .exit)) (now (runs .exit)) ⌝ }
+)
+    ensures { λ _. ⌜ Cleared true (now (graph .entry)) (now (graph .exit)) (now (pairs .entry)) (now (pairs .exit)) (now (work .entry)) (now (work .exit)) (now (flow .entry)) (now (flow .exit)) (now (terms .entry)) (now (terms .exit)) (now (runs .entry)) (now (runs .exit)) ⌝ }
 {
-    if left >= im.classes {
-        return Prepared::Stop(Answer::Refused(11));
-    }
-    if right >= im.classes {
-        return Prepared::Stop(Answer::Refused(11));
-    }
-    let b = exact_fixed::begin(
-        s,
-        im,
-        left,
-        right,
-        budget,
-        lefts,
-        rights,
-        index,
-        terms,
-        runs,
-    );
-    if begun_short(b) {
-        let g = build_again(s, im, left, right, budget, lefts, rights);
-        return Prepared::Again(im, g);
-    }
-    Prepared::Go(im, b)
+    outcome::clear_all(graph, pairs, work, flow, terms, runs);
 }
 
-// 2 to 11, the root's starting term, and building
-fn prepare(
+// Starting terms, rounds over as many pairs as the table counts, and the listing; the plain work buffers are cleared.
+fn finish(
+    lim: Limits,
+    s: &[u8],
+    q: Query,
+    p: Prepared,
+    c: Count,
+    graph: &mut [u16],
+    pairs: &mut [u32],
+    work: &mut [u64],
+    flow: &mut [u64],
+    terms: &mut [u32],
+    runs: &mut [u64],
+    out: &mut [u8],
+) -> Answer
+    requires { ⌜ Prepares (limitsOf lim) (now s) q p (now graph) (now terms) (now runs) × Roomy (limitsOf lim) (now graph) (now pairs) (now work) (now flow) (now terms) (now runs) × (c .pairs ≡ pairsOf p) ⌝ }
+    ensures { λ r. ⌜ Runs (limitsOf lim) (now (s .entry)) q p (length (now (graph .entry))) (now (out .entry)) (now (out .exit)) r × Cleared true (now (graph .entry)) (now (graph .exit)) (now (pairs .entry)) (now (pairs .exit)) (now (work .entry)) (now (work .exit)) (now (flow .entry)) (now (flow .exit)) (now (terms .entry)) (now (terms .exit)) (now (runs .entry)) (now (runs .exit)) ⌝ }
+{
+    match p {
+        Prepared::Stop(a) => {
+            clear_all(graph, pairs, work, flow, terms, runs);
+            a
+        }
+        Prepared::Large(im) => {
+            clear_all(graph, pairs, work, flow, terms, runs);
+            Answer::Refused(12)
+        }
+        Prepared::Go(im, b) => answer_of(exact_fixed::finish(
+            lim,
+            s,
+            im,
+            q,
+            counted(b, c),
+            graph,
+            pairs,
+            work,
+            flow,
+            terms,
+            runs,
+            out,
+        )),
+    }
+}
+
+// The end of the second run.
+fn conclude_full(
     s: &[u8],
     left: u16,
     right: u16,
     budget: u32,
-    lefts: &mut [u16],
-    rights: &mut [u16],
-    index: &mut [u16],
-    terms: &mut [u32],
-    runs: &mut [u64],
-) -> Prepared
-    requires { ⌜ Wide (now lefts) (now rights) (now index) (now terms) (now runs) ⌝ }
-    ensures { λ r. ⌜ Prepares (now (s .entry)) left right budget r (now (lefts .exit)) (now (rights .exit)) (now (index .exit)) (now (terms .exit)) (now (runs .exit)) ⌝ }
-{
-    let v = judge(s);
-    match v {
-        Verdict::Refused(k) => Prepared::Stop(Answer::Refused(k)),
-        Verdict::Doubled(c) => Prepared::Stop(Answer::Doubled(c)),
-        Verdict::Accepted(im) => start(
-            s,
-            im,
-            wide(left),
-            wide(right),
-            budget,
-            lefts,
-            rights,
-            index,
-            terms,
-            runs,
-        ),
-    }
-}
-
-fn clear2(s: &mut [u16])
-    ensures { λ _. ⌜ now (s .exit) ≡ replicate (length (now (s .entry))) 0 ⌝ }
-{
-    let mut i = 0;
-    while i < s.len() {
-        s[i] = 0;
-        i += 1;
-    }
-}
-
-fn clear4(s: &mut [u32])
-    ensures { λ _. ⌜ now (s .exit) ≡ replicate (length (now (s .entry))) 0 ⌝ }
-{
-    let mut i = 0;
-    while i < s.len() {
-        s[i] = 0;
-        i += 1;
-    }
-}
-
-fn clear8(s: &mut [u64])
-    ensures { λ _. ⌜ now (s .exit) ≡ replicate (length (now (s .entry))) 0 ⌝ }
-{
-    let mut i = 0;
-    while i < s.len() {
-        s[i] = 0;
-        i += 1;
-    }
-}
-
-// the plain work buffers after a refusal
-pub fn clear_all(
-    lefts: &mut [u16],
-    rights: &mut [u16],
-    index: &mut [u16],
+    p: Prepared,
+    c: Count,
+    graph: &mut [u16],
     pairs: &mut [u32],
-    terms: &mut [u32],
-    runs: &mut [u64],
-)
-    ensures { λ _. ⌜ Cleared true (now (lefts .entry)) (now (lefts .exit)) (now (rights .entry)) (now (rights .exit)) (now (index .entry)) (now (index .exit)) (now (pairs .entry)) (now (pairs .exit)) (now (terms .entry)) (now (terms .exit)) (now (runs .entry)) (now (runs .exit)) ⌝ }
-{
-    clear2(lefts);
-    clear2(rights);
-    clear2(index);
-    clear4(pairs);
-    clear4(terms);
-    clear8(runs);
-}
-
-// what the engine answers; there is no refusal 0
-fn answer_of(a: exact_fixed::Answer) -> Answer
-    ensures { λ r. ⌜ r ≡ engineAnswer a ⌝ }
-{
-    match a {
-        exact_fixed::Answer::Listing(n) => Answer::Listing(n),
-        exact_fixed::Answer::Refused(k) => Answer::Refused(k),
-        exact_fixed::Answer::Short => Answer::Refused(0),
-    }
-}
-
-// whether a buffer is too short for the run
-fn answered_short(a: exact_fixed::Answer) -> bool
-    ensures { λ r. ⌜ r ≡ shortAnswer a ⌝ }
-{
-    match a {
-        exact_fixed::Answer::Listing(n) => false,
-        exact_fixed::Answer::Refused(k) => false,
-        exact_fixed::Answer::Short => true,
-    }
-}
-
-// the rounds and the listing in the lent buffers, with room for 64 cells in a turn
-fn finish_small(
-    s: &[u8],
-    im: Image,
-    left: usize,
-    right: usize,
-    budget: u32,
-    b: Begun,
-    lefts: &mut [u16],
-    rights: &mut [u16],
-    index: &mut [u16],
-    pairs: &mut [u32],
+    work: &mut [u64],
+    flow: &mut [u64],
     terms: &mut [u32],
     runs: &mut [u64],
     out: &mut [u8],
-) -> exact_fixed::Answer
-    requires { ⌜ Wide (now lefts) (now rights) (now index) (now terms) (now runs) × (24576 ≤ length (now pairs)) × Goes (now s) left right budget im b (now lefts) (now rights) (now index) (now terms) (now runs) ⌝ }
-    ensures { λ r. ⌜ UnlessAnswer r (EndsShort 64 (now (lefts .entry)) (now (rights .entry)) (now (index .entry)) (now (pairs .entry)) (now (terms .entry)) (now (runs .entry)) (now (out .entry)) (now (lefts .exit)) (now (rights .exit)) (now (index .exit)) (now (pairs .exit)) (now (terms .exit)) (now (runs .exit)) (now (out .exit)))
-        (Finishes (tablesOf (now (s .entry))) (left, right) budget (now (lefts .entry)) (now (rights .entry)) (now (index .entry)) (now (pairs .entry)) (now (terms .entry)) (now (runs .entry)) (now (out .entry)) (now (lefts .exit)) (now (rights .exit)) (now (index .exit)) (now (pairs .exit)) (now (terms .exit)) (now (runs .exit)) (now (out .exit)) r) ⌝ }
+) -> Answer
+    requires { ⌜ Full (now graph) (now pairs) (now work) (now flow) (now terms) (now runs) × Prepares documentLimits (now s) (record { left = left; right = right; budget = budget }) p (now graph) (now terms) (now runs) × (c .pairs ≡ pairsOf p) ⌝ }
+    ensures { λ r. ⌜ Merges (now (s .entry)) left right budget true (now (out .entry)) (now (out .exit)) r ⌝ }
 {
-    let ones = [1u8; FEW_CELLS];
-    let mut sizes = [0u32; FEW_CELLS];
-    let mut masses = [0u32; FEW_CELLS];
-    let mut costs = [0u64; 3 * FEW_CELLS];
-    let mut flow = [0u64; FEW_CELLS];
-    let mut list = [0u64; FEW_CELLS];
-    exact_fixed::finish(
+    let q = Query {
+        left: left,
+        right: right,
+        budget: budget,
+    };
+    finish(
+        query::document(),
         s,
-        im,
-        left,
-        right,
-        budget,
-        b,
-        lefts,
-        rights,
-        index,
+        q,
+        p,
+        c,
+        graph,
         pairs,
+        work,
+        flow,
         terms,
         runs,
-        &ones,
-        &mut sizes,
-        &mut masses,
-        &mut costs,
-        &mut flow,
-        &mut list,
         out,
     )
 }
 
-// the rounds and the listing with room for 4,225 cells in a turn, the most that there are
-fn finish_large(
+// An empty pair table for every graph.
+fn full_table() -> [Pair; FULL_TABLE]
+    ensures { λ r. ⌜ r ≡ replicate 4096 none ⌝ }
+{
+    [Pair { left: 0, right: 0 }; FULL_TABLE]
+}
+
+// The merge at document 01's limits, in arrays of full length and with a pair table of its own.
+fn run_full(
     s: &[u8],
-    im: Image,
-    left: usize,
-    right: usize,
+    left: u16,
+    right: u16,
     budget: u32,
-    b: Begun,
-    lefts: &mut [u16],
-    rights: &mut [u16],
-    index: &mut [u16],
+    graph: &mut [u16],
     pairs: &mut [u32],
+    work: &mut [u64],
+    flow: &mut [u64],
     terms: &mut [u32],
     runs: &mut [u64],
     out: &mut [u8],
 ) -> Answer
-    requires { ⌜ Full (now lefts) (now rights) (now index) (now terms) (now runs) × (24576 ≤ length (now pairs)) × Goes (now s) left right budget im b (now lefts) (now rights) (now index) (now terms) (now runs) ⌝ }
-    ensures { λ r. ⌜ Merges (now (s .entry)) left right budget true (now (out .entry)) (now (out .exit)) r × Cleared true (now (lefts .entry)) (now (lefts .exit)) (now (rights .entry)) (now (rights .exit)) (now (index .entry)) (now (index .exit)) (now (pairs .entry)) (now (pairs .exit)) (now (terms .entry)) (now (terms .exit)) (now (runs .entry)) (now (runs .exit)) ⌝ }
+    requires { ⌜ Full (now graph) (now pairs) (now work) (now flow) (now terms) (now runs) ⌝ }
+    ensures { λ r. ⌜ Merges (now (s .entry)) left right budget true (now (out .entry)) (now (out .exit)) r ⌝ }
 {
-    let ones = [1u8; CELLS];
-    let mut sizes = [0u32; CELLS];
-    let mut masses = [0u32; CELLS];
-    let mut costs = [0u64; 3 * CELLS];
-    let mut flow = [0u64; CELLS];
-    let mut list = [0u64; CELLS];
-    let a = exact_fixed::finish(
+    let mut table = full_table();
+    let p = prepare_full(s, left, right, budget, graph, terms, runs);
+    let from = keys_of(p);
+    let n = pairs_of(p);
+    let c = pair_table::enter_graph(&mut table, graph, from, n, left, right);
+    conclude_full(
         s,
-        im,
         left,
         right,
         budget,
-        b,
-        lefts,
-        rights,
-        index,
+        p,
+        c,
+        graph,
         pairs,
+        work,
+        flow,
         terms,
         runs,
-        &ones,
-        &mut sizes,
-        &mut masses,
-        &mut costs,
-        &mut flow,
-        &mut list,
         out,
-    );
-    answer_of(a)
+    )
 }
 
-// the whole run in buffers of full length; lefts, rights and pairs are lent
-fn run_large(
-    s: &[u8],
-    im: Image,
-    left: usize,
-    right: usize,
-    budget: u32,
-    c: Count,
-    lefts: &mut [u16],
-    rights: &mut [u16],
-    pairs: &mut [u32],
-    out: &mut [u8],
-) -> Answer
-    requires { ⌜ Loaded (now s) im × (imageOf (now s) ≡ ok (tablesOf (now s))) × (left < im .classes) × (right < im .classes) × (4096 ≤ length (now lefts)) × (4096 ≤ length (now rights)) × (24576 ≤ length (now pairs)) × Counts (now s) left right budget (c .pairs) ⌝ }
-    ensures { λ r. ⌜ Merges (now (s .entry)) left right budget true (now (out .entry)) (now (out .exit)) r × (now (lefts .exit) ≡ replicate (length (now (lefts .entry))) 0) × (now (rights .exit) ≡ replicate (length (now (rights .entry))) 0) × (now (pairs .exit) ≡ replicate (length (now (pairs .entry))) 0) ⌝ }
+// The second run, in arrays of full length.
+fn run_again(s: &[u8], left: u16, right: u16, budget: u32, out: &mut [u8]) -> Answer
+    ensures { λ r. ⌜ Merges (now (s .entry)) left right budget true (now (out .entry)) (now (out .exit)) r ⌝ }
 {
-    let mut index = [0u16; FULL_INDEX];
+    let mut graph = [0u16; FULL_GRAPH];
+    let mut pairs = [0u32; FULL_PAIRS];
+    let mut work = [0u64; FULL_WORK];
+    let mut flow = [0u64; FULL_FLOW];
     let mut terms = [0u32; FULL_TERMS];
     let mut runs = [0u64; FULL_RUNS];
-    let b = exact_fixed::begin(
+    run_full(
         s,
-        im,
         left,
         right,
         budget,
-        lefts,
-        rights,
-        &mut index,
-        &mut terms,
-        &mut runs,
-    );
-    finish_large(
-        s,
-        im,
-        left,
-        right,
-        budget,
-        counted(b, c),
-        lefts,
-        rights,
-        &mut index,
-        pairs,
+        &mut graph,
+        &mut pairs,
+        &mut work,
+        &mut flow,
         &mut terms,
         &mut runs,
         out,
     )
 }
 
-// the rounds and the listing; where a lent buffer is too short, the run is made again in buffers of full length
-fn finish(
-    s: &[u8],
-    im: Image,
-    left: usize,
-    right: usize,
-    budget: u32,
-    b: Begun,
-    c: Count,
-    lefts: &mut [u16],
-    rights: &mut [u16],
-    index: &mut [u16],
-    pairs: &mut [u32],
-    terms: &mut [u32],
-    runs: &mut [u64],
-    out: &mut [u8],
-) -> Answer
-    requires { ⌜ Wide (now lefts) (now rights) (now index) (now terms) (now runs) × (24576 ≤ length (now pairs)) × Goes (now s) left right budget im b (now lefts) (now rights) (now index) (now terms) (now runs) × Counts (now s) left right budget (c .pairs) ⌝ }
-    ensures { λ r. ⌜ Merges (now (s .entry)) left right budget true (now (out .entry)) (now (out .exit)) r × Cleared true (now (lefts .entry)) (now (lefts .exit)) (now (rights .entry)) (now (rights .exit)) (now (index .entry)) (now (index .exit)) (now (pairs .entry)) (now (pairs .exit)) (now (terms .entry)) (now (terms .exit)) (now (runs .entry)) (now (runs .exit)) ⌝ }
+// Whether a limit was met: 12 or 13.
+fn met_limit(a: Answer) -> bool
+    ensures { λ r. ⌜ r ≡ limited a ⌝ }
 {
-    let a = finish_small(
-        s,
-        im,
-        left,
-        right,
-        budget,
-        counted(b, c),
-        lefts,
-        rights,
-        index,
-        pairs,
-        terms,
-        runs,
-        out,
-    );
-    if answered_short(a) {
-        return run_large(s, im, left, right, budget, c, lefts, rights, pairs, out);
+    match a {
+        Answer::Listing(n) => false,
+        Answer::Refused(k) => {
+            if k == 12 {
+                return true;
+            }
+            k == 13
+        }
+        Answer::Doubled(c) => false,
     }
-    answer_of(a)
 }
 
-// the run in buffers of full length, where a lent one was too short to begin
-fn finish_again(
-    s: &[u8],
-    im: Image,
-    left: usize,
-    right: usize,
-    budget: u32,
-    c: Count,
-    lefts: &mut [u16],
-    rights: &mut [u16],
-    index: &mut [u16],
-    pairs: &mut [u32],
-    terms: &mut [u32],
-    runs: &mut [u64],
-    out: &mut [u8],
-) -> Answer
-    requires { ⌜ Loaded (now s) im × (imageOf (now s) ≡ ok (tablesOf (now s))) × (left < im .classes) × (right < im .classes) × (4096 ≤ length (now lefts)) × (4096 ≤ length (now rights)) × (24576 ≤ length (now pairs)) × Counts (now s) left right budget (c .pairs) ⌝ }
-    ensures { λ r. ⌜ Merges (now (s .entry)) left right budget true (now (out .entry)) (now (out .exit)) r × Cleared true (now (lefts .entry)) (now (lefts .exit)) (now (rights .entry)) (now (rights .exit)) (now (index .entry)) (now (index .exit)) (now (pairs .entry)) (now (pairs .exit)) (now (terms .entry)) (now (terms .exit)) (now (runs .entry)) (now (runs .exit)) ⌝ }
-{
-    clear_all(lefts, rights, index, pairs, terms, runs);
-    run_large(s, im, left, right, budget, c, lefts, rights, pairs, out)
-}
-
-// the run and its listing; the plain work buffers are cleared
+// The end of the first run; where it met a limit, the second.
 fn conclude(
     s: &[u8],
     left: u16,
@@ -542,89 +466,78 @@ fn conclude(
     budget: u32,
     p: Prepared,
     c: Count,
-    lefts: &mut [u16],
-    rights: &mut [u16],
-    index: &mut [u16],
+    graph: &mut [u16],
     pairs: &mut [u32],
+    work: &mut [u64],
+    flow: &mut [u64],
     terms: &mut [u32],
     runs: &mut [u64],
     out: &mut [u8],
 ) -> Answer
-    requires { ⌜ Wide (now lefts) (now rights) (now index) (now terms) (now runs) × (24576 ≤ length (now pairs)) × Prepares (now s) left right budget p (now lefts) (now rights) (now index) (now terms) (now runs) × (c .pairs ≡ pairsOf p) ⌝ }
-    ensures { λ r. ⌜ Merges (now (s .entry)) left right budget true (now (out .entry)) (now (out .exit)) r × Cleared true (now (lefts .entry)) (now (lefts .exit)) (now (rights .entry)) (now (rights .exit)) (now (index .entry)) (now (index .exit)) (now (pairs .entry)) (now (pairs .exit)) (now (terms .entry)) (now (terms .exit)) (now (runs .entry)) (now (runs .exit)) ⌝ }
+    requires { ⌜ Wide (now graph) (now pairs) (now work) (now flow) (now terms) (now runs) × Prepares smallLimits (now s) (record { left = left; right = right; budget = budget }) p (now graph) (now terms) (now runs) × (c .pairs ≡ pairsOf p) ⌝ }
+    ensures { λ r. ⌜ Merges (now (s .entry)) left right budget true (now (out .entry)) (now (out .exit)) r × Cleared true (now (graph .entry)) (now (graph .exit)) (now (pairs .entry)) (now (pairs .exit)) (now (work .entry)) (now (work .exit)) (now (flow .entry)) (now (flow .exit)) (now (terms .entry)) (now (terms .exit)) (now (runs .entry)) (now (runs .exit)) ⌝ }
 {
-    match p {
-        Prepared::Stop(a) => {
-            clear_all(lefts, rights, index, pairs, terms, runs);
-            a
-        }
-        Prepared::Go(im, b) => finish(
-            s,
-            im,
-            wide(left),
-            wide(right),
-            budget,
-            b,
-            c,
-            lefts,
-            rights,
-            index,
-            pairs,
-            terms,
-            runs,
-            out,
-        ),
-        Prepared::Again(im, g) => finish_again(
-            s,
-            im,
-            wide(left),
-            wide(right),
-            budget,
-            c,
-            lefts,
-            rights,
-            index,
-            pairs,
-            terms,
-            runs,
-            out,
-        ),
+    let q = Query {
+        left: left,
+        right: right,
+        budget: budget,
+    };
+    let a = finish(
+        small(),
+        s,
+        q,
+        p,
+        c,
+        graph,
+        pairs,
+        work,
+        flow,
+        terms,
+        runs,
+        out,
+    );
+    if met_limit(a) {
+        return run_again(s, left, right, budget, out);
     }
+    a
 }
 
+// ---- the merge
 // The merge of two classes of an image, with a budget of checks, into a listing. Refuses as the table of refusals says.
-// The pair table is the records' layer: it looks up or enters the pairs that the engine numbers in plain arrays, and its count is the number of pairs that the rounds run over.
+// The pair table is the records' layer: it looks up or enters the pairs that the engine numbers in a plain array, and its count is the number of pairs that the rounds run over.
 pub fn merge(
     s: &[u8],
     left: u16,
     right: u16,
     budget: u32,
     table: &mut [Pair],
-    lefts: &mut [u16],
-    rights: &mut [u16],
-    index: &mut [u16],
+    graph: &mut [u16],
     pairs: &mut [u32],
+    work: &mut [u64],
+    flow: &mut [u64],
     terms: &mut [u32],
     runs: &mut [u64],
     out: &mut [u8],
 ) -> Answer
     ensures { λ r. do
-      let fit = fits (now (table .entry)) (now (lefts .entry)) (now (rights .entry)) (now (index .entry)) (now (pairs .entry)) (now (terms .entry)) (now (runs .entry))
-      ⌜ Merges (now (s .entry)) left right budget fit (now (out .entry)) (now (out .exit)) r × Table fit (now (table .entry)) (now (table .exit)) × Cleared fit (now (lefts .entry)) (now (lefts .exit)) (now (rights .entry)) (now (rights .exit)) (now (index .entry)) (now (index .exit)) (now (pairs .entry)) (now (pairs .exit)) (now (terms .entry)) (now (terms .exit)) (now (runs .entry)) (now (runs .exit)) ⌝ }
+      let fit = fits (now (table .entry)) (now (graph .entry)) (now (pairs .entry)) (now (work .entry)) (now (flow .entry)) (now (terms .entry)) (now (runs .entry))
+      ⌜ Merges (now (s .entry)) left right budget fit (now (out .entry)) (now (out .exit)) r × Table fit (now (table .entry)) (now (table .exit)) × Cleared fit (now (graph .entry)) (now (graph .exit)) (now (pairs .entry)) (now (pairs .exit)) (now (work .entry)) (now (work .exit)) (now (flow .entry)) (now (flow .exit)) (now (terms .entry)) (now (terms .exit)) (now (runs .entry)) (now (runs .exit)) ⌝ }
 {
     if short(
         table.len(),
-        lefts.len(),
-        rights.len(),
-        index.len(),
+        graph.len(),
         pairs.len(),
+        work.len(),
+        flow.len(),
         terms.len(),
         runs.len(),
     ) {
         return refuse(1);
     }
-    let p = prepare(s, left, right, budget, lefts, rights, index, terms, runs);
-    let c = pair_table::enter_graph(table, lefts, rights, pairs_of(p), left, right);
+    let p = prepare_small(s, left, right, budget, graph, terms, runs);
+    let from = keys_of(p);
+    let n = pairs_of(p);
+    let c = pair_table::enter_graph(table, graph, from, n, left, right);
     let a = conclude(
         s,
         left,
@@ -632,10 +545,10 @@ pub fn merge(
         budget,
         p,
         c,
-        lefts,
-        rights,
-        index,
+        graph,
         pairs,
+        work,
+        flow,
         terms,
         runs,
         out,
@@ -645,10 +558,10 @@ pub fn merge(
 }
 
 // An empty pair table.
-fn empty() -> [Pair; PAIRS]
-    ensures { λ r. ⌜ r ≡ replicate 4096 none ⌝ }
+fn empty() -> [Pair; TABLE]
+    ensures { λ r. ⌜ r ≡ replicate 256 none ⌝ }
 {
-    [Pair { left: 0, right: 0 }; PAIRS]
+    [Pair { left: 0, right: 0 }; TABLE]
 }
 
 // The merge with a pair table of its own, for callers that lend plain buffers only.
@@ -657,17 +570,17 @@ pub fn merge_plain(
     left: u16,
     right: u16,
     budget: u32,
-    lefts: &mut [u16],
-    rights: &mut [u16],
-    index: &mut [u16],
+    graph: &mut [u16],
     pairs: &mut [u32],
+    work: &mut [u64],
+    flow: &mut [u64],
     terms: &mut [u32],
     runs: &mut [u64],
     out: &mut [u8],
 ) -> Answer
     ensures { λ r. do
-      let fit = fitOf 4096 (length (now (lefts .entry))) (length (now (rights .entry))) (length (now (index .entry))) (length (now (pairs .entry))) (length (now (terms .entry))) (length (now (runs .entry)))
-      ⌜ Merges (now (s .entry)) left right budget fit (now (out .entry)) (now (out .exit)) r × Cleared fit (now (lefts .entry)) (now (lefts .exit)) (now (rights .entry)) (now (rights .exit)) (now (index .entry)) (now (index .exit)) (now (pairs .entry)) (now (pairs .exit)) (now (terms .entry)) (now (terms .exit)) (now (runs .entry)) (now (runs .exit)) ⌝ }
+      let fit = fitOf 256 (length (now (graph .entry))) (length (now (pairs .entry))) (length (now (work .entry))) (length (now (flow .entry))) (length (now (terms .entry))) (length (now (runs .entry)))
+      ⌜ Merges (now (s .entry)) left right budget fit (now (out .entry)) (now (out .exit)) r × Cleared fit (now (graph .entry)) (now (graph .exit)) (now (pairs .entry)) (now (pairs .exit)) (now (work .entry)) (now (work .exit)) (now (flow .entry)) (now (flow .exit)) (now (terms .entry)) (now (terms .exit)) (now (runs .entry)) (now (runs .exit)) ⌝ }
 {
     let mut table = empty();
     merge(
@@ -676,10 +589,10 @@ pub fn merge_plain(
         right,
         budget,
         &mut table,
-        lefts,
-        rights,
-        index,
+        graph,
         pairs,
+        work,
+        flow,
         terms,
         runs,
         out,

@@ -1,48 +1,12 @@
 -- Best terms kept for each class, by their number plus 1; 0 where the class is still unbuilt.
 use mathlib.Core.Path.{_≡_}
-use mathlib.Core.List.{List, [], _∷_, map}
-use Prim.Native.Nat.{ℕ, _+_, _*_, _-_, _≤_, _<_}
-use lib.Dec.{eqb}
+use mathlib.Core.List.{List}
+use Prim.Native.Nat.{ℕ, _-_, _<_}
 use lib.ListN.{length, getD}
-use Rattle.spec.specs.Bytes.{Two, pick, Res, ok, refused}
-use Rattle.spec.specs.Image.{Tables, Member, Lit, kindOf, childrenOf, theMember}
-use Rattle.spec.specs.Pool.{Pool, Node, litNode, opNode, Interned, interned, bestTerm}
-use Rattle.spec.specs.Meaning.{In}
-use Rattle.terms.specs.Buffers.{poolOf, countIn}
-use Rattle.terms.specs.Chains.{Holds}
-use Rattle.terms.specs.Interning.{enteredOf, poolAfter}
-use Rattle.terms.specs.Growing.{laidOver, Grows}
-use Rattle.terms.specs.declared.Entered.{Entered}
-
--- the answer and the buffers where the definitions give m
-pub record Gives (terms runs terms′ runs′ : List ℕ) (m : Res Interned) (r : Entered) : Type 0 where
-  pub answer : r ≡ enteredOf m
-  pub pool : poolOf terms′ runs′ ≡ poolAfter (poolOf terms runs) m
-  pub holds : Holds terms′ runs′
-  pub grows : Grows terms runs terms′ runs′ (poolAfter (poolOf terms runs) m)
+use Rattle.spec.specs.Bytes.{Limits, ok}
+use Rattle.spec.specs.Image.{Tables}
+use Rattle.spec.specs.Pool.{Pool, interned, bestTerm}
 
 -- a kept term is the class's best term, in the pool as it is
-abbrev pub Kept : Tables → Pool → List ℕ → Type 0
-Kept t p best = (c : ℕ) → c < length (t .classes) → 0 < getD best c 0 → bestTerm t p c ≡ ok (interned p (getD best c 0 - 1))
-
--- child k of the table of children, as a run over the kept terms
-abbrev pub keptRun : List ℕ → Two → Two
-keptRun best e = (getD best (e .0) 0 - 1, e .1)
-
-abbrev pub keptNumber : List ℕ → Two → ℕ
-keptNumber best e = e .1 * 16384 + (getD best (e .0) 0 - 1)
-
--- every child's class is built
-abbrev pub Built : List ℕ → ℕ → List Two → Type 0
-Built best n l = (e : Two) → In e l → (0 < getD best (e .0) 0) × (getD best (e .0) 0 ≤ n)
-
--- what a member's term asks: its children stand in the table, their classes are built
-pub record MemberReady (t : Tables) (best : List ℕ) (n m : ℕ) : Type 0 where
-  pub many : length (childrenOf t (theMember t m)) ≡ theMember t m .count
-  pub few : theMember t m .count ≤ 64
-  pub classes : (e : Two) → In e (childrenOf t (theMember t m)) → e .0 < length best
-  pub counted : (e : Two) → In e (childrenOf t (theMember t m)) → 1 ≤ e .1
-  pub built : Built best n (childrenOf t (theMember t m))
-
-abbrev pub memberNode : Tables → List ℕ → Member → Node
-memberNode t best m = pick (eqb (kindOf t (m .op)) Lit) (litNode (m .op) (m .value)) (opNode (m .op) (map (keptRun best) (childrenOf t m)))
+abbrev pub Kept : Limits → Tables → Pool → List ℕ → Type 0
+Kept lim t p best = (c : ℕ) → c < length (t .classes) → 0 < getD best c 0 → bestTerm lim t p c ≡ ok (interned p (getD best c 0 - 1))

@@ -4,7 +4,7 @@ use mathlib.Core.List.{List, [], _∷_, map}
 use Prim.Native.Nat.{ℕ, zero, suc, _+_}
 use lib.Dec.{eqb}
 use lib.ListN.{length, getD, set}
-use Rattle.spec.specs.Bytes.{Two, pick, upFrom, Res, ok, refused}
+use Rattle.spec.specs.Bytes.{Limits, Two, pick, upFrom, Res, ok, refused}
 use Rattle.spec.specs.Image.{Tables, childrenOf, bestMember, bestSize}
 use Rattle.spec.specs.Pool.{Pool, Interned, bestTerm, bestTermIn}
 
@@ -34,9 +34,9 @@ numberOf (ok a) = a .term + 1
 numberOf (refused n) = 0
 
 -- what is kept of class d once the starting term of c is made: what was kept, or its best term where c reaches it
-abbrev pub bestAfter : Tables → Pool → List ℕ → Two → ℕ → ℕ
-bestAfter t p best c d = pick (eqb (getD best d 0) 0) (pick (eqb (getD (reach t (reach t (marksOf best) (c .0)) (c .1)) d 0) 0) 0 (numberOf (bestTerm t p d))) (getD best d 0)
+abbrev pub bestAfter : Limits → Tables → Pool → List ℕ → Two → ℕ → ℕ
+bestAfter lim t p best c d = pick (eqb (getD best d 0) 0) (pick (eqb (getD (reach t (reach t (marksOf best) (c .0)) (c .1)) d 0) 0) 0 (numberOf (bestTerm lim t p d))) (getD best d 0)
 
-unfoldable pub bestsAfter : Tables → Pool → List ℕ → Two → List ℕ
+unfoldable pub bestsAfter : Limits → Tables → Pool → List ℕ → Two → List ℕ
 unfolding upFrom reachIn bestTermIn
-bestsAfter t p best c = map (bestAfter t p best c) (upFrom 0 (length best))
+bestsAfter lim t p best c = map (bestAfter lim t p best c) (upFrom 0 (length best))

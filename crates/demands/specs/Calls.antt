@@ -11,7 +11,7 @@ use lib.Seq.{length-take-le, drop-at}
 use borrow.Author.Tests.{lt-ltb, ltb-true, ltb-false, leb-true, leb-false}
 use Rattle.spec.specs.Bytes.{Res, ok, refused, rule, _>>=_}
 use Rattle.spec.specs.Image.{Tables, tablesOf, imageOf}
-use Rattle.spec.specs.Run.{Outcome, runOf}
+use Rattle.spec.specs.Run.{documentLimits, Outcome, runOf}
 use Rattle.spec.specs.Listing.{listingOf}
 use Rattle.spec.specs.Merge.{mergeOf, outputAfter}
 use Rattle.laws.specs.Valid.{Keeps}
@@ -40,9 +40,9 @@ pub data Way (fit : Bool) (image : List ℕ) (left right budget room : ℕ) (m :
   short : m ≡ refused 1 → fit ≡ false → Way fit image left right budget room m
   unsound : (k : ℕ) → m ≡ refused k → fit ≡ true → imageOf image ≡ refused k → Way fit image left right budget room m
   outside : m ≡ refused 11 → fit ≡ true → imageOf image ≡ ok (tablesOf image) → (Asked image left right → ⊥) → Way fit image left right budget room m
-  stopped : (k : ℕ) → m ≡ refused k → Taken fit image left right → runOf (tablesOf image) (left, right) budget ≡ refused k → Way fit image left right budget room m
-  over : (o : Outcome) → m ≡ refused 14 → Taken fit image left right → runOf (tablesOf image) (left, right) budget ≡ ok o → room < length (listingOf o) → Way fit image left right budget room m
-  listed : (o : Outcome) → m ≡ ok (listingOf o) → Taken fit image left right → runOf (tablesOf image) (left, right) budget ≡ ok o → length (listingOf o) ≤ room → Way fit image left right budget room m
+  stopped : (k : ℕ) → m ≡ refused k → Taken fit image left right → runOf documentLimits (tablesOf image) (left, right) budget ≡ refused k → Way fit image left right budget room m
+  over : (o : Outcome) → m ≡ refused 14 → Taken fit image left right → runOf documentLimits (tablesOf image) (left, right) budget ≡ ok o → room < length (listingOf o) → Way fit image left right budget room m
+  listed : (o : Outcome) → m ≡ ok (listingOf o) → Taken fit image left right → runOf documentLimits (tablesOf image) (left, right) budget ≡ ok o → length (listingOf o) ≤ room → Way fit image left right budget room m
 
 sound-of : (image : List ℕ) (t : Tables) → imageOf image ≡ ok t → (t ≡ tablesOf image) × Sound image 11
 sound-of image t e = let (q, k) = A.accepted image t .0 e in (q, λ j a b. k j a (omega arith))
@@ -52,7 +52,7 @@ read-of image s = A.accepted image (tablesOf image) .1 (refl, λ n a b. s n a (o
 
 -- past the rules 1 to 11 it is the run, and 14 last
 pub taken-is : (fit : Bool) (image : List ℕ) (left right budget room : ℕ) → Taken fit image left right
-    → mergeOf fit image left right budget room ≡ (runOf (tablesOf image) (left, right) budget >>= λ o. rule 14 (leb (length (listingOf o)) room) >>= λ _. ok (listingOf o))
+    → mergeOf fit image left right budget room ≡ (runOf documentLimits (tablesOf image) (left, right) budget >>= λ o. rule 14 (leb (length (listingOf o)) room) >>= λ _. ok (listingOf o))
 unfolding mergeOf
 taken-is fit image left right budget room T =
     rw (T .fits, read-of image (T .sound), lt-ltb left (length (tablesOf image .classes)) (T .asked .0), lt-ltb right (length (tablesOf image .classes)) (T .asked .1)) refl
@@ -65,18 +65,18 @@ way true image left right budget room = go (imageOf image) refl
     n : ℕ
     n = length (tablesOf image .classes)
 
-    fits : (o : Outcome) → Taken true image left right → runOf (tablesOf image) (left, right) budget ≡ ok o → (b : Bool) → leb (length (listingOf o)) room ≡ b → Way true image left right budget room (mergeOf true image left right budget room)
+    fits : (o : Outcome) → Taken true image left right → runOf documentLimits (tablesOf image) (left, right) budget ≡ ok o → (b : Bool) → leb (length (listingOf o)) room ≡ b → Way true image left right budget room (mergeOf true image left right budget room)
     fits o T k true q = listed o (taken-is true image left right budget room T ∙ rw (k, q) refl) T k (leb-true (length (listingOf o)) room q)
     fits o T k false q = over o (taken-is true image left right budget room T ∙ rw (k, q) refl) T k (leb-false (length (listingOf o)) room q)
 
-    ran : Taken true image left right → (x : Res Outcome) → runOf (tablesOf image) (left, right) budget ≡ x → Way true image left right budget room (mergeOf true image left right budget room)
+    ran : Taken true image left right → (x : Res Outcome) → runOf documentLimits (tablesOf image) (left, right) budget ≡ x → Way true image left right budget room (mergeOf true image left right budget room)
     ran T (refused k) q = stopped k (taken-is true image left right budget room T ∙ rw q refl) T q
     ran T (ok o) q = fits o T q (leb (length (listingOf o)) room) refl
 
     asks : imageOf image ≡ ok (tablesOf image) → Sound image 11 → (a b : Bool) → ltb left n ≡ a → ltb right n ≡ b → Way true image left right budget room (mergeOf true image left right budget room)
     asks e S false b p q = outside (rw (e, p) refl) refl e (λ h. absurd (omega (arith, h .0, ltb-false left n p)))
     asks e S true false p q = outside (rw (e, p, q) refl) refl e (λ h. absurd (omega (arith, h .1, ltb-false right n q)))
-    asks e S true true p q = ran (record { fits = refl; sound = S; asked = (ltb-true left n p, ltb-true right n q) }) (runOf (tablesOf image) (left, right) budget) refl
+    asks e S true true p q = ran (record { fits = refl; sound = S; asked = (ltb-true left n p, ltb-true right n q) }) (runOf documentLimits (tablesOf image) (left, right) budget) refl
 
     go : (x : Res Tables) → imageOf image ≡ x → Way true image left right budget room (mergeOf true image left right budget room)
     go (refused k) e = unsound k (rw e refl) refl e
@@ -119,7 +119,7 @@ module _ (image : List ℕ) (left right budget : ℕ) (fit : Bool) (out out′ :
 pub record Accepted (image : List ℕ) (left right budget : ℕ) (fit : Bool) (out out′ : List ℕ) (n : ℕ) : Type 0 where
   pub taken : Taken fit image left right
   pub o : Outcome
-  pub ran : runOf (tablesOf image) (left, right) budget ≡ ok o
+  pub ran : runOf documentLimits (tablesOf image) (left, right) budget ≡ ok o
   pub long : n ≡ length (listingOf o)
   pub room : n ≤ length out
   pub listed : take n out′ ≡ listingOf o

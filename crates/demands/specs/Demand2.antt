@@ -11,7 +11,7 @@ use Rattle.spec.specs.Image.{Tables, tablesOf}
 use Rattle.spec.specs.Transport.{Problem, solveCells}
 use Rattle.spec.specs.Action.{Action, TransportAction, structural, transports, cellPairs}
 use Rattle.spec.specs.Round.{better, lookUp, problemOver, Act, ofAction, ofPlan, worth, stay, act, Turn, offer, offerActions, offerPlan, offerTransports, turnOf, turnsOf, qualitiesAfter}
-use Rattle.spec.specs.Run.{Outcome, runOf}
+use Rattle.spec.specs.Run.{documentLimits, Outcome, runOf}
 use Rattle.spec.specs.Listing.{firstLine, listingOf}
 use Rattle.spec.specs.Meaning.{In, here, there, Plan, _⊑_, termQuality, readFirst, readSecond, treeAt, Belongs}
 use Rattle.laws.specs.Valid.{Valid}
@@ -31,14 +31,14 @@ module _ (image : List ℕ) (left right budget : ℕ) (fit : Bool) (out out′ :
   abbrev pub o : Outcome
   o = accepted image left right budget fit out out′ n m .o
 
-  abbrev ran : runOf t (left, right) budget ≡ ok o
+  abbrev ran : runOf documentLimits t (left, right) budget ≡ ok o
   ran = accepted image left right budget fit out out′ n m .ran
 
   valid : Valid t
   valid = A.valid image t (read-of image (accepted image left right budget fit out out′ n m .taken .sound))
 
   -- o is what the run of the definitions gives, and the first n bytes of the output are its listing.
-  pub the-listing : (runOf t (left, right) budget ≡ ok o) × (n ≡ length (listingOf o)) × (take n out′ ≡ listingOf o)
+  pub the-listing : (runOf documentLimits t (left, right) budget ≡ ok o) × (n ≡ length (listingOf o)) × (take n out′ ≡ listingOf o)
   the-listing = let a = accepted image left right budget fit out out′ n m in (a .ran, a .long, a .listed)
 
   -- The output begins with o's first line; what its bytes tell: `first-line-tells` (FirstLine).
@@ -50,19 +50,19 @@ module _ (image : List ℕ) (left right budget : ℕ) (fit : Bool) (out out′ :
 
   -- o has a term: the pool's terms stand over earlier ones, no two alike, and the root is one of them.
   pub the-term : PoolValid (o .pool) × (o .root < length (o .pool))
-  the-term = L.run-pool t valid (left, right) (accepted image left right budget fit out out′ n m .taken .asked) budget o ran
+  the-term = L.run-pool documentLimits t valid (left, right) (accepted image left right budget fit out out′ n m .taken .asked) budget o ran
 
   -- "The formula read by the first branch at every marked place belongs to the left class"
   pub first-reading : Belongs t (readFirst (treeAt (o .pool) (o .root))) left
-  first-reading = L.readings t valid (left, right) (accepted image left right budget fit out out′ n m .taken .asked) budget o ran .0
+  first-reading = L.readings documentLimits t valid (left, right) (accepted image left right budget fit out out′ n m .taken .asked) budget o ran .0
 
   -- ".. by the second to the right"
   pub second-reading : Belongs t (readSecond (treeAt (o .pool) (o .root))) right
-  second-reading = L.readings t valid (left, right) (accepted image left right budget fit out out′ n m .taken .asked) budget o ran .1
+  second-reading = L.readings documentLimits t valid (left, right) (accepted image left right budget fit out out′ n m .taken .asked) budget o ran .1
 
   -- The size and mass of o, which the first line has, are the formula's.
   pub size-and-mass : termQuality (treeAt (o .pool) (o .root)) ≡ o .quality
-  size-and-mass = L.run-quality t valid (left, right) (accepted image left right budget fit out out′ n m .taken .asked) budget o ran
+  size-and-mass = L.run-quality documentLimits t valid (left, right) (accepted image left right budget fit out out′ n m .taken .asked) budget o ran
 
 -- ---- the transport plans of the steps
 -- What the turn w of pair p chose, over the qualities q of the round before: its term stays; or a structural action, each joined pair once; or a transport action with a plan x.

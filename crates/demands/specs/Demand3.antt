@@ -9,7 +9,7 @@ use lib.ListN.{length, take}
 use Rattle.spec.specs.Bytes.{Two, ok, refused, passed}
 use Rattle.spec.specs.Image.{Tables, tablesOf}
 use Rattle.spec.specs.Graph.{build}
-use Rattle.spec.specs.Run.{Outcome, runOf}
+use Rattle.spec.specs.Run.{documentLimits, Outcome, runOf}
 use Rattle.spec.specs.Listing.{listingOf}
 use Rattle.spec.specs.Meaning.{In, _⊑_, Derivation, Reachable}
 use Rattle.lgg.specs.Lists.{Distinct}
@@ -35,35 +35,35 @@ module _ (image : List ℕ) (left right budget : ℕ) (fit : Bool) (out out′ :
   abbrev o : Outcome
   o = accepted image left right budget fit out out′ n m .o
 
-  abbrev ran : runOf t (left, right) budget ≡ ok o
+  abbrev ran : runOf documentLimits t (left, right) budget ≡ ok o
   ran = accepted image left right budget fit out out′ n m .ran
 
   -- "After any r finished rounds the queried pair has the quality of one of its derivations of height at most r, and every other has at least as much": for r the rounds reported.
   pub least-of-height : LeastOf t (o .rounds) (left, right) (o .quality)
-  least-of-height = D.least-of-height t (left, right) budget o ran
+  least-of-height = D.least-of-height documentLimits t (left, right) budget o ran
 
   -- "After any r finished rounds": of every r, reached or not, for a run that is not cut short in building. The run's quality is the one after the rounds reported.
   pub least-after : (k : ℕ) → PairCount t (left, right) k → k ≤ budget
-      → (ps : List Two) × (c : ℕ) × (build t (left, right) budget ≡ ok (passed ps c)) × (o .quality ≡ qualityAfter t ps (o .rounds) (left, right)) × ((r : ℕ) → LeastOf t r (left, right) (qualityAfter t ps r (left, right)))
-  least-after k n h = go (run-ends t (left, right) budget o ran)
+      → (ps : List Two) × (c : ℕ) × (build documentLimits t (left, right) budget ≡ ok (passed ps c)) × (o .quality ≡ qualityAfter t ps (o .rounds) (left, right)) × ((r : ℕ) → LeastOf t r (left, right) (qualityAfter t ps r (left, right)))
+  least-after k n h = go (run-ends documentLimits t (left, right) budget o ran)
     where
-      whole : (ps : List Two) (c : ℕ) → build t (left, right) budget ≡ ok (passed ps c) → (ps : List Two) × (c : ℕ) × (build t (left, right) budget ≡ ok (passed ps c)) × (o .quality ≡ qualityAfter t ps (o .rounds) (left, right)) × ((r : ℕ) → LeastOf t r (left, right) (qualityAfter t ps r (left, right)))
+      whole : (ps : List Two) (c : ℕ) → build documentLimits t (left, right) budget ≡ ok (passed ps c) → (ps : List Two) × (c : ℕ) × (build documentLimits t (left, right) budget ≡ ok (passed ps c)) × (o .quality ≡ qualityAfter t ps (o .rounds) (left, right)) × ((r : ℕ) → LeastOf t r (left, right) (qualityAfter t ps r (left, right)))
       whole ps c e =
-          let (R, l, q) = D.first-quiet t (left, right) budget c ps e in
-          (ps, c, e, D.reported t (left, right) budget c ps e R q budget o ran .quality, λ r. D.least-after-rounds t (left, right) budget c ps e r (left, right) (root-in t (left, right) budget c ps e))
+          let (R, l, q) = D.first-quiet documentLimits t (left, right) budget c ps e in
+          (ps, c, e, D.reported documentLimits t (left, right) budget c ps e R q budget o ran .quality, λ r. D.least-after-rounds documentLimits t (left, right) budget c ps e r (left, right) (root-in documentLimits t (left, right) budget c ps e))
 
-      go : Ends t (left, right) budget o → (ps : List Two) × (c : ℕ) × (build t (left, right) budget ≡ ok (passed ps c)) × (o .quality ≡ qualityAfter t ps (o .rounds) (left, right)) × ((r : ℕ) → LeastOf t r (left, right) (qualityAfter t ps r (left, right)))
-      go (inBuilding root e s) = absurd (omega (arith, build-cut t (left, right) k n budget e))
+      go : Ends documentLimits t (left, right) budget o → (ps : List Two) × (c : ℕ) × (build documentLimits t (left, right) budget ≡ ok (passed ps c)) × (o .quality ≡ qualityAfter t ps (o .rounds) (left, right)) × ((r : ℕ) → LeastOf t r (left, right) (qualityAfter t ps r (left, right)))
+      go (inBuilding root e s) = absurd (omega (arith, build-cut documentLimits t (left, right) k n budget e))
       go (inStarting root ps c e l s) = whole ps c e
       go (inRounds ps c d e l f) = whole ps c e
 
   -- "A complete run is least among derivations of every height."
   pub least-of-every-height : o .complete ≡ true → (h : ℕ) (z : Two) → Derivation t h (left, right) z → o .quality ⊑ z
-  least-of-every-height = D.least-of-every-height t (left, right) budget o ran
+  least-of-every-height = D.least-of-every-height documentLimits t (left, right) budget o ran
 
   -- "A run whose full graph has n pairs completes with 2n + (n+1)(n+1) checks."
   pub completes : (k : ℕ) → PairCount t (left, right) k → 2 * k + (k + 1) * (k + 1) ≤ budget → o .complete ≡ true
-  completes k c h = D.completes t (left, right) k c budget o h ran
+  completes k c h = D.completes documentLimits t (left, right) k c budget o h ran
 
   -- Every query has one such n.
   pub pair-count : (k : ℕ) × PairCount t (left, right) k × ((j : ℕ) → PairCount t (left, right) j → j ≡ k)
@@ -71,7 +71,7 @@ module _ (image : List ℕ) (left right budget : ℕ) (fit : Bool) (out out′ :
 
   -- "A run cut short in building reports 1 pair, any other run n."
   pub pairs-reported : (k : ℕ) → PairCount t (left, right) k → (budget < k → o .pairs ≡ 1) × (k ≤ budget → o .pairs ≡ k)
-  pairs-reported k c = D.pairs-reported t (left, right) k c budget o ran
+  pairs-reported k c = D.pairs-reported documentLimits t (left, right) k c budget o ran
 
   -- "Pairs and rounds are reported as document 01 counts them": a run cut short in building; or the graph is built in full, R is its first round without change, and pairs, rounds and status follow from n, R and the budget (`Reported`).
   pub data Reports : Type 0 where
@@ -80,18 +80,18 @@ module _ (image : List ℕ) (left right budget : ℕ) (fit : Bool) (out out′ :
         → (R : ℕ) → R ≤ length ps → FirstQuiet t ps R → Reported t (left, right) ps (length ps) R budget o → Reports
 
   pub reported : Reports
-  reported = go (run-ends t (left, right) budget o ran)
+  reported = go (run-ends documentLimits t (left, right) budget o ran)
     where
-      whole : (ps : List Two) (c : ℕ) → build t (left, right) budget ≡ ok (passed ps c) → Reports
+      whole : (ps : List Two) (c : ℕ) → build documentLimits t (left, right) budget ≡ ok (passed ps c) → Reports
       whole ps c k =
-          let (R, l, q) = D.first-quiet t (left, right) budget c ps k in
-          built ps (D.graph t (left, right) budget c ps k) R l q (D.reported t (left, right) budget c ps k R q budget o ran)
+          let (R, l, q) = D.first-quiet documentLimits t (left, right) budget c ps k in
+          built ps (D.graph documentLimits t (left, right) budget c ps k) R l q (D.reported documentLimits t (left, right) budget c ps k R q budget o ran)
 
-      go : Ends t (left, right) budget o → Reports
+      go : Ends documentLimits t (left, right) budget o → Reports
       go (inBuilding root k s) =
           let (j, c, _) = D.pair-count t (left, right) in
           let (a, b, d, _) = started-says t (left, right) root 1 o s in
-          cutInBuilding j c (build-cut t (left, right) j c budget k) (a, b, d)
+          cutInBuilding j c (build-cut documentLimits t (left, right) j c budget k) (a, b, d)
       go (inStarting root ps c k l s) = whole ps c k
       go (inRounds ps c d k l f) = whole ps c k
 
@@ -107,11 +107,11 @@ module _ (image : List ℕ) (left right b c : ℕ) (h : b ≤ c) (fit fit₂ : B
 
       -- "The long run's size, then mass, is never above the short one's."
       pub never-above : l .quality ⊑ s .quality
-      never-above = D.never-above (tablesOf image) (left, right) b c s l h (ran image left right b fit out out′ n short) (ran image left right c fit₂ out₂ out₂′ k long)
+      never-above = D.never-above documentLimits (tablesOf image) (left, right) b c s l h (ran image left right b fit out out′ n short) (ran image left right c fit₂ out₂ out₂′ k long)
 
       -- "A complete short run makes a complete long one with the same bytes": the same outcome, so it is complete, and its listing has the same bytes.
       pub same-run : s .complete ≡ true → l ≡ s
-      same-run e = ok-inj (sym (ran image left right c fit₂ out₂ out₂′ k long) ∙ D.stays-complete (tablesOf image) (left, right) b c s h (ran image left right b fit out out′ n short) e)
+      same-run e = ok-inj (sym (ran image left right c fit₂ out₂ out₂′ k long) ∙ D.stays-complete documentLimits (tablesOf image) (left, right) b c s h (ran image left right b fit out out′ n short) e)
 
       pub stays-complete : s .complete ≡ true → l .complete ≡ true
       stays-complete e = ap (λ (z : Outcome). z .complete) (same-run e) ∙ e
@@ -128,12 +128,12 @@ module _ (image : List ℕ) (left right b c : ℕ) (h : b ≤ c) (fit fit₂ : B
     long-answers e r m f w =
         let a = accepted image left right b fit out out′ n short in
         listing-where image left right c fit₂ out₂ out₂′ r m .1
-        (record { fits = f; sound = a .taken .sound; asked = a .taken .asked }, (s, D.stays-complete (tablesOf image) (left, right) b c s h (a .ran) e, rw (a .long) at w))
+        (record { fits = f; sound = a .taken .sound; asked = a .taken .asked }, (s, D.stays-complete documentLimits (tablesOf image) (left, right) b c s h (a .ran) e, rw (a .long) at w))
 
   -- A short run that is refused by 12 or 13 makes a long one refused by the same number, where no work buffer is too short.
-  stays : (k : ℕ) (r₂ : Answer) → fit₂ ≡ true → (Taken fit₂ image left right × (runOf (tablesOf image) (left, right) c ≡ refused k) → r₂ ≡ Refused k)
-      → Taken fit image left right × (runOf (tablesOf image) (left, right) b ≡ refused k) → r₂ ≡ Refused k
-  stays k r₂ f g (T, e) = g (record { fits = f; sound = T .sound; asked = T .asked }, D.stays-refused (tablesOf image) (left, right) b c k h e)
+  stays : (k : ℕ) (r₂ : Answer) → fit₂ ≡ true → (Taken fit₂ image left right × (runOf documentLimits (tablesOf image) (left, right) c ≡ refused k) → r₂ ≡ Refused k)
+      → Taken fit image left right × (runOf documentLimits (tablesOf image) (left, right) b ≡ refused k) → r₂ ≡ Refused k
+  stays k r₂ f g (T, e) = g (record { fits = f; sound = T .sound; asked = T .asked }, D.stays-refused documentLimits (tablesOf image) (left, right) b c k h e)
 
   pub stays-refused-12 : Merges image left right b fit out out′ (Refused 12) → (r₂ : Answer) → Merges image left right c fit₂ out₂ out₂′ r₂ → fit₂ ≡ true → r₂ ≡ Refused 12
   stays-refused-12 m r₂ m₂ f = stays 12 r₂ f (refused-12 image left right c fit₂ out₂ out₂′ r₂ m₂ .1) (refused-12 image left right b fit out out′ (Refused 12) m .0 refl)

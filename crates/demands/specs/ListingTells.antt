@@ -17,8 +17,8 @@ use Rattle.spec.specs.Meaning.{In, here, there, Term, lit, node, variants, run,
 use Rattle.lgg.specs.Lists.{in-cons, in-nil}
 use Rattle.lgg.specs.Pool.{Formed, operation, literal, marked, PoolValid, numbered, getD-last, tree-operation, tree-literal}
 use Rattle.lgg.specs.PoolTrees.{tree-is}
-use Rattle.listing.specs.WalkLaws.{visit-fresh, visit-new, subterms-closed}
-use Rattle.listing.specs.NumberLaws.{at-in}
+use Rattle.numbering.specs.WalkLaws.{visit-fresh, visit-new, subterms-closed}
+use Rattle.numbering.specs.NumberLaws.{at-in}
 use Rattle.au.specs.declared.Answer.the-variants.{Listing}
 use Rattle.au.specs.Merges.{Merges}
 use Rattle.demands.specs.Calls.{accepted}

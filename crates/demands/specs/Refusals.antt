@@ -10,7 +10,7 @@ use borrow.Author.Tests.{le-leb, lt-leb}
 use Rattle.spec.specs.Bytes.{Res, ok, refused, workAfter}
 use Rattle.spec.specs.Image.{tablesOf}
 use Rattle.spec.specs.Graph.{PAIRS}
-use Rattle.spec.specs.Run.{Outcome, runOf}
+use Rattle.spec.specs.Run.{documentLimits, Outcome, runOf}
 use Rattle.spec.specs.Listing.{listingOf}
 use Rattle.spec.specs.Merge.{mergeOf, outputAfter}
 use Rattle.spec.specs.Meaning.{HoldsDoubled}
@@ -30,7 +30,7 @@ use Rattle.demands.specs.Calls.{Asked, Sound, Taken, Way, short, unsound
 
 module _ (image : List ℕ) (left right budget : ℕ) (fit : Bool) (out out′ : List ℕ) (r : Answer) (m : Merges image left right budget fit out out′ r) where
   abbrev R : Res Outcome
-  R = runOf (tablesOf image) (left, right) budget
+  R = runOf documentLimits (tablesOf image) (left, right) budget
 
   abbrev M : Res (List ℕ)
   M = mergeOf fit image left right budget (length out)
@@ -42,7 +42,7 @@ module _ (image : List ℕ) (left right budget : ℕ) (fit : Bool) (out out′ :
   run-number : (k : ℕ) → R ≡ refused k → (12 ≤ k) × (k ≤ 13)
   run-number k e =
       let (n, c, _) = D.pair-count (tablesOf image) (left, right) in
-      elim (D.refused-by (tablesOf image) (left, right) n c budget k e) [ inl x ↦ let z = x .0 in (omega arith, omega arith) | inr x ↦ (omega arith, omega arith) ]
+      elim (D.refused-by documentLimits (tablesOf image) (left, right) n c budget k e) [ inl x ↦ let z = x .0 in (omega arith, omega arith) | inr x ↦ (omega arith, omega arith) ]
 
   -- ---- 1: "a work buffer below its constant length"
   pub refused-1 : (r ≡ Refused 1) ↔ (fit ≡ false)
@@ -134,13 +134,13 @@ module _ (image : List ℕ) (left right budget : ℕ) (fit : Bool) (out out′ :
 
   -- .. only where the queried pair has more than 4,096 pairs
   pub refused-12-only-beyond : r ≡ Refused 12 → (n : ℕ) → PairCount (tablesOf image) (left, right) n → PAIRS < n
-  refused-12-only-beyond e n c = elim (D.refused-by (tablesOf image) (left, right) n c budget 12 (refused-12 .0 e .1)) [ inl x ↦ x .1 | inr x ↦ absurd (omega arith) ]
+  refused-12-only-beyond e n c = elim (D.refused-by documentLimits (tablesOf image) (left, right) n c budget 12 (refused-12 .0 e .1)) [ inl x ↦ x .1 | inr x ↦ absurd (omega arith) ]
 
   -- .. and where it has, with 4,096 checks or more
   pub refused-12-beyond : Taken fit image left right → (n : ℕ) → PairCount (tablesOf image) (left, right) n → PAIRS < n → PAIRS ≤ budget → r ≡ Refused 12
   refused-12-beyond T n c h b =
       let (root, e) = root-starts (tablesOf image) (A.valid image (tablesOf image) (read-of image (T .sound))) (left, right) (T .asked) in
-      refused-12 .1 (T, D.refused-beyond (tablesOf image) (left, right) n c h budget root b e)
+      refused-12 .1 (T, D.refused-beyond documentLimits (tablesOf image) (left, right) n c h budget root b e)
 
   -- 13: "a term beyond 16,384 or a run beyond 65,536 would be entered"; which terms these are, and where it is not returned: Terms13
   pub refused-13 : (r ≡ Refused 13) ↔ (Taken fit image left right × (R ≡ refused 13))
@@ -219,4 +219,4 @@ pub all-cleared : (image : List ℕ) (left right budget : ℕ) (fit : Bool) (out
     → (table table′ : List Pair) → Table fit table table′ → {a a′ b b′ c c′ d d′ e e′ f f′ : List ℕ} → Cleared fit a a′ b b′ c c′ d d′ e e′ f f′
     → (table′ ≡ replicate (length table) none) × (a′ ≡ replicate (length a) 0) × (b′ ≡ replicate (length b) 0) × (c′ ≡ replicate (length c) 0) × (d′ ≡ replicate (length d) 0) × (e′ ≡ replicate (length e) 0) × (f′ ≡ replicate (length f) 0)
 all-cleared image left right budget fit out out′ r m n table table′ z {a} {a′} {b} {b′} {c} {c′} {d} {d′} {e} {e′} {f} {f′} k =
-    (work-cleared image left right budget fit out out′ r m none table table′ z n, work-cleared image left right budget fit out out′ r m 0 a a′ (k .lefts) n, work-cleared image left right budget fit out out′ r m 0 b b′ (k .rights) n, work-cleared image left right budget fit out out′ r m 0 c c′ (k .index) n, work-cleared image left right budget fit out out′ r m 0 d d′ (k .pairs) n, work-cleared image left right budget fit out out′ r m 0 e e′ (k .terms) n, work-cleared image left right budget fit out out′ r m 0 f f′ (k .runs) n)
+    (work-cleared image left right budget fit out out′ r m none table table′ z n, work-cleared image left right budget fit out out′ r m 0 a a′ (k .graph) n, work-cleared image left right budget fit out out′ r m 0 b b′ (k .pairs) n, work-cleared image left right budget fit out out′ r m 0 c c′ (k .work) n, work-cleared image left right budget fit out out′ r m 0 d d′ (k .flow) n, work-cleared image left right budget fit out out′ r m 0 e e′ (k .terms) n, work-cleared image left right budget fit out out′ r m 0 f f′ (k .runs) n)

@@ -1,10 +1,10 @@
 -- `begin`, from what emptying the pool, the root's starting term and building say.
 use mathlib.Core.Path.{_≡_, refl, sym, ap, ap₂, _∙_}
 use mathlib.Core.List.{List, []}
-use Prim.Native.Nat.{ℕ, _*_, _≤_}
+use Prim.Native.Nat.{ℕ, _≤_}
 use native.Mathlib.Omega.{arith}
 use lib.ListN.{length, replicate}
-use Rattle.spec.specs.Bytes.{Two, Res, ok, refused, Checked, passed, cutShort}
+use Rattle.spec.specs.Bytes.{Two, Limits, Res, ok, refused, Checked, passed, cutShort}
 use Rattle.spec.specs.Image.{Tables}
 use Rattle.spec.specs.Graph.{build}
 use Rattle.spec.specs.Pool.{Pool, Interned, startingTerm}
@@ -13,7 +13,7 @@ use Rattle.lgg.specs.Refusals.{start-only}
 use Rattle.lgg.specs.Graph.{build-refused}
 use Rattle.budget.specs.Budget.{budgetOf}
 use Rattle.budget.specs.declared.Budget.{Budget}
-use Rattle.terms.specs.Buffers.{poolOf}
+use Rattle.terms.specs.Buffers.{LEAST, poolOf}
 use Rattle.terms.specs.Emptying.{emptied, emptied-pool, emptied-length}
 use Rattle.best_terms.specs.Building.{full-told, term-told}
 use Rattle.best_terms.specs.Starting.{Starts}
@@ -41,53 +41,47 @@ built-all a (ok (passed ps c)) n b e = let x : n ≡ length ps = cc in let y : b
 built-all a (ok cutShort) n b e = absurd (let z : _≡_ {A = ℕ} 0 1 = cc in omega arith)
 built-all a (refused k) n b e = absurd (let z : _≡_ {A = ℕ} 0 1 = cc in omega arith)
 
-module _ (t : Tables) (p : Two) (budget : ℕ) (ls rs ix ts us best ts′ us′ best′ : List ℕ) (wide : 256 * length (t .classes) ≤ length ix) where
+module _ (lim : Limits) (t : Tables) (p : Two) (budget w : ℕ) (graph ts us best ts′ us′ best′ : List ℕ) (long : LEAST ≤ length ts) where
   -- the pool was empty
-  from-none : startingTerm t (poolOf (emptied ts) us) p ≡ startingTerm t [] p
-  from-none = ap (λ (z : Pool). startingTerm t z p) (emptied-pool ts us)
+  from-none : startingTerm lim t (poolOf (emptied ts) us) p ≡ startingTerm lim t [] p
+  from-none = ap (λ (z : Pool). startingTerm lim t z p) (emptied-pool ts us)
 
-  pub begin-refused : Starts t p (emptied ts) us best ts′ us′ best′ E.Full → Begins t p budget ls rs ix ts us ls rs ix ts′ us′ (B.Stopped 13)
+  pub begin-refused : Starts lim t p (emptied ts) us best ts′ us′ best′ E.Full → Begins lim t p budget w graph ts us graph ts′ us′ (B.Stopped 13)
   begin-refused X =
-      let (n, e) = full-told (startingTerm t (poolOf (emptied ts) us) p) (X .answer) in
-      let f : startingTerm t [] p ≡ refused n = sym from-none ∙ e in
-      let k : n ≡ 13 = start-only t [] p n f in
+      let (n, e) = full-told (startingTerm lim t (poolOf (emptied ts) us) p) (X .answer) in
+      let f : startingTerm lim t [] p ≡ refused n = sym from-none ∙ e in
+      let k : n ≡ 13 = start-only lim t [] p n f in
       let c = X .cleared n e in
       record {
         answer = rw (f, k) refl;
-        lefts = rw f refl;
-        rights = rw f refl;
-        index = rw f refl;
-        wide = wide;
+        graph = rw f refl;
         grows = λ a z. absurd (refused-ok (sym f ∙ z));
-        cleared = λ m z. (c .0 ∙ ap {B = List ℕ} (λ (i : ℕ). replicate i 0) (emptied-length ts us), c .1);
+        cleared = λ m z. (c .0 ∙ ap {B = List ℕ} (λ (i : ℕ). replicate i 0) (emptied-length ts us long), c .1);
       }
 
-  module _ (x : ℕ) (X : Starts t p (emptied ts) us best ts′ us′ best′ (E.Term x)) (ls′ rs′ ix′ : List ℕ) (long : length ix′ ≡ length ix) where
-    begun : (r : Begun) (b : Built) → Builds (build t p budget) ls rs ix ls′ rs′ ix′ b → ((a : Interned) → a .term ≡ x → r ≡ begunOf (ok a) (build t p budget)) → Begins t p budget ls rs ix ts us ls′ rs′ ix′ ts′ us′ r
+  module _ (x : ℕ) (X : Starts lim t p (emptied ts) us best ts′ us′ best′ (E.Term x)) (graph′ : List ℕ) where
+    begun : (r : Begun) (b : Built) → Builds w (build lim t p budget) graph graph′ b → ((a : Interned) → a .term ≡ x → r ≡ begunOf (ok a) (build lim t p budget)) → Begins lim t p budget w graph ts us graph′ ts′ us′ r
     begun r b Y z =
-        let (a, e, f) = term-told (startingTerm t (poolOf (emptied ts) us) p) x (X .answer) in
-        let s : startingTerm t [] p ≡ ok a = sym from-none ∙ e in
+        let (a, e, f) = term-told (startingTerm lim t (poolOf (emptied ts) us) p) x (X .answer) in
+        let s : startingTerm lim t [] p ≡ ok a = sym from-none ∙ e in
         record {
-          answer = z a f ∙ ap (λ (y : Res Interned). begunOf y (build t p budget)) (sym s);
-          lefts = rw s (Y .lefts);
-          rights = rw s (Y .rights);
-          index = rw s (Y .index);
-          wide = omega (arith, wide, long);
+          answer = z a f ∙ ap (λ (y : Res Interned). begunOf y (build lim t p budget)) (sym s);
+          graph = rw s (Y .graph);
           grows = λ d q. X .grows d (from-none ∙ q);
           cleared = λ n q. absurd (refused-ok (sym q ∙ s));
         }
 
-    pub begin-full : Builds (build t p budget) ls rs ix ls′ rs′ ix′ G.Full → Begins t p budget ls rs ix ts us ls′ rs′ ix′ ts′ us′ (B.Stopped 12)
+    pub begin-full : Builds w (build lim t p budget) graph graph′ G.Full → Begins lim t p budget w graph ts us graph′ ts′ us′ (B.Stopped 12)
     begin-full Y = begun (B.Stopped 12) G.Full Y (λ a f. full a)
       where
-        full : (a : Interned) → B.Stopped 12 ≡ begunOf (ok a) (build t p budget)
+        full : (a : Interned) → B.Stopped 12 ≡ begunOf (ok a) (build lim t p budget)
         full a =
-            let (n, q) = built-full (build t p budget) (Y .answer) in
-            let k : n ≡ 12 = build-refused t p budget n q .0 in
+            let (n, q) = built-full (build lim t p budget) (Y .answer) in
+            let k : n ≡ 12 = build-refused lim t p budget n q .0 in
             rw (q, k) refl
 
-    pub begin-cut : Builds (build t p budget) ls rs ix ls′ rs′ ix′ G.Cut → Begins t p budget ls rs ix ts us ls′ rs′ ix′ ts′ us′ (B.Cut x)
-    begin-cut Y = begun (B.Cut x) G.Cut Y (λ a f. ap (λ (y : ℕ). B.Cut y) (sym f) ∙ built-cut a (build t p budget) (Y .answer))
+    pub begin-cut : Builds w (build lim t p budget) graph graph′ G.Cut → Begins lim t p budget w graph ts us graph′ ts′ us′ (B.Cut x)
+    begin-cut Y = begun (B.Cut x) G.Cut Y (λ a f. ap (λ (y : ℕ). B.Cut y) (sym f) ∙ built-cut a (build lim t p budget) (Y .answer))
 
-    pub begin-all : (n : ℕ) (b : Budget) → Builds (build t p budget) ls rs ix ls′ rs′ ix′ (G.All n b) → Begins t p budget ls rs ix ts us ls′ rs′ ix′ ts′ us′ (B.All x n b)
-    begin-all n b Y = begun (B.All x n b) (G.All n b) Y (λ a f. ap (λ (y : ℕ). B.All y n b) (sym f) ∙ built-all a (build t p budget) n b (Y .answer))
+    pub begin-all : (n : ℕ) (b : Budget) → Builds w (build lim t p budget) graph graph′ (G.All n b) → Begins lim t p budget w graph ts us graph′ ts′ us′ (B.All x n b)
+    begin-all n b Y = begun (B.All x n b) (G.All n b) Y (λ a f. ap (λ (y : ℕ). B.All y n b) (sym f) ∙ built-all a (build lim t p budget) n b (Y .answer))

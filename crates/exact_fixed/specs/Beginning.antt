@@ -1,26 +1,21 @@
 -- The run up to its graph: "The root's starting term is entered before building".
 use mathlib.Core.Path.{_≡_}
 use mathlib.Core.List.{List, []}
-use Prim.Native.Nat.{ℕ, _*_, _≤_}
+use Prim.Native.Nat.{ℕ, _+_, _*_, _≤_}
 use lib.ListN.{length, replicate}
-use Rattle.spec.specs.Bytes.{Two, Res, ok, refused, Checked, passed, cutShort}
+use Rattle.spec.specs.Bytes.{Two, Limits, Res, ok, refused, Checked, passed, cutShort}
 use Rattle.spec.specs.Image.{Tables}
 use Rattle.spec.specs.Graph.{build}
 use Rattle.spec.specs.Pool.{Interned, startingTerm}
-use Rattle.spec.specs.Run.{runOf}
-use Rattle.spec.specs.Merge.{outputAfter}
 use Rattle.budget.specs.Budget.{budgetOf}
+use Rattle.arrays.specs.Arrays.{Scratch}
 use Rattle.terms.specs.Buffers.{poolOf}
-use Rattle.terms.specs.Chains.{Holds}
+use Rattle.terms.specs.Chains.{Holds, Rooms}
 use Rattle.terms.specs.Emptying.{emptied}
 use Rattle.terms.specs.Growing.{Grows}
-use Rattle.graph.specs.Building.{leftsAfter, rightsAfter, indexAfter}
-use Rattle.exact_fixed.specs.Shorts.{ShortFinish}
-use Rattle.exact_fixed.specs.Answers.{listedOf, answerOf}
+use Rattle.graph.specs.Building.{graphAfter}
 use Rattle.exact_fixed.specs.declared.Begun.{Begun}
 use Rattle.exact_fixed.specs.declared.Begun.the-variants as B
-use Rattle.exact_fixed.specs.declared.Answer.{Answer}
-use Rattle.exact_fixed.specs.declared.Answer.the-variants as A
 
 -- a refusal, 13 or 12; cut short in building, with the root's starting term; the root's starting term, the number of pairs, the budget left
 abbrev pub begunOf : Res Interned → Res (Checked (List Two)) → Begun
@@ -34,46 +29,25 @@ abbrev pub ifRooted : Res Interned → List ℕ → List ℕ → List ℕ
 ifRooted (ok a) built was = built
 ifRooted (refused n) built was = was
 
--- what `begin` answers and leaves
-pub record Begins (t : Tables) (p : Two) (budget : ℕ) (ls rs ix ts us ls′ rs′ ix′ ts′ us′ : List ℕ) (r : Begun) : Type 0 where
-  pub answer : r ≡ begunOf (startingTerm t [] p) (build t p budget)
-  pub lefts : ls′ ≡ ifRooted (startingTerm t [] p) (leftsAfter (build t p budget) ls) ls
-  pub rights : rs′ ≡ ifRooted (startingTerm t [] p) (rightsAfter (build t p budget) rs) rs
-  pub index : ix′ ≡ ifRooted (startingTerm t [] p) (indexAfter (build t p budget) ix) ix
-  pub wide : 256 * length (t .classes) ≤ length ix′
+-- what `begin` answers and leaves, of an image of w classes
+pub record Begins (lim : Limits) (t : Tables) (p : Two) (budget w : ℕ) (graph₀ terms₀ runs₀ graph′ terms′ runs′ : List ℕ) (r : Begun) : Type 0 where
+  pub answer : r ≡ begunOf (startingTerm lim t [] p) (build lim t p budget)
+  pub graph : graph′ ≡ ifRooted (startingTerm lim t [] p) (graphAfter w (build lim t p budget) graph₀) graph₀
   -- terms and runs hold the root's pool over the emptied buffer
-  pub grows : (a : Interned) → startingTerm t [] p ≡ ok a → Grows (emptied ts) us ts′ us′ (a .pool)
-  pub cleared : (n : ℕ) → startingTerm t [] p ≡ refused n → (ts′ ≡ replicate (length ts) 0) × (us′ ≡ replicate (length us) 0)
+  pub grows : (a : Interned) → startingTerm lim t [] p ≡ ok a → Grows (emptied terms₀) runs₀ terms′ runs′ (a .pool)
+  pub cleared : (n : ℕ) → startingTerm lim t [] p ≡ refused n → (terms′ ≡ replicate (length terms₀) 0) × (runs′ ≡ replicate (length runs₀) 0)
+
+-- buffers with room for a run within the limits, over an image of w classes
+pub record Lengths (lim : Limits) (w : ℕ) (graph pairs work flow terms runs : List ℕ) : Type 0 where
+  pub wide : w * w + lim .pairs ≤ length graph
+  pub marks : 2 * lim .terms ≤ length graph
+  pub numbers : 6 * lim .pairs ≤ length pairs
+  pub scratch : Scratch lim work flow
+  pub rooms : Rooms lim terms runs
 
 -- what `finish` asks: b is what `begin` answered, and the arrays are as it left them
-pub record Ready (t : Tables) (p : Two) (budget : ℕ) (b : Begun) (ls rs ix ts us : List ℕ) : Type 0 where
-  pub answer : b ≡ begunOf (startingTerm t [] p) (build t p budget)
-  pub lefts : (a : Interned) → startingTerm t [] p ≡ ok a → ls ≡ leftsAfter (build t p budget) ls
-  pub rights : (a : Interned) → startingTerm t [] p ≡ ok a → rs ≡ rightsAfter (build t p budget) rs
-  pub index : (a : Interned) → startingTerm t [] p ≡ ok a → ix ≡ indexAfter (build t p budget) ix
-  pub wide : 256 * length (t .classes) ≤ length ix
-  pub holds : (a : Interned) → startingTerm t [] p ≡ ok a → Holds ts us
-  pub pool : (a : Interned) → startingTerm t [] p ≡ ok a → poolOf ts us ≡ a .pool
-
--- what `finish` answers and leaves: the listing of the run, and every work buffer cleared
-pub record Finishes (t : Tables) (p : Two) (budget : ℕ) (ls rs ix ps ts us out ls′ rs′ ix′ ps′ ts′ us′ out′ : List ℕ) (r : Answer) : Type 0 where
-  pub answer : answerOf out′ r ≡ listedOf (runOf t p budget) (length out)
-  pub output : out′ ≡ outputAfter out (listedOf (runOf t p budget) (length out))
-  pub fits : (n : ℕ) → r ≡ A.Listing n → n ≤ length out
-  pub lefts : ls′ ≡ replicate (length ls) 0
-  pub rights : rs′ ≡ replicate (length rs) 0
-  pub index : ix′ ≡ replicate (length ix) 0
-  pub pairs : ps′ ≡ replicate (length ps) 0
-  pub terms : ts′ ≡ replicate (length ts) 0
-  pub runs : us′ ≡ replicate (length us) 0
-
--- what `Short` of `finish` says and leaves: the output as it was, and every work buffer cleared
-pub record EndsShort (room : ℕ) (ls rs ix ps ts us out ls′ rs′ ix′ ps′ ts′ us′ out′ : List ℕ) : Type 0 where
-  pub short : ShortFinish room ix ts us
-  pub output : out′ ≡ out
-  pub lefts : ls′ ≡ replicate (length ls) 0
-  pub rights : rs′ ≡ replicate (length rs) 0
-  pub index : ix′ ≡ replicate (length ix) 0
-  pub pairs : ps′ ≡ replicate (length ps) 0
-  pub terms : ts′ ≡ replicate (length ts) 0
-  pub runs : us′ ≡ replicate (length us) 0
+pub record Ready (lim : Limits) (t : Tables) (p : Two) (budget w : ℕ) (b : Begun) (graph terms runs : List ℕ) : Type 0 where
+  pub answer : b ≡ begunOf (startingTerm lim t [] p) (build lim t p budget)
+  pub built : (a : Interned) → startingTerm lim t [] p ≡ ok a → graph ≡ graphAfter w (build lim t p budget) graph
+  pub holds : (a : Interned) → startingTerm lim t [] p ≡ ok a → Holds terms runs
+  pub pool : (a : Interned) → startingTerm lim t [] p ≡ ok a → poolOf terms runs ≡ a .pool

@@ -1,12 +1,8 @@
-pub mod Shorts
 pub mod StartSizes
 pub mod Starting
-pub mod Answers
-pub mod AnswerLaws
 pub mod RunLaws
 pub mod Beginning
 pub mod GraphLaws
 pub mod BeginLaws
 pub mod FinishLaws
 pub mod ReadyLaws
-pub mod MergeLaws

@@ -2,10 +2,10 @@
 use mathlib.Core.Path.{_≡_, sym, ap, _∙_}
 use mathlib.Core.Bool.{false}
 use mathlib.Core.List.{List}
-use Prim.Native.Nat.{ℕ, _<_}
+use Prim.Native.Nat.{ℕ, _*_, _≤_, _<_}
 use native.Mathlib.Omega.{arith}
 use lib.ListN.{length}
-use Rattle.spec.specs.Bytes.{Two, Res, ok, refused, _>>=_, Checked, passed, cutShort}
+use Rattle.spec.specs.Bytes.{Two, Limits, Res, ok, refused, _>>=_, Checked, passed, cutShort}
 use Rattle.spec.specs.Image.{Tables}
 use Rattle.spec.specs.Pool.{Pool, Interned, interned}
 use Rattle.spec.specs.Round.{startingQuality, Terms}
@@ -16,92 +16,92 @@ use Rattle.lgg.specs.PoolIntern.{Extends, extends-within}
 use Rattle.lgg.specs.Pool.{PoolValid}
 use Rattle.lgg.specs.RoundsFrom.{roundsOf}
 use Rattle.lgg.specs.Standing.{Standing, startState, standing-started, listing-started}
-use Rattle.terms.specs.Buffers.{poolOf}
+use Rattle.arrays.specs.Arrays.{termsIn}
+use Rattle.terms.specs.Buffers.{poolOf, countIn}
 use Rattle.terms.specs.PoolLaws.{pool-length}
 use Rattle.terms.specs.Chains.{Holds}
-use Rattle.rounds.specs.Arrays.{termsIn, stateIn}
-use Rattle.rounds.specs.Graphs.{InRange}
-use Rattle.exact_fixed.specs.Shorts.{ShortPool}
-use Rattle.exact_fixed.specs.Starting.{Starting, StartsAll, start-done, start-qualities}
+use Rattle.outcome.specs.Answers.{Answers}
+use Rattle.outcome.specs.Outcomes.{RanTo}
+use Rattle.outcome.specs.declared.Outcome.{Outcome}
+use Rattle.outcome.specs.declared.Ran.the-variants as R
+use Rattle.outcome.specs.declared.Answer.{Answer}
+use Rattle.rounds.specs.Graphs.{InRange, stateIn}
 use Rattle.budget.specs.declared.Budget.{Budget}
+use Rattle.exact_fixed.specs.Starting.{Starting, CutStarting, StartsAll, start-done, start-qualities}
 use Rattle.exact_fixed.specs.declared.Started.{Started}
 use Rattle.exact_fixed.specs.declared.Started.the-variants as S
-use Rattle.rounds.specs.Outcomes.{RanTo}
-use Rattle.rounds.specs.declared.Outcome.{Outcome}
-use Rattle.rounds.specs.declared.Ran.{Ran}
-use Rattle.rounds.specs.declared.Ran.the-variants as R
 
 -- what is reported of a run that is cut short before its rounds
 abbrev pub startedIn : Tables → Two → ℕ → ℕ → Outcome
 startedIn t p n root = record { complete = false; pairs = n; rounds = 0; size = startingQuality t p .0; mass = startingQuality t p .1; root = root }
 
+-- .. by the classes as the code reads them, and their qualities
+pub started-as : (t : Tables) (n root l r left right : ℕ) → l ≡ left → r ≡ right → (size mass : ℕ) → size ≡ startingQuality t (l, r) .0 → mass ≡ startingQuality t (l, r) .1
+    → record { complete = false; pairs = n; rounds = 0; size = size; mass = mass; root = root } ≡ startedIn t (left, right) n root
+started-as t n root l r left right e f size mass g h = rw (← e, ← f) (λ i. record { complete = false; pairs = n; rounds = 0; size = g i; mass = h i; root = root })
+
 -- a pool that holds the root's starting term gives the listing
-pub ran-started : (room : ℕ) (t : Tables) (p : Two) (m : Res run.Outcome) (root : Interned) (n : ℕ) (terms runs : List ℕ) → m ≡ ok (run.started t p root n) → PoolValid (root .pool) → root .term < length (root .pool) → Holds terms runs → Extends (root .pool) (poolOf terms runs)
-    → RanTo room m terms runs (R.Done (startedIn t p n (root .term)))
-ran-started room t p m root n terms runs e v w h g = (
+pub ran-started : (t : Tables) (p : Two) (m : Res run.Outcome) (root : Interned) (n : ℕ) (marks terms runs : List ℕ) → m ≡ ok (run.started t p root n) → PoolValid (root .pool) → root .term < length (root .pool) → Holds terms runs → Extends (root .pool) (poolOf terms runs)
+    → 2 * countIn terms ≤ length marks → RanTo m marks terms runs (R.Done (startedIn t p n (root .term)))
+ran-started t p m root n marks terms runs e v w h g k = (
   run.started t p root n,
   e,
   listing-started t p root n (poolOf terms runs) v w (h .valid) g,
   h,
   omega (arith, extends-within g (root .term) w, pool-length terms runs),
+  k,
 )
 
 -- over the pairs ps, with b checks; root is the root's starting term, in the pool `from`
-module _ (room : ℕ) (t : Tables) (p : Two) (ps : List Two) (n : ℕ) (many : length ps ≡ n) (b : ℕ) (from : Pool) (root : ℕ) where
+module _ (lim : Limits) (t : Tables) (p : Two) (ps : List Two) (n : ℕ) (many : length ps ≡ n) (b : ℕ) (from : Pool) (root : ℕ) where
   abbrev whole : Res (Checked Terms)
-  whole = startingTerms t ps b from
+  whole = startingTerms lim t ps b from
 
   abbrev built : Res run.Outcome
-  built = afterBuilding t p (interned from root) (passed ps b)
+  built = afterBuilding lim t p (interned from root) (passed ps b)
 
-  by-starting : (x : Res (Checked Terms)) → whole ≡ x → built ≡ (x >>= afterStarting t p (interned from root) ps)
+  by-starting : (x : Res (Checked Terms)) → whole ≡ x → built ≡ (x >>= afterStarting lim t p (interned from root) ps)
   unfolding afterBuilding
-  by-starting x e = ap (λ (z : Res (Checked Terms)). z >>= afterStarting t p (interned from root) ps) e
+  by-starting x e = ap (λ (z : Res (Checked Terms)). z >>= afterStarting lim t p (interned from root) ps) e
 
-  pub built-refused : (terms runs : List ℕ) → whole ≡ refused 13 → RanTo room built terms runs (R.Stopped 13)
-  built-refused terms runs e = by-starting (refused 13) e
-
-  pub built-cut : (terms runs : List ℕ) → PoolValid from → root < length from → whole ≡ ok cutShort → Holds terms runs → Extends from (poolOf terms runs) → RanTo room built terms runs (R.Done (startedIn t p n root))
+  cut-is : whole ≡ ok cutShort → built ≡ ok (run.started t p (interned from root) (length ps))
   unfolding afterStarting
-  built-cut terms runs v w e h g = rw (← many) (ran-started room t p built (interned from root) (length ps) terms runs (by-starting (ok cutShort) e) v w h g)
+  cut-is e = by-starting (ok cutShort) e
 
-  module _ (pairs terms runs : List ℕ) (c : ℕ) (X : Starting t ps whole from pairs terms runs (length ps) c) where
+  module _ (pairs terms runs : List ℕ) (c : ℕ) (X : Starting lim t ps whole from pairs terms runs (length ps) c) where
     same : startState t ps (record { pool = poolOf terms runs; terms = termsIn pairs 0 (length ps) }) c ≡ stateIn pairs terms runs n 0 c
-    same = rw (← many) (λ i. record { pool = poolOf terms runs; qualities = sym (start-qualities t ps whole from pairs terms runs c X) i; terms = termsIn pairs 0 (length ps); rounds = 0; budget = c })
+    same = rw (← many) (λ i. record { pool = poolOf terms runs; qualities = sym (start-qualities lim t ps whole from pairs terms runs c X) i; terms = termsIn pairs 0 (length ps); rounds = 0; budget = c })
 
-    pub built-stands : Valid t → InRange t ps → Standing t ps (stateIn pairs terms runs n 0 c)
-    built-stands v i = rw (← same) (standing-started t v ps i from (termsIn pairs 0 (length ps)) (poolOf terms runs) c (X .midway))
+    built-stands : Valid t → InRange t ps → Standing t ps (stateIn pairs terms runs n 0 c)
+    built-stands v i = rw (← same) (standing-started lim t v ps i from (termsIn pairs 0 (length ps)) (poolOf terms runs) c (X .midway))
 
-    pub built-rounds : built ≡ roundsOf t ps (stateIn pairs terms runs n 0 c)
+    built-rounds : built ≡ roundsOf lim t ps (stateIn pairs terms runs n 0 c)
     unfolding afterStarting
-    built-rounds = by-starting (ok (passed (record { pool = poolOf terms runs; terms = termsIn pairs 0 (length ps) }) c)) (start-done t ps whole from pairs terms runs c X) ∙ ap (roundsOf t ps) same
+    built-rounds = by-starting (ok (passed (record { pool = poolOf terms runs; terms = termsIn pairs 0 (length ps) }) c)) (start-done lim t ps whole from pairs terms runs c X) ∙ ap (roundsOf lim t ps) same
 
   -- ---- by what the code answers: the starting terms x, the outcome o
-  module _ (pairs terms runs : List ℕ) (x : Started) (Y : StartsAll t ps whole from pairs terms runs x) where
-    pub starts-full : x ≡ S.Full → RanTo room built terms runs (R.Stopped 13)
-    starts-full e = built-refused terms runs (rw e at Y)
+  module _ (pairs terms runs : List ℕ) (x : Started) (Y : StartsAll lim t ps whole from pairs terms runs x) where
+    pub starts-full : (marks : List ℕ) → x ≡ S.Full → RanTo built marks terms runs (R.Stopped 13)
+    starts-full marks e = by-starting (refused 13) (rw e at Y)
 
-    pub starts-short : x ≡ S.Short → RanTo room built terms runs R.Short
-    starts-short e = λ h w. pool e w
+    pub starts-cut : (marks : List ℕ) → 2 * lim .terms ≤ length marks → PoolValid from → root < length from → x ≡ S.Cut → (o : Outcome) → o ≡ startedIn t p n root → RanTo built marks terms runs (R.Done o)
+    starts-cut marks room v w e o q = go (rw e at Y)
       where
-        pool : x ≡ S.Short → ShortPool terms runs
-        pool e = rw e at Y
-
-    pub starts-cut : PoolValid from → root < length from → x ≡ S.Cut → (o : Outcome) → o ≡ startedIn t p n root → RanTo room built terms runs (R.Done o)
-    starts-cut v w e o q = let (y, h, g) = cut e in rw q (built-cut terms runs v w y h g)
-      where
-        cut : x ≡ S.Cut → (whole ≡ ok cutShort) × Holds terms runs × Extends from (poolOf terms runs)
-        cut e = rw e at Y
+        go : CutStarting lim whole from terms runs → RanTo built marks terms runs (R.Done o)
+        go C = rw (q, ← many) (ran-started t p built (interned from root) (length ps) marks terms runs (cut-is (C .is)) v w (C .holds) (C .grown) (omega (arith, C .within)))
 
     module _ (c : Budget) (e : x ≡ S.All c) where
-      begun : Starting t ps whole from pairs terms runs (length ps) (c .left)
+      begun : Starting lim t ps whole from pairs terms runs (length ps) (c .left)
       begun = rw e at Y
 
       pub starts-holds : Holds terms runs
       starts-holds = begun .holds
 
+      pub starts-within : countIn terms ≤ lim .terms
+      starts-within = begun .within
+
       pub starts-stands : Valid t → InRange t ps → Standing t ps (stateIn pairs terms runs n 0 (c .left))
       starts-stands = built-stands pairs terms runs (c .left) begun
 
-      pub starts-rounds : (terms′ runs′ : List ℕ) (z : Ran) → RanTo room (roundsOf t ps (stateIn pairs terms runs n 0 (c .left))) terms′ runs′ z → RanTo room built terms′ runs′ z
-      starts-rounds terms′ runs′ z Z = rw (built-rounds pairs terms runs (c .left) begun) Z
+      pub starts-rounds : (out out′ : List ℕ) (r : Answer) → Answers (roundsOf lim t ps (stateIn pairs terms runs n 0 (c .left))) out out′ r → Answers built out out′ r
+      starts-rounds out out′ r Z = rw (built-rounds pairs terms runs (c .left) begun) Z

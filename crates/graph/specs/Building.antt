@@ -1,24 +1,22 @@
--- "Graph. Built in full, it holds the queried pair and, with each pair, every pair of classes that an action of it joins": what `build` leaves in its three buffers.
+-- "Graph. Built in full, it holds the queried pair and, with each pair, every pair of classes that an action of it joins": what `build` leaves in its array.
 use mathlib.Core.Path.{_≡_}
-use mathlib.Core.List.{List, [], _∷_, _++_, map}
+use mathlib.Core.List.{List, [], _∷_}
 use Prim.Native.Nat.{ℕ, suc, _+_, _*_}
-use lib.ListN.{length, drop, set, replicate}
+use lib.ListN.{length, set, replicate}
 use Rattle.spec.specs.Bytes.{Two, Res, ok, refused, Checked, passed, cutShort}
+use Rattle.arrays.specs.Arrays.{placeOf, keyOf}
 use Rattle.budget.specs.Budget.{budgetOf}
 use Rattle.graph.specs.declared.Built.{Built}
 use Rattle.graph.specs.declared.Built.the-variants.{All, Cut, Full}
 
--- each pair's number at left * 256 + right
-abbrev pub code : Two → ℕ
-code p = p .0 * 256 + p .1
+-- pair k among w classes: its number in the index, and its key behind it
+abbrev pub withPair : ℕ → ℕ → Two → List ℕ → List ℕ
+withPair w k p graph = set (set graph (placeOf w p) k) (w * w + k) (keyOf p)
 
-unfoldable pub numbered : ℕ → List Two → List ℕ → List ℕ
-numbered k [] index = index
-numbered k (p ∷ ps) index = numbered (suc k) ps (set index (code p) k)
-
--- a buffer that begins with l; what stands behind is as it was
-abbrev pub over : List ℕ → List ℕ → List ℕ
-over l list = l ++ drop (length l) list
+-- pairs from number k on
+unfoldable pub entered : ℕ → ℕ → List Two → List ℕ → List ℕ
+entered w k [] graph = graph
+entered w k (p ∷ ps) graph = entered w (suc k) ps (withPair w k p graph)
 
 abbrev pub cleared : List ℕ → List ℕ
 cleared list = replicate (length list) 0
@@ -29,24 +27,12 @@ builtOf (ok (passed ps c)) = All (length ps) (budgetOf c)
 builtOf (ok cutShort) = Cut
 builtOf (refused n) = Full
 
--- the classes of the pairs in their order; cleared unless the graph is built in full
-abbrev pub leftsAfter : Res (Checked (List Two)) → List ℕ → List ℕ
-leftsAfter (ok (passed ps c)) lefts = over (map (λ p. p .0) ps) lefts
-leftsAfter (ok cutShort) lefts = cleared lefts
-leftsAfter (refused n) lefts = cleared lefts
+-- the pairs in their order; cleared unless the graph is built in full
+abbrev pub graphAfter : ℕ → Res (Checked (List Two)) → List ℕ → List ℕ
+graphAfter w (ok (passed ps c)) graph = entered w 0 ps (cleared graph)
+graphAfter w (ok cutShort) graph = cleared graph
+graphAfter w (refused n) graph = cleared graph
 
-abbrev pub rightsAfter : Res (Checked (List Two)) → List ℕ → List ℕ
-rightsAfter (ok (passed ps c)) rights = over (map (λ p. p .1) ps) rights
-rightsAfter (ok cutShort) rights = cleared rights
-rightsAfter (refused n) rights = cleared rights
-
-abbrev pub indexAfter : Res (Checked (List Two)) → List ℕ → List ℕ
-indexAfter (ok (passed ps c)) index = numbered 0 ps (cleared index)
-indexAfter (ok cutShort) index = cleared index
-indexAfter (refused n) index = cleared index
-
-pub record Builds (g : Res (Checked (List Two))) (ls rs ix ls′ rs′ ix′ : List ℕ) (r : Built) : Type 0 where
+pub record Builds (w : ℕ) (g : Res (Checked (List Two))) (before after : List ℕ) (r : Built) : Type 0 where
   pub answer : r ≡ builtOf g
-  pub lefts : ls′ ≡ leftsAfter g ls
-  pub rights : rs′ ≡ rightsAfter g rs
-  pub index : ix′ ≡ indexAfter g ix
+  pub graph : after ≡ graphAfter w g before

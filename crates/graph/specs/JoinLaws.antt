@@ -1,7 +1,7 @@
 -- What is left to be entered at each turn: pairs of an action, actions, columns, rows, transports. Assumes nothing.
-use mathlib.Core.Path.{_≡_, refl, ap, _∙_}
-use mathlib.Core.List.{List, [], _∷_, _++_, map}
-use Prim.Native.Nat.{ℕ, suc, _+_, _*_, _≤_, _<_}
+use mathlib.Core.Path.{_≡_, refl, sym, ap, _∙_}
+use mathlib.Core.List.{List, [], _∷_, _++_, map, append-assoc}
+use Prim.Native.Nat.{ℕ, suc, _+_, _≤_, _<_}
 use native.Mathlib.Numerals.{add-one}
 use native.Mathlib.Omega.{arith}
 use lib.ListN.{length, getD, drop, drop-of-length-le}
@@ -22,19 +22,24 @@ use Rattle.actions.specs.declared.Sought.the-variants as S
 use Rattle.actions.specs.Remaining as R
 use Rattle.actions.specs.Seek.{seekOf}
 use Rattle.actions.specs.SeekLaws.{seek-list}
-use Rattle.ac_repr.specs.Terms.{TERMS, NUMBERS, terms, held}
-use Rattle.ac_repr.specs.TermLaws.{terms-length}
-use Rattle.ac_repr.specs.Pad.{Few}
+use Rattle.monomial.specs.Terms.{TERMS, NUMBERS, terms, held}
+use Rattle.monomial.specs.TermLaws.{terms-length}
+use Rattle.monomial.specs.Pad.{Few}
 use Rattle.ac_repr.specs.Walk.{Within, Stepped, Answered, walks, allWalks, leftOf, afterOf, actionsAt}
 use Rattle.ac_repr.specs.Sides.{action-one, action-none}
 use Rattle.ac_repr.specs.Transports.{actionsLeft, left-first, left-next, left-end}
-use Rattle.ac_repr.specs.declared.Padded.{Padded}
-use Rattle.ac_repr.specs.declared.Padded.the-variants.{Pair, Nothing}
-use Rattle.ac_repr.specs.declared.pairs.Walk.{Walk}
-use Rattle.ac_repr.specs.declared.pairs.Step.{Step}
-use Rattle.ac_repr.specs.declared.pairs.Step.the-variants.{At, End}
+use Rattle.monomial.specs.declared.Padded.{Padded}
+use Rattle.monomial.specs.declared.Padded.the-variants.{Pair, Nothing}
+use Rattle.ac_repr.specs.declared.Walk.{Walk}
+use Rattle.ac_repr.specs.declared.Step.{Step}
+use Rattle.ac_repr.specs.declared.Step.the-variants.{At, End}
 use Rattle.graph.specs.Growing.{Small, AllSmall}
-use Rattle.graph.specs.ListLaws.{each-append}
+
+-- ---- lists, one after the other
+each-append : {A B : Type 0} (f : A → List B) (a b : List A) → each f (a ++ b) ≡ each f a ++ each f b
+unfolding each
+each-append f [] b = refl
+each-append f (x ∷ a) b = rw (each-append f a b) (sym (append-assoc (f x) (each f a) (each f b)))
 
 -- ---- the pairs of an action
 pub pair-next : (ps : List Two) (k x y : ℕ) → k < length ps → x ≡ getD ps k (0, 0) .0 → y ≡ getD ps k (0, 0) .1 → drop k ps ≡ ((x, y) ∷ []) ++ drop (k + 1) ps
@@ -144,19 +149,19 @@ module _ (t : Tables) (l r : ℕ) where
   pub within-here : (x : Step) (w : Walk) → Within t l r x → x ≡ At w → Within t l r (At w)
   within-here x w d q = rw q at d
 
--- ---- all pairs are of classes of the image, so they fit an index of m numbers
-module _ (t : Tables) (v : Valid t) (l r : ℕ) (a : l < length (t .classes)) (b : r < length (t .classes)) (m : ℕ) (wide : 256 * length (t .classes) ≤ m) where
-  pub small-pair : (p : Two) → IsPair t p → Small m p
-  small-pair p (x, y) = (omega (arith, x, wide), omega (arith, x, v .counts .fewClasses), omega (arith, y, v .counts .fewClasses))
+-- ---- all pairs are of classes of the image
+module _ (t : Tables) (v : Valid t) (l r : ℕ) (a : l < length (t .classes)) (b : r < length (t .classes)) (w : ℕ) (many : length (t .classes) ≡ w) where
+  pub small-pair : (p : Two) → IsPair t p → Small w p
+  small-pair p (x, y) = (omega (arith, x, many), omega (arith, y, many))
 
-  pub joins-small : AllSmall m (joins t (l, r))
+  pub joins-small : AllSmall w (joins t (l, r))
   joins-small p i = small-pair p (joins-within t v (l, r) (a, b) p i)
 
-  pub structural-small : AllSmall m (pairsOf (structural t l r))
+  pub structural-small : AllSmall w (pairsOf (structural t l r))
   unfolding joins
   structural-small p i = small-pair p (joins-within t v (l, r) (a, b) p (in-left (cellsOf (transports t l r)) i))
 
-  pub transports-small : AllSmall m (cellsOf (transports t l r))
+  pub transports-small : AllSmall w (cellsOf (transports t l r))
   unfolding joins
   transports-small p i = small-pair p (joins-within t v (l, r) (a, b) p (in-right (pairsOf (structural t l r)) i))
 

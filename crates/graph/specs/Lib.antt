@@ -1,6 +1,6 @@
 pub mod Building
 pub mod Growing
-pub mod ListLaws
+pub mod EnteredLaws
 pub mod GrowLaws
 pub mod JoinLaws
 pub mod TurnLaws

@@ -1,9 +1,9 @@
-// The pair graph over plain arrays: the classes of pair k at k of `lefts` and `rights`, and at l * 256 + r of `index` the number of the pair (l, r).
-// `index` is cleared first, so a pair is known exactly if the pair with its number there is itself.
+// The pair graph in one array over w classes: at l * w + r the number of the pair (l, r); from w * w on, at k, the key of pair k.
+// The array is cleared first, so a pair is known exactly if the pair with its number there has its key.
 ghost use mathlib.Core.Path.{_≡_};
 ghost use mathlib.Core.List.{[], _∷_, map};
 ghost use Prim.Native.Nat.{_+_, _*_, _≤_, _<_};
-ghost use lib.ListN.{length, getD, set, replicate};
+ghost use lib.ListN.{length, replicate};
 ghost use Rattle.spec.specs.Bytes.{any, each, sameTwo};
 ghost use Rattle.spec.specs.Image.{tablesOf};
 ghost use Rattle.spec.specs.Monomial.{classes, pairOf};
@@ -11,18 +11,18 @@ ghost use Rattle.spec.specs.Action.{structural, transports, cellPairs, joins};
 ghost use Rattle.spec.specs.Graph.{enterAll, buildFrom, build};
 ghost use Rattle.laws.specs.Valid.{Valid};
 ghost use Rattle.image.specs.Loaded.{Loaded};
+ghost use Rattle.query.specs.Settings.{limitsOf};
+ghost use Rattle.arrays.specs.Arrays.{pairsIn};
 ghost use Rattle.actions.specs.Remaining.{Stands, actionAt};
-ghost use Rattle.ac_repr.specs.Terms.{TERMS, NUMBERS, held};
+ghost use Rattle.monomial.specs.Terms.{TERMS, NUMBERS, held};
 ghost use Rattle.ac_repr.specs.Walk.{actionsAt};
-ghost use Rattle.graph.specs.Building.{Builds};
-ghost use Rattle.graph.specs.Growing.{pairsIn, Small, AllSmall, AllPairs, Graph, Grows, Ends};
-use ac_repr::Padded;
-use ac_repr::class_at;
-use ac_repr::pairs::Step;
-use ac_repr::pairs::Walk;
-use ac_repr::pairs::first;
-use ac_repr::pairs::monomials;
-use ac_repr::pairs::next;
+ghost use Rattle.graph.specs.Building.{withPair, Builds};
+ghost use Rattle.graph.specs.Growing.{Small, AllSmall, AllPairs, Laid, Graph, Grows, Ends};
+use ac_repr::Step;
+use ac_repr::Walk;
+use ac_repr::first;
+use ac_repr::monomials;
+use ac_repr::next;
 use actions::Sought;
 use actions::State;
 use actions::count;
@@ -30,10 +30,20 @@ use actions::left_class;
 use actions::right_class;
 use actions::seek;
 use actions::start;
+use arrays::key;
+use arrays::keys;
+use arrays::left_at;
+use arrays::place;
+use arrays::right_at;
 use budget::Budget;
+use clearing::clear_u16;
 use image::Image;
-
-pub const PAIRS: usize = 4096;
+use monomial::Padded;
+use monomial::class_at;
+use numbers::at_u16;
+use numbers::put_u16;
+use numbers::size_u64;
+use query::Limits;
 
 // Built in full: how many pairs, and the budget left; cut short; refusal 12.
 pub enum Built {
@@ -48,113 +58,48 @@ enum Grown {
     Full,
 }
 
-// ---- numbers
-fn put2(s: &mut [u16], at: usize, v: usize)
-    requires { ⌜ (at < length (now s)) × (v < 65536) ⌝ }
-    ensures { λ _. ⌜ now (s .exit) ≡ set (now (s .entry)) at v ⌝ }
-{
-    s[at] = v as u16;
-}
-
-fn num(x: u16) -> usize
-    ensures { λ r. ⌜ (r ≡ x) × (r < 65536) ⌝ }
-{
-    x as usize
-}
-
-fn number(s: &[u16], at: usize) -> usize
-    requires { ⌜ at < length (now s) ⌝ }
-    ensures { λ r. ⌜ (r ≡ getD (now (s .entry)) at 0) × (r < 65536) ⌝ }
-{
-    num(s[at])
-}
-
-fn short(x: u64) -> usize
-    ensures { λ r. ⌜ r ≡ x ⌝ }
-{
-    x as usize
-}
-
-// "every number zero"
-fn clear2(s: &mut [u16])
-    ensures { λ _. ⌜ now (s .exit) ≡ replicate (length (now (s .entry))) 0 ⌝ }
-{
-    let mut k = 0;
-    while k < s.len() {
-        s[k] = 0;
-        k += 1;
-    }
-}
-
-fn clear_all(lefts: &mut [u16], rights: &mut [u16], index: &mut [u16])
-    ensures { λ _. ⌜ (now (lefts .exit) ≡ replicate (length (now (lefts .entry))) 0) × (now (rights .exit) ≡ replicate (length (now (rights .entry))) 0) × (now (index .exit) ≡ replicate (length (now (index .entry))) 0) ⌝ }
-{
-    clear2(lefts);
-    clear2(rights);
-    clear2(index);
-}
-
 // ---- one pair
 // The pair (l, r) is one of the n.
-fn known(lefts: &[u16], rights: &[u16], index: &[u16], n: usize, l: usize, r: usize) -> bool
-    requires { ⌜ Graph n (now lefts) (now rights) (now index) × Small (length (now index)) (l, r) ⌝ }
-    ensures { λ x. ⌜ x ≡ any (sameTwo (l, r)) (pairsIn n (now (lefts .entry)) (now (rights .entry))) ⌝ }
+fn known(graph: &[u16], w: usize, n: usize, l: usize, r: usize) -> bool
+    requires { ⌜ Laid w n (now graph) × Small w (l, r) ⌝ }
+    ensures { λ x. ⌜ x ≡ any (sameTwo (l, r)) (pairsIn w (now (graph .entry)) n) ⌝ }
 {
-    let k = number(index, l * 256 + r);
+    let k = at_u16(graph, place(w, l, r));
     if k >= n {
         return false;
     }
-    if number(lefts, k) != l {
-        return false;
-    }
-    number(rights, k) == r
+    at_u16(graph, keys(w) + k) == key(l, r)
 }
 
 // The pair (l, r) as number n.
-fn append(lefts: &mut [u16], rights: &mut [u16], index: &mut [u16], n: usize, l: usize, r: usize)
-    requires { ⌜ (n < 4096) × (4096 ≤ length (now lefts)) × (4096 ≤ length (now rights)) × Small (length (now index)) (l, r) ⌝ }
-    ensures { λ _. ⌜ (now (lefts .exit) ≡ set (now (lefts .entry)) n l) × (now (rights .exit) ≡ set (now (rights .entry)) n r) × (now (index .exit) ≡ set (now (index .entry)) (l * 256 + r) n) ⌝ }
+fn append(graph: &mut [u16], w: usize, n: usize, l: usize, r: usize)
+    requires { ⌜ (w ≤ 256) × (n < 4096) × (w * w + n < length (now graph)) × Small w (l, r) ⌝ }
+    ensures { λ _. ⌜ now (graph .exit) ≡ withPair w n (l, r) (now (graph .entry)) ⌝ }
 {
-    put2(lefts, n, l);
-    put2(rights, n, r);
-    put2(index, l * 256 + r, n);
+    put_u16(graph, place(w, l, r), n);
+    put_u16(graph, keys(w) + n, key(l, r));
 }
 
 // "Its n pairs are counted once each."
-fn enter_pair(
-    lefts: &mut [u16],
-    rights: &mut [u16],
-    index: &mut [u16],
-    n: usize,
-    l: usize,
-    r: usize,
-) -> Grown
-    requires { ⌜ Graph n (now lefts) (now rights) (now index) × Small (length (now index)) (l, r) ⌝ }
-    ensures { λ x. ⌜ Grows (enterAll (pairsIn n (now (lefts .entry)) (now (rights .entry))) ((l, r) ∷ [])) n (now (lefts .entry)) (now (rights .entry)) (now (lefts .exit)) (now (rights .exit)) (now (index .exit)) x ⌝ }
+fn enter_pair(lim: Limits, w: usize, graph: &mut [u16], n: usize, l: usize, r: usize) -> Grown
+    requires { ⌜ Graph (limitsOf lim) w n (now graph) × Small w (l, r) ⌝ }
+    ensures { λ x. ⌜ Grows (limitsOf lim) w (enterAll (limitsOf lim) (pairsIn w (now (graph .entry)) n) ((l, r) ∷ [])) (now (graph .exit)) x ⌝ }
 {
-    if known(lefts, rights, index, n, l, r) {
+    if known(graph, w, n, l, r) {
         return Grown::To(n);
     }
-    if n >= PAIRS {
+    if n >= lim.pairs {
         return Grown::Full;
     }
-    append(lefts, rights, index, n, l, r);
+    append(graph, w, n, l, r);
     Grown::To(n + 1)
 }
 
 // ---- structural actions
 // The pairs that the action at v joins.
-fn enter_action(
-    s: &[u8],
-    im: Image,
-    v: State,
-    lefts: &mut [u16],
-    rights: &mut [u16],
-    index: &mut [u16],
-    n0: usize,
-) -> Grown
-    requires { ⌜ Loaded (now s) im × Valid (tablesOf (now s)) × Stands (tablesOf (now s)) v × Graph n0 (now lefts) (now rights) (now index) × AllSmall (length (now index)) (actionAt (tablesOf (now s)) v .pairs) ⌝ }
-    ensures { λ x. ⌜ Grows (enterAll (pairsIn n0 (now (lefts .entry)) (now (rights .entry))) (actionAt (tablesOf (now (s .entry))) v .pairs)) n0 (now (lefts .entry)) (now (rights .entry)) (now (lefts .exit)) (now (rights .exit)) (now (index .exit)) x ⌝ }
+fn enter_action(lim: Limits, s: &[u8], im: Image, v: State, graph: &mut [u16], n0: usize) -> Grown
+    requires { ⌜ Loaded (now s) im × Valid (tablesOf (now s)) × Stands (tablesOf (now s)) v × Graph (limitsOf lim) (im .classes) n0 (now graph) × AllSmall (im .classes) (actionAt (tablesOf (now s)) v .pairs) ⌝ }
+    ensures { λ x. ⌜ Grows (limitsOf lim) (im .classes) (enterAll (limitsOf lim) (pairsIn (im .classes) (now (graph .entry)) n0) (actionAt (tablesOf (now (s .entry))) v .pairs)) (now (graph .exit)) x ⌝ }
 {
     let many = count(s, im, v);
     let mut n = n0;
@@ -162,7 +107,7 @@ fn enter_action(
     while k < many {
         let l = left_class(s, im, v, k);
         let r = right_class(s, im, v, k);
-        match enter_pair(lefts, rights, index, n, l, r) {
+        match enter_pair(lim, im.classes, graph, n, l, r) {
             Grown::Full => {
                 return Grown::Full;
             }
@@ -177,17 +122,16 @@ fn enter_action(
 
 // The pairs that the structural actions of classes l and r join.
 fn enter_actions(
+    lim: Limits,
     s: &[u8],
     im: Image,
     l: usize,
     r: usize,
-    lefts: &mut [u16],
-    rights: &mut [u16],
-    index: &mut [u16],
+    graph: &mut [u16],
     n0: usize,
 ) -> Grown
-    requires { ⌜ Loaded (now s) im × Valid (tablesOf (now s)) × (l < im .classes) × (r < im .classes) × Graph n0 (now lefts) (now rights) (now index) × (256 * im .classes ≤ length (now index)) ⌝ }
-    ensures { λ x. ⌜ Grows (enterAll (pairsIn n0 (now (lefts .entry)) (now (rights .entry))) (each (λ a. a .pairs) (structural (tablesOf (now (s .entry))) l r))) n0 (now (lefts .entry)) (now (rights .entry)) (now (lefts .exit)) (now (rights .exit)) (now (index .exit)) x ⌝ }
+    requires { ⌜ Loaded (now s) im × Valid (tablesOf (now s)) × (l < im .classes) × (r < im .classes) × Graph (limitsOf lim) (im .classes) n0 (now graph) ⌝ }
+    ensures { λ x. ⌜ Grows (limitsOf lim) (im .classes) (enterAll (limitsOf lim) (pairsIn (im .classes) (now (graph .entry)) n0) (each (λ a. a .pairs) (structural (tablesOf (now (s .entry))) l r))) (now (graph .exit)) x ⌝ }
 {
     let mut n = n0;
     let mut v = start(s, im, l, r);
@@ -197,7 +141,7 @@ fn enter_actions(
                 return Grown::To(n);
             }
             Sought::At(w) => {
-                match enter_action(s, im, w, lefts, rights, index, n) {
+                match enter_action(lim, s, im, w, graph, n) {
                     Grown::Full => {
                         return Grown::Full;
                     }
@@ -214,22 +158,22 @@ fn enter_actions(
 // ---- transports: "each row with each column whatever the plan"
 // Class l with the class of each column.
 fn enter_row(
+    lim: Limits,
+    w: usize,
     l: usize,
     right: &[u64],
     cols: usize,
-    lefts: &mut [u16],
-    rights: &mut [u16],
-    index: &mut [u16],
+    graph: &mut [u16],
     n0: usize,
 ) -> Grown
-    requires { ⌜ (length (now right) ≡ NUMBERS) × (cols ≤ TERMS) × Graph n0 (now lefts) (now rights) (now index) × AllSmall (length (now index)) (map (λ b. (l, b)) (classes (held cols (now right)))) ⌝ }
-    ensures { λ x. ⌜ Grows (enterAll (pairsIn n0 (now (lefts .entry)) (now (rights .entry))) (map (λ b. (l, b)) (classes (held cols (now (right .entry)))))) n0 (now (lefts .entry)) (now (rights .entry)) (now (lefts .exit)) (now (rights .exit)) (now (index .exit)) x ⌝ }
+    requires { ⌜ (length (now right) ≡ NUMBERS) × (cols ≤ TERMS) × Graph (limitsOf lim) w n0 (now graph) × AllSmall w (map (λ b. (l, b)) (classes (held cols (now right)))) ⌝ }
+    ensures { λ x. ⌜ Grows (limitsOf lim) w (enterAll (limitsOf lim) (pairsIn w (now (graph .entry)) n0) (map (λ b. (l, b)) (classes (held cols (now (right .entry)))))) (now (graph .exit)) x ⌝ }
 {
     let mut n = n0;
     let mut j = 0;
     while j < cols {
-        let r = short(class_at(right, j));
-        match enter_pair(lefts, rights, index, n, l, r) {
+        let r = size_u64(class_at(right, j));
+        match enter_pair(lim, w, graph, n, l, r) {
             Grown::Full => {
                 return Grown::Full;
             }
@@ -244,23 +188,23 @@ fn enter_row(
 
 // The class of each row with the class of each column.
 fn enter_cells(
+    lim: Limits,
+    w: usize,
     left: &[u64],
     rows: usize,
     right: &[u64],
     cols: usize,
-    lefts: &mut [u16],
-    rights: &mut [u16],
-    index: &mut [u16],
+    graph: &mut [u16],
     n0: usize,
 ) -> Grown
-    requires { ⌜ (length (now left) ≡ NUMBERS) × (rows ≤ TERMS) × (length (now right) ≡ NUMBERS) × (cols ≤ TERMS) × Graph n0 (now lefts) (now rights) (now index) × AllSmall (length (now index)) (cellPairs (pairOf (held rows (now left)) (held cols (now right)))) ⌝ }
-    ensures { λ x. ⌜ Grows (enterAll (pairsIn n0 (now (lefts .entry)) (now (rights .entry))) (cellPairs (pairOf (held rows (now (left .entry))) (held cols (now (right .entry)))))) n0 (now (lefts .entry)) (now (rights .entry)) (now (lefts .exit)) (now (rights .exit)) (now (index .exit)) x ⌝ }
+    requires { ⌜ (length (now left) ≡ NUMBERS) × (rows ≤ TERMS) × (length (now right) ≡ NUMBERS) × (cols ≤ TERMS) × Graph (limitsOf lim) w n0 (now graph) × AllSmall w (cellPairs (pairOf (held rows (now left)) (held cols (now right)))) ⌝ }
+    ensures { λ x. ⌜ Grows (limitsOf lim) w (enterAll (limitsOf lim) (pairsIn w (now (graph .entry)) n0) (cellPairs (pairOf (held rows (now (left .entry))) (held cols (now (right .entry)))))) (now (graph .exit)) x ⌝ }
 {
     let mut n = n0;
     let mut i = 0;
     while i < rows {
-        let l = short(class_at(left, i));
-        match enter_row(l, right, cols, lefts, rights, index, n) {
+        let l = size_u64(class_at(left, i));
+        match enter_row(lim, w, l, right, cols, graph, n) {
             Grown::Full => {
                 return Grown::Full;
             }
@@ -275,40 +219,47 @@ fn enter_cells(
 
 // The pairs that the transport at w joins, if there is one.
 fn enter_transport(
+    lim: Limits,
     s: &[u8],
     im: Image,
     l: usize,
     r: usize,
     w: Walk,
-    lefts: &mut [u16],
-    rights: &mut [u16],
-    index: &mut [u16],
+    graph: &mut [u16],
     n: usize,
 ) -> Grown
-    requires { ⌜ Loaded (now s) im × Valid (tablesOf (now s)) × (l < im .classes) × (r < im .classes) × (w .op < im .operations) × Graph n (now lefts) (now rights) (now index) × AllSmall (length (now index)) (each (λ a. cellPairs (a .sides)) (actionsAt (tablesOf (now s)) l r w)) ⌝ }
-    ensures { λ x. ⌜ Grows (enterAll (pairsIn n (now (lefts .entry)) (now (rights .entry))) (each (λ a. cellPairs (a .sides)) (actionsAt (tablesOf (now (s .entry))) l r w))) n (now (lefts .entry)) (now (rights .entry)) (now (lefts .exit)) (now (rights .exit)) (now (index .exit)) x ⌝ }
+    requires { ⌜ Loaded (now s) im × Valid (tablesOf (now s)) × (l < im .classes) × (r < im .classes) × (w .op < im .operations) × Graph (limitsOf lim) (im .classes) n (now graph) × AllSmall (im .classes) (each (λ a. cellPairs (a .sides)) (actionsAt (tablesOf (now s)) l r w)) ⌝ }
+    ensures { λ x. ⌜ Grows (limitsOf lim) (im .classes) (enterAll (limitsOf lim) (pairsIn (im .classes) (now (graph .entry)) n) (each (λ a. cellPairs (a .sides)) (actionsAt (tablesOf (now (s .entry))) l r w))) (now (graph .exit)) x ⌝ }
 {
-    let mut left = [0u64; ac_repr::NUMBERS];
-    let mut right = [0u64; ac_repr::NUMBERS];
+    let mut left = [0u64; monomial::NUMBERS];
+    let mut right = [0u64; monomial::NUMBERS];
     match monomials(s, im, l, r, w, &mut left, &mut right) {
         Padded::Nothing => Grown::To(n),
-        Padded::Pair(rows, cols) => enter_cells(&left, rows, &right, cols, lefts, rights, index, n),
+        Padded::Pair(rows, cols) => enter_cells(
+            lim,
+            im.classes,
+            &left,
+            rows,
+            &right,
+            cols,
+            graph,
+            n,
+        ),
     }
 }
 
 // The pairs that the transports of classes l and r join.
 fn enter_transports(
+    lim: Limits,
     s: &[u8],
     im: Image,
     l: usize,
     r: usize,
-    lefts: &mut [u16],
-    rights: &mut [u16],
-    index: &mut [u16],
+    graph: &mut [u16],
     n0: usize,
 ) -> Grown
-    requires { ⌜ Loaded (now s) im × Valid (tablesOf (now s)) × (l < im .classes) × (r < im .classes) × Graph n0 (now lefts) (now rights) (now index) × (256 * im .classes ≤ length (now index)) ⌝ }
-    ensures { λ x. ⌜ Grows (enterAll (pairsIn n0 (now (lefts .entry)) (now (rights .entry))) (each (λ a. cellPairs (a .sides)) (transports (tablesOf (now (s .entry))) l r))) n0 (now (lefts .entry)) (now (rights .entry)) (now (lefts .exit)) (now (rights .exit)) (now (index .exit)) x ⌝ }
+    requires { ⌜ Loaded (now s) im × Valid (tablesOf (now s)) × (l < im .classes) × (r < im .classes) × Graph (limitsOf lim) (im .classes) n0 (now graph) ⌝ }
+    ensures { λ x. ⌜ Grows (limitsOf lim) (im .classes) (enterAll (limitsOf lim) (pairsIn (im .classes) (now (graph .entry)) n0) (each (λ a. cellPairs (a .sides)) (transports (tablesOf (now (s .entry))) l r))) (now (graph .exit)) x ⌝ }
 {
     let mut n = n0;
     let mut x = first(s, im, l, r);
@@ -318,7 +269,7 @@ fn enter_transports(
                 return Grown::To(n);
             }
             Step::At(w) => {
-                match enter_transport(s, im, l, r, w, lefts, rights, index, n) {
+                match enter_transport(lim, s, im, l, r, w, graph, n) {
                     Grown::Full => {
                         return Grown::Full;
                     }
@@ -335,37 +286,36 @@ fn enter_transports(
 // ---- the graph
 // "every pair of classes that an action of it joins"
 fn enter_joins(
+    lim: Limits,
     s: &[u8],
     im: Image,
     l: usize,
     r: usize,
-    lefts: &mut [u16],
-    rights: &mut [u16],
-    index: &mut [u16],
+    graph: &mut [u16],
     n: usize,
 ) -> Grown
-    requires { ⌜ Loaded (now s) im × Valid (tablesOf (now s)) × (l < im .classes) × (r < im .classes) × Graph n (now lefts) (now rights) (now index) × (256 * im .classes ≤ length (now index)) ⌝ }
-    ensures { λ x. ⌜ Grows (enterAll (pairsIn n (now (lefts .entry)) (now (rights .entry))) (joins (tablesOf (now (s .entry))) (l, r))) n (now (lefts .entry)) (now (rights .entry)) (now (lefts .exit)) (now (rights .exit)) (now (index .exit)) x ⌝ }
+    requires { ⌜ Loaded (now s) im × Valid (tablesOf (now s)) × (l < im .classes) × (r < im .classes) × Graph (limitsOf lim) (im .classes) n (now graph) ⌝ }
+    ensures { λ x. ⌜ Grows (limitsOf lim) (im .classes) (enterAll (limitsOf lim) (pairsIn (im .classes) (now (graph .entry)) n) (joins (tablesOf (now (s .entry))) (l, r))) (now (graph .exit)) x ⌝ }
 {
-    match enter_actions(s, im, l, r, lefts, rights, index, n) {
+    match enter_actions(lim, s, im, l, r, graph, n) {
         Grown::Full => Grown::Full,
-        Grown::To(m) => enter_transports(s, im, l, r, lefts, rights, index, m),
+        Grown::To(m) => enter_transports(lim, s, im, l, r, graph, m),
     }
 }
 
-// From the one pair at hand on: "one [check] a pair in building", before its turn.
+// From the n0 pairs at hand on: "one [check] a pair in building", before its turn.
 fn build_from(
+    lim: Limits,
     s: &[u8],
     im: Image,
     budget: Budget,
-    lefts: &mut [u16],
-    rights: &mut [u16],
-    index: &mut [u16],
+    graph: &mut [u16],
+    n0: usize,
 ) -> Built
-    requires { ⌜ Loaded (now s) im × Valid (tablesOf (now s)) × Graph 1 (now lefts) (now rights) (now index) × AllPairs (tablesOf (now s)) (pairsIn 1 (now lefts) (now rights)) × (256 * im .classes ≤ length (now index)) ⌝ }
-    ensures { λ x. ⌜ Ends (buildFrom (budget .left) (tablesOf (now (s .entry))) (pairsIn 1 (now (lefts .entry)) (now (rights .entry))) 0) (now (lefts .entry)) (now (rights .entry)) (now (lefts .exit)) (now (rights .exit)) (now (index .exit)) x ⌝ }
+    requires { ⌜ Loaded (now s) im × Valid (tablesOf (now s)) × Graph (limitsOf lim) (im .classes) n0 (now graph) × AllPairs (tablesOf (now s)) (pairsIn (im .classes) (now graph) n0) ⌝ }
+    ensures { λ x. ⌜ Ends (limitsOf lim) (im .classes) (buildFrom (limitsOf lim) (budget .left) (tablesOf (now (s .entry))) (pairsIn (im .classes) (now (graph .entry)) n0) 0) (now (graph .exit)) x ⌝ }
 {
-    let mut n = 1;
+    let mut n = n0;
     let mut b = budget;
     let mut i = 0;
     while i < n {
@@ -374,9 +324,9 @@ fn build_from(
         if !check.passed {
             return Built::Cut;
         }
-        let l = number(lefts, i);
-        let r = number(rights, i);
-        match enter_joins(s, im, l, r, lefts, rights, index, n) {
+        let l = left_at(graph, im.classes, i);
+        let r = right_at(graph, im.classes, i);
+        match enter_joins(lim, s, im, l, r, graph, n) {
             Grown::Full => {
                 return Built::Full;
             }
@@ -389,31 +339,48 @@ fn build_from(
     Built::All(n, b)
 }
 
-// "Built in full, it holds the queried pair and, with each pair, every pair of classes that an action of it joins."
-// Cut short or refused, the buffers are cleared.
-pub fn build(
+// From the queried pair on, in a cleared array.
+fn build_first(
+    lim: Limits,
     s: &[u8],
     im: Image,
     l: usize,
     r: usize,
     budget: Budget,
-    lefts: &mut [u16],
-    rights: &mut [u16],
-    index: &mut [u16],
+    graph: &mut [u16],
 ) -> Built
-    requires { ⌜ Loaded (now s) im × Valid (tablesOf (now s)) × (l < im .classes) × (r < im .classes) × (4096 ≤ length (now lefts)) × (4096 ≤ length (now rights)) × (256 * im .classes ≤ length (now index)) ⌝ }
-    ensures { λ x. ⌜ Builds (build (tablesOf (now (s .entry))) (l, r) (budget .left)) (now (lefts .entry)) (now (rights .entry)) (now (index .entry)) (now (lefts .exit)) (now (rights .exit)) (now (index .exit)) x ⌝ }
+    requires { ⌜ Loaded (now s) im × Valid (tablesOf (now s)) × (l < im .classes) × (r < im .classes) × (im .classes * im .classes + lim .pairs ≤ length (now graph)) × (lim .pairs ≤ 4096) × (now graph ≡ replicate (length (now graph)) 0) ⌝ }
+    ensures { λ x. ⌜ Ends (limitsOf lim) (im .classes) (build (limitsOf lim) (tablesOf (now (s .entry))) (l, r) (budget .left)) (now (graph .exit)) x ⌝ }
 {
-    clear2(index);
-    append(lefts, rights, index, 0, l, r);
-    match build_from(s, im, budget, lefts, rights, index) {
+    match enter_pair(lim, im.classes, graph, 0, l, r) {
+        Grown::Full => Built::Full,
+        Grown::To(n) => build_from(lim, s, im, budget, graph, n),
+    }
+}
+
+// "Built in full, it holds the queried pair and, with each pair, every pair of classes that an action of it joins."
+// Cut short or refused, the array is cleared.
+pub fn build(
+    lim: Limits,
+    s: &[u8],
+    im: Image,
+    l: usize,
+    r: usize,
+    budget: Budget,
+    graph: &mut [u16],
+) -> Built
+    requires { ⌜ Loaded (now s) im × Valid (tablesOf (now s)) × (l < im .classes) × (r < im .classes) × (im .classes * im .classes + lim .pairs ≤ length (now graph)) × (lim .pairs ≤ 4096) ⌝ }
+    ensures { λ x. ⌜ Builds (im .classes) (build (limitsOf lim) (tablesOf (now (s .entry))) (l, r) (budget .left)) (now (graph .entry)) (now (graph .exit)) x ⌝ }
+{
+    clear_u16(graph);
+    match build_first(lim, s, im, l, r, budget, graph) {
         Built::All(n, b) => Built::All(n, b),
         Built::Cut => {
-            clear_all(lefts, rights, index);
+            clear_u16(graph);
             Built::Cut
         }
         Built::Full => {
-            clear_all(lefts, rights, index);
+            clear_u16(graph);
             Built::Full
         }
     }

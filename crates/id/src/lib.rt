@@ -5,6 +5,7 @@ ghost use Prim.Native.Nat.{_<_};
 ghost use lib.ListN.{getD};
 ghost use Rattle.spec.specs.Image.{arities, arityRight, isAC, isCommutative};
 ghost use Rattle.spec.specs.Image as Image;
+use numbers::size_u8;
 
 pub mod multiplicity;
 
@@ -31,12 +32,6 @@ pub fn arity(k: usize) -> u8
     FREE
 }
 
-fn number_of(a: u8) -> usize
-    ensures { λ r. ⌜ r ≡ a ⌝ }
-{
-    a as usize
-}
-
 // Whether a member of kind k may have n children.
 pub fn arity_right(k: usize, n: usize) -> bool
     ensures { λ r. ⌜ r ≡ arityRight k n ⌝ }
@@ -45,7 +40,7 @@ pub fn arity_right(k: usize, n: usize) -> bool
     if a == FREE {
         return true;
     }
-    n == number_of(a)
+    n == size_u8(a)
 }
 
 // The kinds that act by transport and may have an identity.

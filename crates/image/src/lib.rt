@@ -6,6 +6,8 @@ ghost use Rattle.spec.specs.Bytes as b;
 ghost use Rattle.spec.specs.Image.{tablesOf, theOperation, theClass, theMember};
 ghost use Rattle.image.specs.Layout.{layoutOf};
 ghost use Rattle.image.specs.Loaded.{Loaded, theChild, memberSpan, childSpan};
+use numbers::long_size;
+use numbers::size_u8;
 
 // How many entries each table has, and the bytes at which class 0, member 0 and child 0 stand.
 pub struct Image {
@@ -74,31 +76,19 @@ impl Image {
     }
 }
 
-fn byte(x: u8) -> usize
-    ensures { λ r. ⌜ (r ≡ x) × (r < 256) ⌝ }
-{
-    x as usize
-}
-
-fn long(x: usize) -> u64
-    ensures { λ r. ⌜ r ≡ x ⌝ }
-{
-    x as u64
-}
-
 // "Big-endian."
 pub fn be2(s: &[u8], at: usize) -> usize
     requires { ⌜ at + 2 ≤ length (now s) ⌝ }
     ensures { λ r. ⌜ (r ≡ b.be2 (now (s .entry)) at) × (r < 65536) ⌝ }
 {
-    byte(s[at]) * 256 + byte(s[at + 1])
+    size_u8(s[at]) * 256 + size_u8(s[at + 1])
 }
 
 pub fn be4(s: &[u8], at: usize) -> u64
     requires { ⌜ at + 4 ≤ length (now s) ⌝ }
     ensures { λ r. ⌜ (r ≡ b.be4 (now (s .entry)) at) × (r < 4294967296) ⌝ }
 {
-    long(be2(s, at)) * 65536 + long(be2(s, at + 2))
+    long_size(be2(s, at)) * 65536 + long_size(be2(s, at + 2))
 }
 
 // ---- an operation
@@ -106,14 +96,14 @@ pub fn kind(s: &[u8], im: Image, o: usize) -> usize
     requires { ⌜ Loaded (now s) im × (o < im .operations) ⌝ }
     ensures { λ r. ⌜ (r ≡ theOperation (tablesOf (now (s .entry))) o .kind) × (r < 256) ⌝ }
 {
-    byte(s[Image::HEADER + o * Image::OPERATION_BYTES])
+    size_u8(s[Image::HEADER + o * Image::OPERATION_BYTES])
 }
 
 pub fn flag(s: &[u8], im: Image, o: usize) -> usize
     requires { ⌜ Loaded (now s) im × (o < im .operations) ⌝ }
     ensures { λ r. ⌜ (r ≡ theOperation (tablesOf (now (s .entry))) o .flag) × (r < 256) ⌝ }
 {
-    byte(s[Image::HEADER + o * Image::OPERATION_BYTES + 1])
+    size_u8(s[Image::HEADER + o * Image::OPERATION_BYTES + 1])
 }
 
 // the class, or 65,535 for none

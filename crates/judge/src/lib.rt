@@ -5,11 +5,12 @@ ghost use lib.ListN.{length};
 ghost use Rattle.spec.specs.Bytes as b;
 ghost use Rattle.spec.specs.Image.{CHILD-BYTES, HEADER, imageOf, tablesOf, tablesRules};
 ghost use Rattle.image.specs.Loaded.{Loaded};
-ghost use Rattle.judge.specs.Verdict.{Carries, countsWithin, headerOf, resultOf};
+ghost use Rattle.judge.specs.Verdict.{Carries, countsWithin, headerOf, resultOf, verdictAs, verdictOf};
 use image::Image;
 use image::be2;
 use image::be4;
 use literals::doubled;
+use numbers::long_size;
 use rules::bests::bests_right;
 use rules::children::children_right;
 use rules::operations::operations_right;
@@ -23,12 +24,6 @@ pub enum Verdict {
     Refused(u8),
     // 10, with a class that holds a literal that stands in two
     Doubled(usize),
-}
-
-fn long(x: usize) -> u64
-    ensures { λ r. ⌜ r ≡ x ⌝ }
-{
-    x as u64
 }
 
 fn within(low: usize, high: usize, x: usize) -> bool
@@ -75,7 +70,7 @@ fn end(im: Image) -> usize
 // 6 to 10
 fn tables(s: &[u8], im: Image) -> Verdict
     requires { ⌜ Loaded (now s) im × (im .members < 65536) ⌝ }
-    ensures { λ r. ⌜ (resultOf (now (s .entry)) r ≡ tablesRules (tablesOf (now (s .entry)))) × Carries (now (s .entry)) r ⌝ }
+    ensures { λ r. ⌜ (resultOf (now (s .entry)) r ≡ tablesRules (tablesOf (now (s .entry)))) × Carries (now (s .entry)) r × (r ≡ verdictAs im (now (s .entry)) (tablesRules (tablesOf (now (s .entry))))) ⌝ }
 {
     if !operations_right(s, im) {
         return Verdict::Refused(6);
@@ -97,12 +92,12 @@ fn tables(s: &[u8], im: Image) -> Verdict
 }
 
 pub fn judge(s: &[u8]) -> Verdict
-    ensures { λ r. ⌜ (resultOf (now (s .entry)) r ≡ imageOf (now (s .entry))) × Carries (now (s .entry)) r ⌝ }
+    ensures { λ r. ⌜ (resultOf (now (s .entry)) r ≡ imageOf (now (s .entry))) × Carries (now (s .entry)) r × (r ≡ verdictOf (now (s .entry))) ⌝ }
 {
     if s.len() < Image::HEADER {
         return Verdict::Refused(2);
     }
-    if be4(s, 0) + 4 != long(s.len()) {
+    if be4(s, 0) + 4 != long_size(s.len()) {
         return Verdict::Refused(2);
     }
     if s[4] != Image::VERSION {

@@ -17,6 +17,8 @@ use image::kind;
 use image::member_count;
 use image::member_op;
 use image::member_value;
+use numbers::put_u16;
+use numbers::size_u16;
 
 // whether member m is the literal v of operation o
 fn is_literal(s: &[u8], im: Image, o: usize, v: u64, m: usize) -> bool
@@ -54,19 +56,6 @@ fn slot(o: usize, v: u64) -> usize
     ((v % 4093 + o as u64 % 4093) % 4093) as usize
 }
 
-fn narrow(m: usize) -> u16
-    requires { ⌜ m < 65536 ⌝ }
-    ensures { λ r. ⌜ r ≡ m ⌝ }
-{
-    m as u16
-}
-
-fn wide(x: u16) -> usize
-    ensures { λ r. ⌜ r ≡ x ⌝ }
-{
-    x as usize
-}
-
 // In each slot the number after that of the last member marked there: no later member has a literal of this slot.
 fn mark(s: &[u8], im: Image, last: &mut [u16; 4093])
     requires { ⌜ Loaded (now s) im × (im .members < 65536) × (length (now last) ≡ SLOTS) ⌝ }
@@ -75,7 +64,7 @@ fn mark(s: &[u8], im: Image, last: &mut [u16; 4093])
     let mut m = 0;
     while m < im.members {
         let at = slot(member_op(s, im, m), member_value(s, im, m));
-        last[at] = narrow(m + 1);
+        put_u16(last, at, m + 1);
         m += 1;
     }
 }
@@ -91,7 +80,7 @@ fn member_doubled(s: &[u8], im: Image, last: &[u16; 4093], m: usize, to: usize) 
     }
     let v = member_value(s, im, m);
     let at = slot(o, v);
-    if wide(last[at]) <= to {
+    if size_u16(last[at]) <= to {
         return false;
     }
     literal_from(s, im, o, v, to)

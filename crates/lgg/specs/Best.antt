@@ -8,7 +8,7 @@ use native.Mathlib.Omega.{arith}
 use lib.Dec.{eqb}
 use borrow.Author.Tests.{eqb-true, eqb-false}
 use lib.ListN.{length}
-use Rattle.spec.specs.Bytes.{Two, pick, sum, Res, ok, refused, _>>=_}
+use Rattle.spec.specs.Bytes.{Limits, Two, pick, sum, Res, ok, refused, _>>=_}
 use Rattle.spec.specs.Image.{Tables, Member, MSet, Lit, arities, isCommutative, kindOf, bestSize, membersOf, childrenOf, bestMember, sizeOver}
 use Rattle.spec.specs.Monomial.{classes, counts}
 use Rattle.spec.specs.Transport.{planSize, planMass}
@@ -48,7 +48,7 @@ record MakesChildren (t : Tables) (p : Pool) (l : List Two) (k : Children) : Typ
   same : counts (k .runs) ≡ counts l
   good : TermsFor t (map (λ c. (c .0, c .0)) l) (map (λ c. (bestSize t (c .0), 0)) l) (map (treeAt (k .pool)) (classes (k .runs)))
 
-module _ (t : Tables) where
+module _ (lim : Limits) (t : Tables) where
   children-made : (best : Pool → ℕ → Res Interned) (l : List Two) → ((c : Two) → In c l → (p : Pool) (r : Interned) → PoolValid p → best p (c .0) ≡ ok r → Makes t p (c .0, c .0) (bestSize t (c .0), 0) r)
       → ((c : Two) → In c l → 1 ≤ c .1) → (p : Pool) (k : Children) → PoolValid p → childTerms best p l ≡ ok k → MakesChildren t p l k
   unfolding childTerms
@@ -83,30 +83,30 @@ module _ (t : Tables) where
       go (refused n) ih = refl
 
   -- "fuel: the class's best size, for best sizes fall along the best members' children": more fuel changes nothing
-  fuel-same : Valid t → (f g : ℕ) (p : Pool) (c : ℕ) → c < length (t .classes) → bestSize t c ≤ f → bestSize t c ≤ g → bestTermIn f t p c ≡ bestTermIn g t p c
+  fuel-same : Valid t → (f g : ℕ) (p : Pool) (c : ℕ) → c < length (t .classes) → bestSize t c ≤ f → bestSize t c ≤ g → bestTermIn lim f t p c ≡ bestTermIn lim g t p c
   unfolding bestTermIn
   fuel-same v zero g p c h a b = let z = v .best .bestRange c h .0 in absurd (omega arith)
   fuel-same v (suc f) zero p c h a b = let z = v .best .bestRange c h .0 in absurd (omega arith)
   fuel-same v (suc f) (suc g) p c h a b =
       go (eqb (kindOf t (m .op)) Lit)
-      (children-same (bestTermIn f t) (bestTermIn g t) (childrenOf t m)
+      (children-same (bestTermIn lim f t) (bestTermIn lim g t) (childrenOf t m)
       (λ d i q. let z = best-falls t v c h d i in fuel-same v f g q (d .0) (child-within t v m c (best-in t v c h) d i) (omega arith) (omega arith)) p)
     where
       m : Member
       m = bestMember t c
 
       rest : Children → Res Interned
-      rest k = intern (k .pool) (opNode (m .op) (k .runs))
+      rest k = intern lim (k .pool) (opNode (m .op) (k .runs))
 
       by : Bool → Res Children → Res Interned
-      by b k = elim b [ true ↦ intern p (litNode (m .op) (m .value)) | false ↦ k >>= rest ]
+      by b k = elim b [ true ↦ intern lim p (litNode (m .op) (m .value)) | false ↦ k >>= rest ]
 
-      go : (b : Bool) → childTerms (bestTermIn f t) p (childrenOf t m) ≡ childTerms (bestTermIn g t) p (childrenOf t m)
-          → by b (childTerms (bestTermIn f t) p (childrenOf t m)) ≡ by b (childTerms (bestTermIn g t) p (childrenOf t m))
+      go : (b : Bool) → childTerms (bestTermIn lim f t) p (childrenOf t m) ≡ childTerms (bestTermIn lim g t) p (childrenOf t m)
+          → by b (childTerms (bestTermIn lim f t) p (childrenOf t m)) ≡ by b (childTerms (bestTermIn lim g t) p (childrenOf t m))
       go true e = refl
       go false e = ap (λ (z : Res Children). z >>= rest) e
 
-  pub best-fuel : Valid t → (f : ℕ) (p : Pool) (c : ℕ) → c < length (t .classes) → bestSize t c ≤ f → bestTermIn f t p c ≡ bestTerm t p c
+  pub best-fuel : Valid t → (f : ℕ) (p : Pool) (c : ℕ) → c < length (t .classes) → bestSize t c ≤ f → bestTermIn lim f t p c ≡ bestTerm lim t p c
   best-fuel v f p c h a = fuel-same v f (bestSize t c) p c h a (omega arith)
 
   -- ---- best terms
@@ -170,7 +170,7 @@ module _ (t : Tables) where
       best-is : (bestSize t c, 0) ≡ qualityOver (counts l) (map (λ d. (bestSize t (d .0), 0)) l)
       best-is = ap₂ (λ (x y : ℕ). (x, y)) (v .best .bestEquation c h ∙ ap (λ (z : ℕ). 1 + z) (sym (best-size l))) (sym (best-mass l))
 
-  pub best-made : Valid t → (f : ℕ) (p : Pool) (c : ℕ) (r : Interned) → c < length (t .classes) → bestSize t c ≤ f → PoolValid p → bestTermIn f t p c ≡ ok r → Makes t p (c, c) (bestSize t c, 0) r
+  pub best-made : Valid t → (f : ℕ) (p : Pool) (c : ℕ) (r : Interned) → c < length (t .classes) → bestSize t c ≤ f → PoolValid p → bestTermIn lim f t p c ≡ ok r → Makes t p (c, c) (bestSize t c, 0) r
   unfolding bestTermIn
   best-made v zero p c r h a w e = let z = v .best .bestRange c h .0 in absurd (omega arith)
   best-made v (suc f) p c r h a w e = go (eqb (kindOf t (bestMember t c .op)) Lit) refl e (λ d i q s. let z = best-falls t v c h d i in best-made v f q (d .0) s (child-within t v (bestMember t c) c (best-in t v c h) d i) (omega arith))
@@ -201,20 +201,20 @@ module _ (t : Tables) where
           }
 
       go : (b : Bool) → eqb (kindOf t (m .op)) Lit ≡ b
-          → (elim b [ true ↦ intern p (litNode (m .op) (m .value)) | false ↦ childTerms (bestTermIn f t) p l >>= (λ k. intern (k .pool) (opNode (m .op) (k .runs))) ]) ≡ ok r
-          → ((d : Two) → In d l → (q : Pool) (s : Interned) → PoolValid q → bestTermIn f t q (d .0) ≡ ok s → Makes t q (d .0, d .0) (bestSize t (d .0), 0) s)
+          → (elim b [ true ↦ intern lim p (litNode (m .op) (m .value)) | false ↦ childTerms (bestTermIn lim f t) p l >>= (λ k. intern lim (k .pool) (opNode (m .op) (k .runs))) ]) ≡ ok r
+          → ((d : Two) → In d l → (q : Pool) (s : Interned) → PoolValid q → bestTermIn lim f t q (d .0) ≡ ok s → Makes t q (d .0, d .0) (bestSize t (d .0), 0) s)
           → Makes t p (c, c) (bestSize t c, 0) r
-      go true k e ih = asLiteral (eqb-true _ _ k) (intern-enters p (litNode (m .op) (m .value)) r w (lit-valid (length p) (m .op) (m .value)) e)
+      go true k e ih = asLiteral (eqb-true _ _ k) (intern-enters lim p (litNode (m .op) (m .value)) r w (lit-valid (length p) (m .op) (m .value)) e)
       go false b e ih =
-          let (k, ek, e′) = bind-ok (childTerms (bestTermIn f t) p l) _ r e in
-          let M = children-made (bestTermIn f t) l ih (child-counted t v m c (best-in t v c h)) p k w ek in
-          asNode (eqb-false _ _ b) k M (intern-enters (k .pool) (opNode (m .op) (k .runs)) r (M .valid) (op-valid (length (k .pool)) (m .op) (k .runs) (M .below)) e′)
+          let (k, ek, e′) = bind-ok (childTerms (bestTermIn lim f t) p l) _ r e in
+          let M = children-made (bestTermIn lim f t) l ih (child-counted t v m c (best-in t v c h)) p k w ek in
+          asNode (eqb-false _ _ b) k M (intern-enters lim (k .pool) (opNode (m .op) (k .runs)) r (M .valid) (op-valid (length (k .pool)) (m .op) (k .runs) (M .below)) e′)
 
   -- The best term of a class has the class's best size and mass 0, and belongs to the class, read either way.
-  pub best-term : Valid t → (p : Pool) (c : ℕ) (r : Interned) → c < length (t .classes) → PoolValid p → bestTerm t p c ≡ ok r → Makes t p (c, c) (bestSize t c, 0) r
+  pub best-term : Valid t → (p : Pool) (c : ℕ) (r : Interned) → c < length (t .classes) → PoolValid p → bestTerm lim t p c ≡ ok r → Makes t p (c, c) (bestSize t c, 0) r
   best-term v p c r h w e = best-made v (bestSize t c) p c r h (omega arith) w e
 
-  pub best-quality : Valid t → (p : Pool) (c : ℕ) (r : Interned) → c < length (t .classes) → PoolValid p → bestTerm t p c ≡ ok r → termQuality (treeAt (r .pool) (r .term)) ≡ (bestSize t c, 0)
+  pub best-quality : Valid t → (p : Pool) (c : ℕ) (r : Interned) → c < length (t .classes) → PoolValid p → bestTerm lim t p c ≡ ok r → termQuality (treeAt (r .pool) (r .term)) ≡ (bestSize t c, 0)
   best-quality v p c r h w e = best-term v p c r h w e .good .quality
 
   -- ---- "Starting term: the best term of one class, mass 0; or the marked place Variants of two best terms, size and mass both their sum."
@@ -230,21 +230,21 @@ module _ (t : Tables) where
     second = h .second;
   }
 
-  pub starting-made : Valid t → (p : Pool) (c : Two) (r : Interned) → c .0 < length (t .classes) → c .1 < length (t .classes) → PoolValid p → startingTerm t p c ≡ ok r → Makes t p c (startingQuality t c) r
+  pub starting-made : Valid t → (p : Pool) (c : Two) (r : Interned) → c .0 < length (t .classes) → c .1 < length (t .classes) → PoolValid p → startingTerm lim t p c ≡ ok r → Makes t p c (startingQuality t c) r
   unfolding startingTerm
   starting-made v p c r h k w e = go (eqb (c .0) (c .1)) refl e
     where
       go : (b : Bool) → eqb (c .0) (c .1) ≡ b
-          → (elim b [ true ↦ bestTerm t p (c .0) | false ↦ bestTerm t p (c .0) >>= (λ x. bestTerm t (x .pool) (c .1) >>= (λ y. intern (y .pool) (variantsNode (x .term) (y .term)))) ]) ≡ ok r
+          → (elim b [ true ↦ bestTerm lim t p (c .0) | false ↦ bestTerm lim t p (c .0) >>= (λ x. bestTerm lim t (x .pool) (c .1) >>= (λ y. intern lim (y .pool) (variantsNode (x .term) (y .term)))) ]) ≡ ok r
           → Makes t p c (pick b (bestSize t (c .0), 0) (bestSize t (c .0) + bestSize t (c .1), bestSize t (c .0) + bestSize t (c .1))) r
       go true z e = same-classes p c r (eqb-true _ _ z) (best-term v p (c .0) r h w e)
       go false z e =
-          let (x, ex, e′) = bind-ok (bestTerm t p (c .0)) _ r e in
-          let (y, ey, e″) = bind-ok (bestTerm t (x .pool) (c .1)) _ r e′ in
+          let (x, ex, e′) = bind-ok (bestTerm lim t p (c .0)) _ r e in
+          let (y, ey, e″) = bind-ok (bestTerm lim t (x .pool) (c .1)) _ r e′ in
           let X = best-term v p (c .0) x h w ex in
           let Y = best-term v (x .pool) (c .1) y k (X .valid) ey in
           let l : x .term < length (y .pool) = extends-within (Y .grown) (x .term) (X .within) in
-          let E = intern-enters (y .pool) (variantsNode (x .term) (y .term)) r (Y .valid) (variants-valid (length (y .pool)) (x .term) (y .term) l (Y .within)) e″ in record {
+          let E = intern-enters lim (y .pool) (variantsNode (x .term) (y .term)) r (Y .valid) (variants-valid (length (y .pool)) (x .term) (y .term) l (Y .within)) e″ in record {
             valid = E .valid;
             grown = extends-trans (X .grown) (extends-trans (Y .grown) (E .grown));
             within = E .within;

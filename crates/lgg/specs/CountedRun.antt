@@ -13,7 +13,7 @@ use Rattle.spec.specs.Action.{joins}
 use Rattle.spec.specs.Graph.{build}
 use Rattle.spec.specs.Pool.{Pool, Interned, startingTerm}
 use Rattle.spec.specs.Round.{Terms, prepend, Choice, stay, act, Turn, changes, startingQuality, lookUp, choiceTerm, turnOf, turnsOf, turnsTerms, qualitiesAfter}
-use Rattle.spec.specs.Run.{State, Outcome, outcome, startingTerms, roundTerms, afterRound, roundsFrom, started, afterStarting, afterBuilding, runOf}
+use Rattle.spec.specs.Run.{documentLimits, State, Outcome, outcome, startingTerms, roundTerms, afterRound, roundsFrom, started, afterStarting, afterBuilding, runOf}
 use Rattle.spec.specs.Meaning.{In, here, there, Term, treeAt}
 use Rattle.laws.specs.Valid.{Valid}
 use Rattle.lgg.specs.Lists.{clash, in-cons, in-nil, same-eq, same-refl}
@@ -67,13 +67,13 @@ stands-later p q of f g c (a, e) = (extends-within g (of c) a, extends-tree g (o
 
 -- ---- starting terms
 starting-walks : (t : Tables) → Valid t → (C : Term → Type 0) → ((c : ℕ) → IsClass t c → C (bestTree t c)) → (cs : List Two) (b : ℕ) (p : Pool) → ((c : Two) → In c cs → IsPair t c × C (startingTree t c)) → Kept C p
-    → Goes C (Walked C p (startingTree t) cs (length cs) b) (startingTerms t cs b p)
+    → Goes C (Walked C p (startingTree t) cs (length cs) b) (startingTerms documentLimits t cs b p)
 unfolding startingTerms
 starting-walks t v C bests [] b p h K = fine (whole (record { pool = p; terms = [] }) b K (extends-refl p) noPair (omega arith))
 starting-walks t v C bests (c ∷ cs) zero p h K = fine cut
 starting-walks t v C bests (c ∷ cs) (suc b) p h K =
-    goes-bind (startingTerm t p c) _ (starting-goes t v C bests p c (h c here .0) (h c here .1) K)
-    (λ a A. goes-bind (startingTerms t cs b (a .pool)) _ (starting-walks t v C bests cs b (a .pool) (λ d i. h d (there i)) (A .kept)) (λ r W. fine (walked-next c cs (length cs) b a r A W)))
+    goes-bind (startingTerm documentLimits t p c) _ (starting-goes t v C bests p c (h c here .0) (h c here .1) K)
+    (λ a A. goes-bind (startingTerms documentLimits t cs b (a .pool)) _ (starting-walks t v C bests cs b (a .pool) (λ d i. h d (there i)) (A .kept)) (λ r W. fine (walked-next c cs (length cs) b a r A W)))
 
 -- ---- the turns of a round, over the terms `f` of the round before
 module _ (t : Tables) (C : Term → Type 0) (q : Two → Two) (of : Two → ℕ) (f : Two → Term) where
@@ -82,14 +82,14 @@ module _ (t : Tables) (C : Term → Type 0) (q : Two → Two) (of : Two → ℕ)
 
   turns-walk : (cs : List Two) (b : ℕ) (p : Pool) → ((c : Two) → In c cs → Stands p of f c × ((d : Two) → In d (joins t c) → Stands p of f d))
       → ((c : Two) → In c cs → (r : Pool) → PoolValid r → ((d : Two) → In d (joins t c) → Stands r of f d) → Acts (turnOf t q c .choice) → C (after c)) → Kept C p
-      → Goes C (Walked C p after cs (length cs) b) (turnsTerms t of cs (map (turnOf t q) cs) b p)
+      → Goes C (Walked C p after cs (length cs) b) (turnsTerms documentLimits t of cs (map (turnOf t q) cs) b p)
   unfolding turnsTerms
   turns-walk [] b p h g K = fine (whole (record { pool = p; terms = [] }) b K (extends-refl p) noPair (omega arith))
   turns-walk (c ∷ cs) zero p h g K = fine cut
   turns-walk (c ∷ cs) (suc b) p h g K =
-      goes-bind (choiceTerm t of p (of c) (turnOf t q c .choice)) _
+      goes-bind (choiceTerm documentLimits t of p (of c) (turnOf t q c .choice)) _
       (choice-goes t p of f c (turnOf t q c .choice) K (h c here .0) (λ a e d i. h c here .1 d (choice-joins t q c a e d i)) (g c here p (K .valid) (h c here .1)))
-      (λ a A. goes-bind (turnsTerms t of cs (map (turnOf t q) cs) b (a .pool)) _
+      (λ a A. goes-bind (turnsTerms documentLimits t of cs (map (turnOf t q) cs) b (a .pool)) _
       (turns-walk cs b (a .pool) (λ d i. (stands-later p (a .pool) of f (A .grown) d (h d (there i) .0), λ e j. stands-later p (a .pool) of f (A .grown) e (h d (there i) .1 e j))) (λ d i. g d (there i)) (A .kept))
       (λ r W. fine (walked-next c cs (length cs) b a r A W)))
 
@@ -129,7 +129,7 @@ module _ (t : Tables) (v : Valid t) (ps : List Two) (closed : Closed t ps) (b : 
   round-start p f c r (fine cut) = fine cut
   round-start p f c r (full x) = full x
 
-  round-walks : (s : State) → Between s → (c : ℕ) → s .budget ≡ c → Goes C (Walked C (s .pool) (termAfter t ps (suc (s .rounds))) ps (suc (length ps)) c) (roundTerms t ps s (turnsOf t ps (s .qualities)) c)
+  round-walks : (s : State) → Between s → (c : ℕ) → s .budget ≡ c → Goes C (Walked C (s .pool) (termAfter t ps (suc (s .rounds))) ps (suc (length ps)) c) (roundTerms documentLimits t ps s (turnsOf t ps (s .qualities)) c)
   unfolding roundTerms turnsOf termAfter
   round-walks s B zero e = fine cut
   round-walks s B (suc c) e =
@@ -153,23 +153,23 @@ module _ (t : Tables) (v : Valid t) (ps : List Two) (closed : Closed t ps) (b : 
     ended : (s : State) → Between s → (complete : Bool) → Final (outcome complete ps s)
     ended s B complete = holds-first p (first .0) (B .holds) (first .1)
 
-    rounds-go : (f : ℕ) (s : State) → Between s → Goes C Final (roundsFrom f t ps s)
+    rounds-go : (f : ℕ) (s : State) → Between s → Goes C Final (roundsFrom documentLimits f t ps s)
     unfolding roundsFrom afterRound
     rounds-go zero s B = fine (ended s B false)
-    rounds-go (suc f) s B = goes-bind (roundTerms t ps s ws (s .budget)) _ (round-walks s B (s .budget) refl) (λ r W. go r W (λ u D. rounds-go f u D))
+    rounds-go (suc f) s B = goes-bind (roundTerms documentLimits t ps s ws (s .budget)) _ (round-walks s B (s .budget) refl) (λ r W. go r W (λ u D. rounds-go f u D))
       where
         ws : List Turn
         ws = turnsOf t ps (s .qualities)
 
-        go : (r : Checked Terms) → Walked C (s .pool) (termAfter t ps (suc (s .rounds))) ps (suc (length ps)) (s .budget) r → ((u : State) → Between u → Goes C Final (roundsFrom f t ps u))
-            → Goes C Final (afterRound (λ u. roundsFrom f t ps u) ps s ws r)
+        go : (r : Checked Terms) → Walked C (s .pool) (termAfter t ps (suc (s .rounds))) ps (suc (length ps)) (s .budget) r → ((u : State) → Between u → Goes C Final (roundsFrom documentLimits f t ps u))
+            → Goes C Final (afterRound (λ u. roundsFrom documentLimits f t ps u) ps s ws r)
         go r cut ih = fine (ended s B false)
         go r (whole a left K g H e) ih = by (any changes ws)
           where
             u : State
             u = record { pool = a .pool; qualities = map (λ w. w .quality) ws; terms = a .terms; rounds = suc (s .rounds); budget = left }
 
-            by : (x : Bool) → Goes C {A = Outcome} Final (elim x [ false ↦ ok (outcome true ps s) | true ↦ roundsFrom f t ps u ])
+            by : (x : Bool) → Goes C {A = Outcome} Final (elim x [ false ↦ ok (outcome true ps s) | true ↦ roundsFrom documentLimits f t ps u ])
             by true = ih u (further s B a left K H e)
             by false = fine (ended s B true)
 
@@ -189,12 +189,12 @@ module _ (t : Tables) (v : Valid t) (p : Two) (h : IsPair t p) where
   slim-start : (ps : List Two) (b : ℕ) (q : Two) → In q ps → IsPair t q → Slim t ps b (startingTree t q)
   slim-start ps b q i k = (starting q i refl, omega (arith, starting-runs t v q k))
 
-  root-goes : (ps : List Two) (b : ℕ) → In p ps → Goes (Slim t ps b) (Entered (Slim t ps b) [] (startingTree t p)) (startingTerm t [] p)
+  root-goes : (ps : List Two) (b : ℕ) → In p ps → Goes (Slim t ps b) (Entered (Slim t ps b) [] (startingTree t p)) (startingTerm documentLimits t [] p)
   root-goes ps b i = starting-goes t v (Slim t ps b) (slim-best ps b) [] p h (slim-start ps b p i h) (record { valid = empty-valid; kinds = λ a l. absurd (not-suc-le-zero l) })
 
   -- The queried pair's starting term is never refused.
-  pub root-starts : (root : Interned) × (startingTerm t [] p ≡ ok root)
-  root-starts = go (startingTerm t [] p) (root-goes (p ∷ []) 0 here)
+  pub root-starts : (root : Interned) × (startingTerm documentLimits t [] p ≡ ok root)
+  root-starts = go (startingTerm documentLimits t [] p) (root-goes (p ∷ []) 0 here)
     where
       go : (r : Res Interned) → Goes (Slim t (p ∷ []) 0) (Entered (Slim t (p ∷ []) 0) [] (startingTree t p)) r → (root : Interned) × (r ≡ ok root)
       go r (fine {a = a} q) = (a, refl)
@@ -202,55 +202,55 @@ module _ (t : Tables) (v : Valid t) (p : Two) (h : IsPair t p) where
           absurd (counted-few t v (p ∷ []) (λ q i. elim (in-cons i) [ inl e ↦ rw e h | inr j ↦ absurd (in-nil j) ]) 0 0 0
           (λ k q i m l. absurd (omega arith)) (Slim t (p ∷ []) 0) (λ x d. d .0) (λ x d k q i m l e. absurd (omega arith)) (omega (arith, v .counts .fewClasses)) (omega (arith, v .counts .fewClasses)) B)
 
-  started-term : (ps : List Two) (root : Interned) (n : ℕ) → startingTerm t [] p ≡ ok root → treeAt (started t p root n .pool) (started t p root n .root) ≡ termAfter t ps (started t p root n .rounds) p
+  started-term : (ps : List Two) (root : Interned) (n : ℕ) → startingTerm documentLimits t [] p ≡ ok root → treeAt (started t p root n .pool) (started t p root n .root) ≡ termAfter t ps (started t p root n .rounds) p
   unfolding started termAfter
   started-term ps root n er = goes-ok root (root-goes (p ∷ []) 0 here) er .means
 
-  built-goes : (b c : ℕ) (ps : List Two) (root : Interned) → build t p b ≡ ok (passed ps c) → startingTerm t [] p ≡ ok root → Goes (Slim t ps b) (λ o. treeAt (o .pool) (o .root) ≡ termAfter t ps (o .rounds) p) (afterBuilding t p root (passed ps c))
+  built-goes : (b c : ℕ) (ps : List Two) (root : Interned) → build documentLimits t p b ≡ ok (passed ps c) → startingTerm documentLimits t [] p ≡ ok root → Goes (Slim t ps b) (λ o. treeAt (o .pool) (o .root) ≡ termAfter t ps (o .rounds) p) (afterBuilding documentLimits t p root (passed ps c))
   unfolding afterBuilding afterStarting termAfter qualitiesAfter
   built-goes b c ps root e er =
-      goes-bind (startingTerms t ps c (root .pool)) _
-      (starting-walks t v C (slim-best ps b) ps c (root .pool) (λ q i. (within q i, slim-start ps b q i (within q i))) (goes-ok root (root-goes ps b (root-in t p b c ps e)) er .kept))
+      goes-bind (startingTerms documentLimits t ps c (root .pool)) _
+      (starting-walks t v C (slim-best ps b) ps c (root .pool) (λ q i. (within q i, slim-start ps b q i (within q i))) (goes-ok root (root-goes ps b (root-in documentLimits t p b c ps e)) er .kept))
       (λ r W. go r W)
     where
       C : Term → Type 0
       C = Slim t ps b
 
       within : (q : Two) → In q ps → IsPair t q
-      within q i = reach-within t v p q h (build-whole t p b c ps e .exactly q .0 i)
+      within q i = reach-within t v p q h (build-whole documentLimits t p b c ps e .exactly q .0 i)
 
-      go : (r : Checked Terms) → Walked C (root .pool) (startingTree t) ps (length ps) c r → Goes C (λ o. treeAt (o .pool) (o .root) ≡ termAfter t ps (o .rounds) p) (afterStarting t p root ps r)
+      go : (r : Checked Terms) → Walked C (root .pool) (startingTree t) ps (length ps) c r → Goes C (λ o. treeAt (o .pool) (o .root) ≡ termAfter t ps (o .rounds) p) (afterStarting documentLimits t p root ps r)
       go r cut = fine (started-term ps root (length ps) er)
       go r (whole a left K g H z) =
-          rounds-go t v ps (build-closed t p b c ps e) b p (build-first t p b c ps e) left (record { pool = a .pool; qualities = map (startingQuality t) ps; terms = a .terms; rounds = 0; budget = left })
-          (record { kept = K; holds = H; qualities = refl; spent = omega (arith, build-passed t p (length ps) (ps, build-whole t p b c ps e, refl) b c ps e .1) })
+          rounds-go t v ps (build-closed documentLimits t p b c ps e) b p (build-first documentLimits t p b c ps e) left (record { pool = a .pool; qualities = map (startingQuality t) ps; terms = a .terms; rounds = 0; budget = left })
+          (record { kept = K; holds = H; qualities = refl; spent = omega (arith, build-passed documentLimits t p (length ps) (ps, build-whole documentLimits t p b c ps e, refl) b c ps e .1) })
 
   -- The term that a run gives is the queried pair's after the rounds reported; ps are the pairs of the full graph.
-  pub run-term : (B C : ℕ) (ps : List Two) → build t p B ≡ ok (passed ps C) → (b : ℕ) (o : Outcome) → runOf t p b ≡ ok o → treeAt (o .pool) (o .root) ≡ termAfter t ps (o .rounds) p
+  pub run-term : (B C : ℕ) (ps : List Two) → build documentLimits t p B ≡ ok (passed ps C) → (b : ℕ) (o : Outcome) → runOf documentLimits t p b ≡ ok o → treeAt (o .pool) (o .root) ≡ termAfter t ps (o .rounds) p
   unfolding runOf afterBuilding
   run-term B C ps e b o z =
-      let (root, er, z′) = bind-ok (startingTerm t [] p) _ o z in
-      let (g, eg, z″) = bind-ok (build t p b) _ o z′ in
+      let (root, er, z′) = bind-ok (startingTerm documentLimits t [] p) _ o z in
+      let (g, eg, z″) = bind-ok (build documentLimits t p b) _ o z′ in
       go root er g eg z″
     where
-      go : (root : Interned) → startingTerm t [] p ≡ ok root → (g : Checked (List Two)) → build t p b ≡ ok g → afterBuilding t p root g ≡ ok o → treeAt (o .pool) (o .root) ≡ termAfter t ps (o .rounds) p
+      go : (root : Interned) → startingTerm documentLimits t [] p ≡ ok root → (g : Checked (List Two)) → build documentLimits t p b ≡ ok g → afterBuilding documentLimits t p root g ≡ ok o → treeAt (o .pool) (o .root) ≡ termAfter t ps (o .rounds) p
       go root er cutShort eg z = rw (← ok-inj z) (started-term ps root 1 er)
-      go root er (passed qs c) eg z = rw (← build-same t p b c B C qs ps eg e) (goes-ok o (built-goes b c qs root eg er) z)
+      go root er (passed qs c) eg z = rw (← build-same documentLimits t p b c B C qs ps eg e) (goes-ok o (built-goes b c qs root eg er) z)
 
   -- A run is refused by 13 only where its graph is built, and the terms that are counted for it are more than 16,384 or have more than 65,536 runs.
-  pub refused-13-slim : (b : ℕ) → runOf t p b ≡ refused 13 → (ps : List Two) × (c : ℕ) × (build t p b ≡ ok (passed ps c)) × Beyond (Slim t ps b)
+  pub refused-13-slim : (b : ℕ) → runOf documentLimits t p b ≡ refused 13 → (ps : List Two) × (c : ℕ) × (build documentLimits t p b ≡ ok (passed ps c)) × Beyond (Slim t ps b)
   unfolding runOf afterBuilding
-  refused-13-slim b e = starts (bind-refused (startingTerm t [] p) (λ root. build t p b >>= λ g. afterBuilding t p root g) 13 e)
+  refused-13-slim b e = starts (bind-refused (startingTerm documentLimits t [] p) (λ root. build documentLimits t p b >>= λ g. afterBuilding documentLimits t p root g) 13 e)
     where
-      built : (root : Interned) → startingTerm t [] p ≡ ok root → (g : Checked (List Two)) → build t p b ≡ ok g → afterBuilding t p root g ≡ refused 13 → (ps : List Two) × (c : ℕ) × (build t p b ≡ ok (passed ps c)) × Beyond (Slim t ps b)
+      built : (root : Interned) → startingTerm documentLimits t [] p ≡ ok root → (g : Checked (List Two)) → build documentLimits t p b ≡ ok g → afterBuilding documentLimits t p root g ≡ refused 13 → (ps : List Two) × (c : ℕ) × (build documentLimits t p b ≡ ok (passed ps c)) × Beyond (Slim t ps b)
       built root er cutShort eg z = absurd (refused-ok (sym z))
       built root er (passed ps c) eg z = (ps, c, eg, goes-refused 13 (built-goes b c ps root eg er) z)
 
-      starts : (startingTerm t [] p ≡ refused 13) ⊎ ((root : Interned) × (startingTerm t [] p ≡ ok root) × ((build t p b >>= λ g. afterBuilding t p root g) ≡ refused 13)) → (ps : List Two) × (c : ℕ) × (build t p b ≡ ok (passed ps c)) × Beyond (Slim t ps b)
+      starts : (startingTerm documentLimits t [] p ≡ refused 13) ⊎ ((root : Interned) × (startingTerm documentLimits t [] p ≡ ok root) × ((build documentLimits t p b >>= λ g. afterBuilding documentLimits t p root g) ≡ refused 13)) → (ps : List Two) × (c : ℕ) × (build documentLimits t p b ≡ ok (passed ps c)) × Beyond (Slim t ps b)
       starts (inl z) = absurd (refused-ok (sym z ∙ root-starts .1))
-      starts (inr (root, er, z)) = elim (bind-refused (build t p b) (λ g. afterBuilding t p root g) 13 z) [ inl x ↦ absurd (omega (arith, build-refused t p b 13 x .0)) | inr x ↦ built root er (x .0) (x .1) (x .2) ]
+      starts (inr (root, er, z)) = elim (bind-refused (build documentLimits t p b) (λ g. afterBuilding documentLimits t p root g) 13 z) [ inl x ↦ absurd (omega (arith, build-refused documentLimits t p b 13 x .0)) | inr x ↦ built root er (x .0) (x .1) (x .2) ]
 
-  pub refused-13-beyond : (b : ℕ) → runOf t p b ≡ refused 13 → (ps : List Two) × (c : ℕ) × (build t p b ≡ ok (passed ps c)) × Beyond (Counted t ps b)
+  pub refused-13-beyond : (b : ℕ) → runOf documentLimits t p b ≡ refused 13 → (ps : List Two) × (c : ℕ) × (build documentLimits t p b ≡ ok (passed ps c)) × Beyond (Counted t ps b)
   refused-13-beyond b e =
       let (ps, c, k, B) = refused-13-slim b e in
       (ps, c, k, record { terms = B .terms; distinct = B .distinct; counted = λ x i. B .counted x i .0; beyond = B .beyond })

@@ -8,7 +8,7 @@ use Prim.Native.Nat.{ℕ, _+_, _*_}
 use native.Mathlib.Omega.{arith}
 use lib.Dec.{eqb}
 use Rattle.spec.specs.Bytes as S
-use Rattle.spec.specs.Bytes.{each, Two, Res, ok, refused, _>>=_}
+use Rattle.spec.specs.Bytes.{Limits, each, Two, Res, ok, refused, _>>=_}
 use Rattle.spec.specs.Image.{Tables, identityOf}
 use Rattle.spec.specs.Monomial.{Monomial, MonomialPair, monomialsOf, padPair, bothItself, representationPairs, narrow, narrowPairs}
 use Rattle.spec.specs.Transport.{planSize, planMass}
@@ -97,19 +97,19 @@ unfolding offerTransports
 transport-again q l w a i = plan-again q a (solved q a) (offerTransports q l w) (λ x e. transports-new q l w a i x e)
 
 -- ---- entering pairs
-enter-again : (ps : List Two) (p : Two) → In p ps → enter ps p ≡ ok ps
+enter-again : (lim : Limits) (ps : List Two) (p : Two) → In p ps → enter lim ps p ≡ ok ps
 unfolding enter
-enter-again ps p i = rw (in-any p ps i) refl
+enter-again lim ps p i = rw (in-any p ps i) refl
 
-enterAll-fewer : (seen l m ps : List Two) → ((x : Two) → In x seen → In x ps) → Fewer Equal seen l m → enterAll ps l ≡ enterAll ps m
+enterAll-fewer : (lim : Limits) (seen l m ps : List Two) → ((x : Two) → In x seen → In x ps) → Fewer Equal seen l m → enterAll lim ps l ≡ enterAll lim ps m
 unfolding enterAll
-enterAll-fewer seen l m ps h done = refl
-enterAll-fewer seen l m ps h (keep {x = x} {l = j} {m = k} d) = go (enter ps x) (enter-says ps x) (λ qs g. enterAll-fewer (x ∷ seen) j k qs g d)
+enterAll-fewer lim seen l m ps h done = refl
+enterAll-fewer lim seen l m ps h (keep {x = x} {l = j} {m = k} d) = go (enter lim ps x) (enter-says lim ps x) (λ qs g. enterAll-fewer lim (x ∷ seen) j k qs g d)
   where
-    go : (r : Res (List Two)) → Entered ps (x ∷ []) r → ((qs : List Two) → ((z : Two) → In z (x ∷ seen) → In z qs) → enterAll qs j ≡ enterAll qs k) → (r >>= λ qs. enterAll qs j) ≡ (r >>= λ qs. enterAll qs k)
+    go : (r : Res (List Two)) → Entered lim ps (x ∷ []) r → ((qs : List Two) → ((z : Two) → In z (x ∷ seen) → In z qs) → enterAll lim qs j ≡ enterAll lim qs k) → (r >>= λ qs. enterAll lim qs j) ≡ (r >>= λ qs. enterAll lim qs k)
     go (ok qs) (grown g f) ih = ih qs (λ z i. elim (in-cons i) [ inl e ↦ rw e (g .all x here) | inr n ↦ starts-in ps qs z (g .starts) (h z n) ])
     go (refused n) e ih = refl
-enterAll-fewer seen l m ps h (drop {x = x} {l = j} y i e d) = rw (enter-again ps x (rw e at (h y i))) (enterAll-fewer seen j m ps h d)
+enterAll-fewer lim seen l m ps h (drop {x = x} {l = j} y i e d) = rw (enter-again lim ps x (rw e at (h y i))) (enterAll-fewer lim seen j m ps h d)
 
 still : {A : Type 0} {z : A} {m : List A} → In z m ⊎ In z [] → In z m
 still (inl i) = i
@@ -127,11 +127,11 @@ turn-without-repeats t q p l m d e =
     ∙ sym (transports-fewer q [] (transports t (p .0) (p .1)) m (offerActions q (structural t (p .0) (p .1)) w) (λ a i. absurd (in-nil i)) e)
 
 -- And the pairs that they join are entered as before, in the same order.
-pub joins-without-repeats : (t : Tables) (p : Two) (ps : List Two) (l : List Action) (m : List TransportAction)
+pub joins-without-repeats : (lim : Limits) (t : Tables) (p : Two) (ps : List Two) (l : List Action) (m : List TransportAction)
     → Fewer Repeats [] (structural t (p .0) (p .1)) l → Fewer Equal [] (transports t (p .0) (p .1)) m
-    → enterAll ps (each (λ a. a .pairs) l ++ each (λ a. cellPairs (a .sides)) m) ≡ enterAll ps (joins t p)
+    → enterAll lim ps (each (λ a. a .pairs) l ++ each (λ a. cellPairs (a .sides)) m) ≡ enterAll lim ps (joins t p)
 unfolding joins
-joins-without-repeats t p ps l m d e = sym (enterAll-fewer [] (joins t p) (kept ++ each cells m) ps (λ x i. absurd (in-nil i)) (fewer-append [] (each (λ a. a .pairs) (structural t (p .0) (p .1))) kept (each cells (transports t (p .0) (p .1))) (each cells m) first second))
+joins-without-repeats lim t p ps l m d e = sym (enterAll-fewer lim [] (joins t p) (kept ++ each cells m) ps (λ x i. absurd (in-nil i)) (fewer-append [] (each (λ a. a .pairs) (structural t (p .0) (p .1))) kept (each cells (transports t (p .0) (p .1))) (each cells m) first second))
   where
     cells : TransportAction → List Two
     cells a = cellPairs (a .sides)

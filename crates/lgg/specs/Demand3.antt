@@ -9,14 +9,14 @@ use native.Mathlib.Omega.{arith}
 use native.Mathlib.Nat.{eq-or-lt-of-le, suc-inj}
 use native.Mathlib.Numerals.{add-one}
 use lib.ListN.{length}
-use Rattle.spec.specs.Bytes.{Two, Res, ok, refused, passed, cutShort}
+use Rattle.spec.specs.Bytes.{Limits, Two, Res, ok, refused, passed, cutShort}
 use Rattle.spec.specs.Image.{Tables, imageOf}
-use Rattle.spec.specs.Graph.{PAIRS, build}
+use Rattle.spec.specs.Graph.{build}
 use Rattle.spec.specs.Pool.{Interned, startingTerm}
 use Rattle.spec.specs.Round.{qualitiesAfter}
 use Rattle.spec.specs.Run.{Outcome, started, runOf}
 use Rattle.spec.specs.Listing.{listingOf}
-use Rattle.spec.specs.Merge.{mergeOf}
+use Rattle.spec.specs.Merge.{mergeUnder}
 use Rattle.spec.specs.Meaning.{In, _⊑_, Derivation, Reachable}
 use Rattle.lgg.specs.Lists.{clash, Distinct}
 use Rattle.lgg.specs.Results.{refused-ok, ok-inj}
@@ -30,107 +30,107 @@ use Rattle.lgg.specs.Outcomes.{root-in, root-quality, started-says, star
 
 -- ---- 5. the graph
 -- "Built in full, it holds the queried pair and, with each pair, every pair of classes that an action of it joins. Its n pairs are counted once each."
-pub graph : (t : Tables) (p : Two) (b c : ℕ) (ps : List Two) → build t p b ≡ ok (passed ps c)
+pub graph : (lim : Limits) (t : Tables) (p : Two) (b c : ℕ) (ps : List Two) → build lim t p b ≡ ok (passed ps c)
     → ((rest : List Two) × (ps ≡ p ∷ rest)) × Distinct ps × ((q : Two) → In q ps ↔ Reachable t p q)
-graph t p b c ps e = let w = build-whole t p b c ps e in (build-first t p b c ps e, w .once, w .exactly)
+graph lim t p b c ps e = let w = build-whole lim t p b c ps e in (build-first lim t p b c ps e, w .once, w .exactly)
 
 -- It is the same list for every budget that builds it in full; so n is the same.
-pub graph-same : (t : Tables) (p : Two) (b b′ c c′ : ℕ) (ps ps′ : List Two) → build t p b ≡ ok (passed ps c) → build t p b′ ≡ ok (passed ps′ c′) → ps ≡ ps′
-graph-same t p b b′ c c′ ps ps′ e e′ = build-same t p b c b′ c′ ps ps′ e e′
+pub graph-same : (lim : Limits) (t : Tables) (p : Two) (b b′ c c′ : ℕ) (ps ps′ : List Two) → build lim t p b ≡ ok (passed ps c) → build lim t p b′ ≡ ok (passed ps′ c′) → ps ≡ ps′
+graph-same lim t p b b′ c c′ ps ps′ e e′ = build-same lim t p b c b′ c′ ps ps′ e e′
 
 -- Every query has one n, the number of its reachable pairs, whether or not a budget builds them all.
 pub pair-count : (t : Tables) (p : Two) → (n : ℕ) × PairCount t p n × ((m : ℕ) → PairCount t p m → m ≡ n)
 pair-count t p = let (n, c) = C.pair-count t p in (n, c, λ m d. count-unique t p m n d c)
 
 -- "one [check] a pair in building": with n pairs, 4,096 at most, the first budget that builds in full is n.
-pub graph-checks : (t : Tables) (p : Two) (n : ℕ) → PairCount t p n → n ≤ PAIRS
-    → (ps : List Two) × (length ps ≡ n) × ((b : ℕ) → (b < n → build t p b ≡ ok cutShort) × (n ≤ b → build t p b ≡ ok (passed ps (b - n))))
-graph-checks t p n count few =
-    let (ps, l, e) = build-at t p n count few in
-    (ps, l, λ b. ((λ h. build-short t p n 0 ps e b (omega arith)), λ h. build-enough t p n 0 ps e b (b - n) (omega arith)))
+pub graph-checks : (lim : Limits) (t : Tables) (p : Two) (n : ℕ) → PairCount t p n → n ≤ lim .pairs
+    → (ps : List Two) × (length ps ≡ n) × ((b : ℕ) → (b < n → build lim t p b ≡ ok cutShort) × (n ≤ b → build lim t p b ≡ ok (passed ps (b - n))))
+graph-checks lim t p n count few =
+    let (ps, l, e) = build-at lim t p n count few in
+    (ps, l, λ b. ((λ h. build-short lim t p n 0 ps e b (omega arith)), λ h. build-enough lim t p n 0 ps e b (b - n) (omega arith)))
 
-module _ (t : Tables) (p : Two) where
+module _ (lim : Limits) (t : Tables) (p : Two) where
   -- ---- 6. least of height r
   -- After r finished rounds every pair of the graph has the quality of one of its derivations of height at most r, and every such derivation has at least as much.
-  pub least-after-rounds : (b c : ℕ) (ps : List Two) → build t p b ≡ ok (passed ps c) → (r : ℕ) (q : Two) → In q ps → LeastOf t r q (qualityAfter t ps r q)
-  least-after-rounds b c ps e r q i = (attained transport-theorems t ps (build-closed t p b c ps e) r q i, least transport-theorems t ps (build-closed t p b c ps e) r q i)
+  pub least-after-rounds : (b c : ℕ) (ps : List Two) → build lim t p b ≡ ok (passed ps c) → (r : ℕ) (q : Two) → In q ps → LeastOf t r q (qualityAfter t ps r q)
+  least-after-rounds b c ps e r q i = (attained transport-theorems t ps (build-closed lim t p b c ps e) r q i, least transport-theorems t ps (build-closed lim t p b c ps e) r q i)
 
   -- A run that reports r rounds has the quality of one of the queried pair's derivations of height at most r, and every such derivation has at least as much.
-  pub least-of-height : (b : ℕ) (o : Outcome) → runOf t p b ≡ ok o → LeastOf t (o .rounds) p (o .quality)
-  least-of-height b o e = go (run-ends t p b o e)
+  pub least-of-height : (b : ℕ) (o : Outcome) → runOf lim t p b ≡ ok o → LeastOf t (o .rounds) p (o .quality)
+  least-of-height b o e = go (run-ends lim t p b o e)
     where
-      go : Ends t p b o → LeastOf t (o .rounds) p (o .quality)
+      go : Ends lim t p b o → LeastOf t (o .rounds) p (o .quality)
       go (inBuilding root k z) = started-least t p root 1 o z
       go (inStarting root ps c k h z) = started-least t p root (length ps) o z
-      go (inRounds ps c d k h f) = rw (root-quality t p b c d ps o k f) (least-after-rounds b c ps k (o .rounds) p (root-in t p b c ps k))
+      go (inRounds ps c d k h f) = rw (root-quality lim t p b c d ps o k f) (least-after-rounds b c ps k (o .rounds) p (root-in lim t p b c ps k))
 
   -- ---- 7. a complete run is least among the derivations of every height
-  pub least-of-every-height : (b : ℕ) (o : Outcome) → runOf t p b ≡ ok o → o .complete ≡ true → (h : ℕ) (z : Two) → Derivation t h p z → o .quality ⊑ z
-  least-of-every-height b o e full h z d = go (run-ends t p b o e)
+  pub least-of-every-height : (b : ℕ) (o : Outcome) → runOf lim t p b ≡ ok o → o .complete ≡ true → (h : ℕ) (z : Two) → Derivation t h p z → o .quality ⊑ z
+  least-of-every-height b o e full h z d = go (run-ends lim t p b o e)
     where
       partial : (root : Interned) (n : ℕ) → o ≡ started t p root n → o .quality ⊑ z
       partial root n s = let (a, r, c, q) = started-says t p root n o s in absurd (clash (sym full ∙ c))
 
-      go : Ends t p b o → o .quality ⊑ z
+      go : Ends lim t p b o → o .quality ⊑ z
       go (inBuilding root k s) = partial root 1 s
       go (inStarting root ps c k l s) = partial root (length ps) s
       go (inRounds ps c m k l f) =
-          rw (root-quality t p b c m ps o k f) (least-every transport-theorems t ps (build-closed t p b c ps k) (o .rounds) (quiet-if-complete t ps m o f full) p (root-in t p b c ps k) h z d)
+          rw (root-quality lim t p b c m ps o k f) (least-every transport-theorems t ps (build-closed lim t p b c ps k) (o .rounds) (quiet-if-complete t ps m o f full) p (root-in lim t p b c ps k) h z d)
 
   -- ---- 8. the bound
   -- The round with index n, and every later one, changes nothing.
-  pub settled : (b c : ℕ) (ps : List Two) → build t p b ≡ ok (passed ps c) → (d : ℕ) → length ps ≤ d → qualitiesAfter (suc d) t ps ≡ qualitiesAfter d t ps
+  pub settled : (b c : ℕ) (ps : List Two) → build lim t p b ≡ ok (passed ps c) → (d : ℕ) → length ps ≤ d → qualitiesAfter (suc d) t ps ≡ qualitiesAfter d t ps
   settled b c ps e d h = quiet-same t ps d (go (changed t ps d) refl)
     where
       go : (x : Bool) → changed t ps d ≡ x → changed t ps d ≡ false
-      go true k = absurd (omega (arith, bound transport-theorems t ps (build-closed t p b c ps e) d k))
+      go true k = absurd (omega (arith, bound transport-theorems t ps (build-closed lim t p b c ps e) d k))
       go false k = k
 
   -- A run whose full graph has n pairs and that is not refused is complete with 2n + (n + 1)(n + 1) checks.
-  pub completes : (n : ℕ) → PairCount t p n → (b : ℕ) (o : Outcome) → 2 * n + (n + 1) * (n + 1) ≤ b → runOf t p b ≡ ok o → o .complete ≡ true
-  completes n count b o h e = go (run-ends t p b o e)
+  pub completes : (n : ℕ) → PairCount t p n → (b : ℕ) (o : Outcome) → 2 * n + (n + 1) * (n + 1) ≤ b → runOf lim t p b ≡ ok o → o .complete ≡ true
+  completes n count b o h e = go (run-ends lim t p b o e)
     where
-      go : Ends t p b o → o .complete ≡ true
-      go (inBuilding root k s) = absurd (omega (arith, build-cut t p n count b k))
-      go (inStarting root ps c k l s) = let (x, y) = build-passed t p n count b c ps k in absurd (omega arith)
+      go : Ends lim t p b o → o .complete ≡ true
+      go (inBuilding root k s) = absurd (omega (arith, build-cut lim t p n count b k))
+      go (inStarting root ps c k l s) = let (x, y) = build-passed lim t p n count b c ps k in absurd (omega arith)
       go (inRounds ps c m k l f) =
-          let (x, y) = build-passed t p n count b c ps k in
-          complete-if transport-theorems t ps m o (build-closed t p b c ps k) f (omega (arith, ap (λ (z : ℕ). suc z * suc z) x))
+          let (x, y) = build-passed lim t p n count b c ps k in
+          complete-if transport-theorems t ps m o (build-closed lim t p b c ps k) f (omega (arith, ap (λ (z : ℕ). suc z * suc z) x))
 
   -- ---- 9. budgets
   -- The longer of two runs is never above the shorter.
-  pub never-above : (b c : ℕ) (o u : Outcome) → b ≤ c → runOf t p b ≡ ok o → runOf t p c ≡ ok u → u .quality ⊑ o .quality
+  pub never-above : (b c : ℕ) (o u : Outcome) → b ≤ c → runOf lim t p b ≡ ok o → runOf lim t p c ≡ ok u → u .quality ⊑ o .quality
   never-above b c o u h e k =
       let (d, l, D) = least-of-height b o e .0 in
-      least-of-height c u k .1 (o .quality) (d, omega (arith, rounds-grow t p b c o u h e k), D)
+      least-of-height c u k .1 (o .quality) (d, omega (arith, rounds-grow lim t p b c o u h e k), D)
 
 -- Where the shorter is complete the longer is the same run: not refused, complete, and the same in all that it reports.
-pub stays-complete : (t : Tables) (p : Two) (b c : ℕ) (o : Outcome) → b ≤ c → runOf t p b ≡ ok o → o .complete ≡ true → runOf t p c ≡ ok o
-stays-complete t p b c o h e full = go (runOf t p b) e (run-later t p b c h)
+pub stays-complete : (lim : Limits) (t : Tables) (p : Two) (b c : ℕ) (o : Outcome) → b ≤ c → runOf lim t p b ≡ ok o → o .complete ≡ true → runOf lim t p c ≡ ok o
+stays-complete lim t p b c o h e full = go (runOf lim t p b) e (run-later lim t p b c h)
   where
-    go : (r : Res Outcome) → r ≡ ok o → Stays r (runOf t p c) → runOf t p c ≡ ok o
+    go : (r : Res Outcome) → r ≡ ok o → Stays r (runOf lim t p c) → runOf lim t p c ≡ ok o
     go (ok u) k s = let z : u ≡ o = ok-inj k in s (rw z full) ∙ k
     go (refused n) k s = s ∙ k
 
 -- So it has the same bytes.
-pub same-listing : (t : Tables) (p : Two) (b c : ℕ) (o u : Outcome) → b ≤ c → runOf t p b ≡ ok o → o .complete ≡ true → runOf t p c ≡ ok u → listingOf u ≡ listingOf o
-same-listing t p b c o u h e full k = ap (λ (z : Outcome). listingOf z) (ok-inj (sym k ∙ stays-complete t p b c o h e full))
+pub same-listing : (lim : Limits) (t : Tables) (p : Two) (b c : ℕ) (o u : Outcome) → b ≤ c → runOf lim t p b ≡ ok o → o .complete ≡ true → runOf lim t p c ≡ ok u → listingOf u ≡ listingOf o
+same-listing lim t p b c o u h e full k = ap (λ (z : Outcome). listingOf z) (ok-inj (sym k ∙ stays-complete lim t p b c o h e full))
 
 -- So has the call of `merge` as a whole: the answer, the listing's bytes or refusal 14, is the same.
-pub same-answer : (fit : Bool) (image : List ℕ) (left right b c room : ℕ) (t : Tables) (o : Outcome) → imageOf image ≡ ok t → b ≤ c → runOf t (left, right) b ≡ ok o → o .complete ≡ true
-    → mergeOf fit image left right c room ≡ mergeOf fit image left right b room
-unfolding mergeOf
-same-answer fit image left right b c room t o i h e full = rw (i, stays-complete t (left, right) b c o h e full, e) refl
+pub same-answer : (lim : Limits) (fit : Bool) (image : List ℕ) (left right b c room : ℕ) (t : Tables) (o : Outcome) → imageOf image ≡ ok t → b ≤ c → runOf lim t (left, right) b ≡ ok o → o .complete ≡ true
+    → mergeUnder lim fit image left right c room ≡ mergeUnder lim fit image left right b room
+unfolding mergeUnder
+same-answer lim fit image left right b c room t o i h e full = rw (i, stays-complete lim t (left, right) b c o h e full, e) refl
 
 -- ---- what is reported
 -- "A run cut short in building reports 1 pair, any other run n."
-pub pairs-reported : (t : Tables) (p : Two) (n : ℕ) → PairCount t p n → (b : ℕ) (o : Outcome) → runOf t p b ≡ ok o → (b < n → o .pairs ≡ 1) × (n ≤ b → o .pairs ≡ n)
-pairs-reported t p n count b o e = go (run-ends t p b o e)
+pub pairs-reported : (lim : Limits) (t : Tables) (p : Two) (n : ℕ) → PairCount t p n → (b : ℕ) (o : Outcome) → runOf lim t p b ≡ ok o → (b < n → o .pairs ≡ 1) × (n ≤ b → o .pairs ≡ n)
+pairs-reported lim t p n count b o e = go (run-ends lim t p b o e)
   where
-    go : Ends t p b o → (b < n → o .pairs ≡ 1) × (n ≤ b → o .pairs ≡ n)
-    go (inBuilding root k s) = let l = build-cut t p n count b k in ((λ h. started-says t p root 1 o s .0), λ h. absurd (omega arith))
-    go (inStarting root ps c k l s) = let (x, y) = build-passed t p n count b c ps k in ((λ h. absurd (omega arith)), λ h. started-says t p root (length ps) o s .0 ∙ x)
-    go (inRounds ps c m k l f) = let (x, y) = build-passed t p n count b c ps k in ((λ h. absurd (omega arith)), λ h. f .pairs ∙ x)
+    go : Ends lim t p b o → (b < n → o .pairs ≡ 1) × (n ≤ b → o .pairs ≡ n)
+    go (inBuilding root k s) = let l = build-cut lim t p n count b k in ((λ h. started-says t p root 1 o s .0), λ h. absurd (omega arith))
+    go (inStarting root ps c k l s) = let (x, y) = build-passed lim t p n count b c ps k in ((λ h. absurd (omega arith)), λ h. started-says t p root (length ps) o s .0 ∙ x)
+    go (inRounds ps c m k l f) = let (x, y) = build-passed lim t p n count b c ps k in ((λ h. absurd (omega arith)), λ h. f .pairs ∙ x)
 
 -- The rounds of a run with b checks that gets past its starting terms, where ps is its full graph and n its number of pairs.
 pub record Finished (t : Tables) (ps : List Two) (n b : ℕ) (o : Outcome) : Type 0 where
@@ -142,16 +142,16 @@ pub record Finished (t : Tables) (ps : List Two) (n b : ℕ) (o : Outcome) : Typ
   -- a run is partial only where the checks of the next round do not all pass
   pub partial : o .complete ≡ false → b < 2 * n + (o .rounds + 1) * (n + 1)
 
-pub rounds-finished : (t : Tables) (p : Two) (B C : ℕ) (ps : List Two) → build t p B ≡ ok (passed ps C) → (b : ℕ) (o : Outcome) → 2 * length ps ≤ b → runOf t p b ≡ ok o → Finished t ps (length ps) b o
-rounds-finished t p B C ps g b o h e = go (run-ends t p b o e)
+pub rounds-finished : (lim : Limits) (t : Tables) (p : Two) (B C : ℕ) (ps : List Two) → build lim t p B ≡ ok (passed ps C) → (b : ℕ) (o : Outcome) → 2 * length ps ≤ b → runOf lim t p b ≡ ok o → Finished t ps (length ps) b o
+rounds-finished lim t p B C ps g b o h e = go (run-ends lim t p b o e)
   where
     count : PairCount t p (length ps)
-    count = (ps, build-whole t p B C ps g, refl)
+    count = (ps, build-whole lim t p B C ps g, refl)
 
-    go : Ends t p b o → Finished t ps (length ps) b o
-    go (inBuilding root k s) = absurd (omega (arith, build-cut t p (length ps) count b k))
-    go (inStarting root qs d k l s) = let (x, y) = build-passed t p (length ps) count b d qs k in absurd (omega arith)
-    go (inRounds qs d m k l f) = by (rw (build-same t p b d B C qs ps k g) at f) (build-passed t p (length ps) count b d qs k)
+    go : Ends lim t p b o → Finished t ps (length ps) b o
+    go (inBuilding root k s) = absurd (omega (arith, build-cut lim t p (length ps) count b k))
+    go (inStarting root qs d k l s) = let (x, y) = build-passed lim t p (length ps) count b d qs k in absurd (omega arith)
+    go (inRounds qs d m k l f) = by (rw (build-same lim t p b d B C qs ps k g) at f) (build-passed lim t p (length ps) count b d qs k)
       where
         by : Ended t ps m o → (length qs ≡ length ps) × (b ≡ length ps + d) → Finished t ps (length ps) b o
         by f (n, x) = record {
@@ -178,11 +178,11 @@ abbrev Earlier : Tables → List Two → ℕ → Type 0
 Earlier t ps r = (k : ℕ) → k < r → qualitiesAfter (suc k) t ps ≢ qualitiesAfter k t ps
 
 -- There is one, and its index is n at most.
-pub first-quiet : (t : Tables) (p : Two) (b c : ℕ) (ps : List Two) → build t p b ≡ ok (passed ps c) → (R : ℕ) × (R ≤ length ps) × FirstQuiet t ps R
-first-quiet t p b c ps e = go (length ps) 0 (omega arith) (λ r h. absurd (omega arith))
+pub first-quiet : (lim : Limits) (t : Tables) (p : Two) (b c : ℕ) (ps : List Two) → build lim t p b ≡ ok (passed ps c) → (R : ℕ) × (R ≤ length ps) × FirstQuiet t ps R
+first-quiet lim t p b c ps e = go (length ps) 0 (omega arith) (λ r h. absurd (omega arith))
   where
     go : (d r : ℕ) → r + d ≡ length ps → Earlier t ps r → (R : ℕ) × (R ≤ length ps) × FirstQuiet t ps R
-    go zero r z h = (r, omega arith, record { earlier = h; quiet = settled t p b c ps e r (omega arith) })
+    go zero r z h = (r, omega arith, record { earlier = h; quiet = settled lim t p b c ps e r (omega arith) })
     go (suc d) r z h = by (changed t ps r) refl (λ g. go d (suc r) (omega arith) g)
       where
         by : (x : Bool) → changed t ps r ≡ x → (Earlier t ps (suc r) → (R : ℕ) × (R ≤ length ps) × FirstQuiet t ps R) → (R : ℕ) × (R ≤ length ps) × FirstQuiet t ps R
@@ -200,26 +200,26 @@ pub record Reported (t : Tables) (p : Two) (ps : List Two) (n R b : ℕ) (o : Ou
   -- the quality is the queried pair's after the rounds reported
   pub quality : o .quality ≡ qualityAfter t ps (o .rounds) p
 
-pub reported : (t : Tables) (p : Two) (B C : ℕ) (ps : List Two) → build t p B ≡ ok (passed ps C) → (R : ℕ) → FirstQuiet t ps R
-    → (b : ℕ) (o : Outcome) → runOf t p b ≡ ok o → Reported t p ps (length ps) R b o
-reported t p B C ps g R q b o e = go (run-ends t p b o e)
+pub reported : (lim : Limits) (t : Tables) (p : Two) (B C : ℕ) (ps : List Two) → build lim t p B ≡ ok (passed ps C) → (R : ℕ) → FirstQuiet t ps R
+    → (b : ℕ) (o : Outcome) → runOf lim t p b ≡ ok o → Reported t p ps (length ps) R b o
+reported lim t p B C ps g R q b o e = go (run-ends lim t p b o e)
   where
     count : PairCount t p (length ps)
-    count = (ps, build-whole t p B C ps g, refl)
+    count = (ps, build-whole lim t p B C ps g, refl)
 
     cut : (root : Interned) (n : ℕ) → o ≡ started t p root n → o .quality ≡ qualityAfter t ps (o .rounds) p
-    cut root n s = let (x, r, c, k) = started-says t p root n o s in rw (r, k) (sym (q-start t ps p (root-in t p B C ps g)))
+    cut root n s = let (x, r, c, k) = started-says t p root n o s in rw (r, k) (sym (q-start t ps p (root-in lim t p B C ps g)))
 
-    go : Ends t p b o → Reported t p ps (length ps) R b o
+    go : Ends lim t p b o → Reported t p ps (length ps) R b o
     go (inBuilding root k s) =
-        let l = build-cut t p (length ps) count b k in
+        let l = build-cut lim t p (length ps) count b k in
         let (x, r, c, z) = started-says t p root 1 o s in
         record { cutInBuilding = λ i. (x, r, c); cutInStarting = λ i. absurd (omega arith); pastStarting = λ i. absurd (omega arith); quality = cut root 1 s }
     go (inStarting root qs d k h s) =
-        let (n, l) = build-passed t p (length ps) count b d qs k in
+        let (n, l) = build-passed lim t p (length ps) count b d qs k in
         let (x, r, c, z) = started-says t p root (length qs) o s in
         record { cutInBuilding = λ i. absurd (omega arith); cutInStarting = λ i j. (x ∙ n, r, c); pastStarting = λ i. absurd (omega arith); quality = cut root (length qs) s }
-    go (inRounds qs d m k l f) = by (rw (build-same t p b d B C qs ps k g) at f) (build-passed t p (length ps) count b d qs k)
+    go (inRounds qs d m k l f) = by (rw (build-same lim t p b d B C qs ps k g) at f) (build-passed lim t p (length ps) count b d qs k)
       where
         by : Ended t ps m o → (length qs ≡ length ps) × (b ≡ length ps + d) → Reported t p ps (length ps) R b o
         by f (n, x) =
@@ -229,23 +229,23 @@ reported t p B C ps g R q b o e = go (run-ends t p b o e)
               cutInBuilding = λ i. absurd (omega arith);
               cutInStarting = λ i j. absurd (omega arith);
               pastStarting = λ i. (f .pairs, rw (left, add-one (length ps)) u, ((λ w. omega (arith, v .0 w)), λ w. v .1 (omega arith)));
-              quality = root-quality t p B C m ps o g f;
+              quality = root-quality lim t p B C m ps o g f;
             }
 
 -- ---- refused runs
 -- A refused run stays refused, by the same number: 12 and 13 are ends as any other.
-pub stays-refused : (t : Tables) (p : Two) (b c k : ℕ) → b ≤ c → runOf t p b ≡ refused k → runOf t p c ≡ refused k
-stays-refused t p b c k h e = go (runOf t p b) e (run-later t p b c h)
+pub stays-refused : (lim : Limits) (t : Tables) (p : Two) (b c k : ℕ) → b ≤ c → runOf lim t p b ≡ refused k → runOf lim t p c ≡ refused k
+stays-refused lim t p b c k h e = go (runOf lim t p b) e (run-later lim t p b c h)
   where
-    go : (r : Res Outcome) → r ≡ refused k → Stays r (runOf t p c) → runOf t p c ≡ refused k
+    go : (r : Res Outcome) → r ≡ refused k → Stays r (runOf lim t p c) → runOf lim t p c ≡ refused k
     go (ok u) z s = absurd (refused-ok (sym z))
     go (refused n) z s = s ∙ z
 
 -- A run is refused by 12, and then its pairs are more than 4,096; or by 13.
-pub refused-by : (t : Tables) (p : Two) (n : ℕ) → PairCount t p n → (b k : ℕ) → runOf t p b ≡ refused k → ((k ≡ 12) × (PAIRS < n)) ⊎ (k ≡ 13)
-refused-by t p n count b k e = elim (run-refused t p b k e) [ inl x ↦ let (z, (ps, s, l)) = x in inl (z, omega (arith, some-count t p n count ps s)) | inr x ↦ inr x ]
+pub refused-by : (lim : Limits) (t : Tables) (p : Two) (n : ℕ) → PairCount t p n → (b k : ℕ) → runOf lim t p b ≡ refused k → ((k ≡ 12) × (lim .pairs < n)) ⊎ (k ≡ 13)
+refused-by lim t p n count b k e = elim (run-refused lim t p b k e) [ inl x ↦ let (z, (ps, s, l)) = x in inl (z, omega (arith, some-count t p n count ps s)) | inr x ↦ inr x ]
 
 -- With more than 4,096 pairs every run with 4,096 checks is refused: by 12, unless the pool was too small for the root's starting term.
-pub refused-beyond : (t : Tables) (p : Two) (n : ℕ) → PairCount t p n → PAIRS < n → (b : ℕ) (root : Interned) → PAIRS ≤ b → startingTerm t [] p ≡ ok root → runOf t p b ≡ refused 12
+pub refused-beyond : (lim : Limits) (t : Tables) (p : Two) (n : ℕ) → PairCount t p n → lim .pairs < n → (b : ℕ) (root : Interned) → lim .pairs ≤ b → startingTerm lim t [] p ≡ ok root → runOf lim t p b ≡ refused 12
 unfolding runOf
-refused-beyond t p n count l b root h e = rw (e, build-over t p n b count l h) refl
+refused-beyond lim t p n count l b root h e = rw (e, build-over lim t p n b count l h) refl

@@ -8,8 +8,8 @@ use native.Mathlib.Omega.{arith}
 use lib.Dec.{ltb}
 use lib.ListN.{length, length-append}
 use borrow.Author.Tests.{ltb-true, ltb-false}
-use Rattle.spec.specs.Bytes.{pick, any, Two, sameTwo, Res, ok, refused, _>>=_}
-use Rattle.spec.specs.Graph.{PAIRS, enterAll, enter}
+use Rattle.spec.specs.Bytes.{Limits, pick, any, Two, sameTwo, Res, ok, refused, _>>=_}
+use Rattle.spec.specs.Graph.{enterAll, enter}
 use Rattle.spec.specs.Meaning.{In, here, there}
 use Rattle.lgg.specs.Lists.{in-nil, in-cons, in-left, in-right, in-append, is-in, not-in, Distinct, distinct-last}
 
@@ -87,39 +87,39 @@ grow (p ∷ l) ps = go (any (sameTwo p) ps) refl (λ qs. grow l qs)
 
 -- ---- with the limit
 -- a pair beyond the limit would be entered: then there are more than the limit
-pub record Overfull (ps l : List Two) : Type 0 where
+pub record Overfull (lim : Limits) (ps l : List Two) : Type 0 where
   pub pairs : List Two
   pub some : (x : Two) → In x pairs → In x ps ⊎ In x l
   pub once : Distinct ps → Distinct pairs
-  pub many : PAIRS < length pairs
+  pub many : lim .pairs < length pairs
 
-pub data Entered (ps l : List Two) : Res (List Two) → Type 0 where
-  grown : {qs : List Two} → Grown ps l qs → (length ps ≤ PAIRS → length qs ≤ PAIRS) → Entered ps l (ok qs)
-  overfull : {n : ℕ} → n ≡ 12 → Overfull ps l → Entered ps l (refused n)
+pub data Entered (lim : Limits) (ps l : List Two) : Res (List Two) → Type 0 where
+  grown : {qs : List Two} → Grown ps l qs → (length ps ≤ lim .pairs → length qs ≤ lim .pairs) → Entered lim ps l (ok qs)
+  overfull : {n : ℕ} → n ≡ 12 → Overfull lim ps l → Entered lim ps l (refused n)
 
-pub enter-says : (ps : List Two) (p : Two) → Entered ps (p ∷ []) (enter ps p)
+pub enter-says : (lim : Limits) (ps : List Two) (p : Two) → Entered lim ps (p ∷ []) (enter lim ps p)
 unfolding enter
-enter-says ps p = go (any (sameTwo p) ps) refl (ltb (length ps) PAIRS) refl
+enter-says lim ps p = go (any (sameTwo p) ps) refl (ltb (length ps) (lim .pairs)) refl
   where
-    go : (x : Bool) → any (sameTwo p) ps ≡ x → (y : Bool) → ltb (length ps) PAIRS ≡ y → Entered ps (p ∷ []) (pick x (ok ps) (pick y (ok (ps ++ (p ∷ []))) (refused 12)))
+    go : (x : Bool) → any (sameTwo p) ps ≡ x → (y : Bool) → ltb (length ps) (lim .pairs) ≡ y → Entered lim ps (p ∷ []) (pick x (ok ps) (pick y (ok (ps ++ (p ∷ []))) (refused 12)))
     go true a y b = grown (grown-old ps p (is-in p ps a)) (λ h. h)
-    go false a true b = grown (grown-new ps p (not-in p ps a)) (λ h. omega (arith, ltb-true (length ps) PAIRS b, length-append ps (p ∷ [])))
+    go false a true b = grown (grown-new ps p (not-in p ps a)) (λ h. omega (arith, ltb-true (length ps) (lim .pairs) b, length-append ps (p ∷ [])))
     go false a false b = overfull refl (record {
       pairs = ps ++ (p ∷ []);
       some = λ x i. in-append ps i;
       once = λ d. distinct-last ps p d (not-in p ps a);
-      many = omega (arith, ltb-false (length ps) PAIRS b, length-append ps (p ∷ []));
+      many = omega (arith, ltb-false (length ps) (lim .pairs) b, length-append ps (p ∷ []));
     })
 
-pub enterAll-says : (l ps : List Two) → Entered ps l (enterAll ps l)
+pub enterAll-says : (lim : Limits) (l ps : List Two) → Entered lim ps l (enterAll lim ps l)
 unfolding enterAll
-enterAll-says [] ps = grown (grown-none ps) (λ h. h)
-enterAll-says (p ∷ l) ps = go (enter ps p) (enter-says ps p) (λ qs. enterAll-says l qs)
+enterAll-says lim [] ps = grown (grown-none ps) (λ h. h)
+enterAll-says lim (p ∷ l) ps = go (enter lim ps p) (enter-says lim ps p) (λ qs. enterAll-says lim l qs)
   where
-    next : (qs : List Two) → Grown ps (p ∷ []) qs → (length ps ≤ PAIRS → length qs ≤ PAIRS) → (r : Res (List Two)) → Entered qs l r → Entered ps (p ∷ l) r
+    next : (qs : List Two) → Grown ps (p ∷ []) qs → (length ps ≤ lim .pairs → length qs ≤ lim .pairs) → (r : Res (List Two)) → Entered lim qs l r → Entered lim ps (p ∷ l) r
     next qs g f (ok rs) (grown h k) = grown (grown-then ps p l qs rs g h) (λ b. k (f b))
     next qs g f (refused n) (overfull e o) = overfull e (record { pairs = o .pairs; some = λ x i. wider ps p l qs g x (o .some x i); once = λ d. o .once (g .apart d); many = o .many })
 
-    go : (r : Res (List Two)) → Entered ps (p ∷ []) r → ((qs : List Two) → Entered qs l (enterAll qs l)) → Entered ps (p ∷ l) (r >>= λ qs. enterAll qs l)
-    go (ok qs) (grown g f) ih = next qs g f (enterAll qs l) (ih qs)
+    go : (r : Res (List Two)) → Entered lim ps (p ∷ []) r → ((qs : List Two) → Entered lim qs l (enterAll lim qs l)) → Entered lim ps (p ∷ l) (r >>= λ qs. enterAll lim qs l)
+    go (ok qs) (grown g f) ih = next qs g f (enterAll lim qs l) (ih qs)
     go (refused n) (overfull e o) ih = overfull e (record { pairs = o .pairs; some = λ x i. widen ps p l x (o .some x i); once = o .once; many = o .many })

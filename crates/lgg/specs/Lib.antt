@@ -1,3 +1,5 @@
+pub mod Limits
+pub mod Cells
 pub mod Lists
 pub mod Results
 pub mod Quality
@@ -21,6 +23,7 @@ pub mod BagPlan
 pub mod Pool
 pub mod PoolTrees
 pub mod PoolIntern
+pub mod PoolLimits
 pub mod PoolSort
 pub mod BestMembers
 pub mod Best

@@ -7,7 +7,7 @@ use native.Mathlib.Omega.{arith}
 use lib.Dec.{eqb}
 use borrow.Author.Tests.{eqb-true, eqb-false, eq-eqb, ne-eqb}
 use lib.ListN.{length}
-use Rattle.spec.specs.Bytes.{Two, pick, ok}
+use Rattle.spec.specs.Bytes.{Limits, Two, pick, ok}
 use Rattle.spec.specs.Image.{Tables, kindOf, isCommutative}
 use Rattle.spec.specs.Pool.{Pool, joinTo, joinRuns, Interned, isGreater, structuralCmp, insertRun, sortRuns}
 use Rattle.spec.specs.Round.{Choice, stay, act, planRuns, actionTerm, choiceTerm}
@@ -108,19 +108,19 @@ abbrev pub SamePlaces : Pool → Pool → (Two → ℕ) → (Two → ℕ) → Ch
 SamePlaces p q of of′ stay = Unit
 SamePlaces p q of of′ (act a) = (c : Two) → In c (a .places) → Same p q (of c) (of′ c)
 
-action-tree : (t : Tables) (p : Pool) → PoolValid p → (of : Two → ℕ) (o : ℕ) (ps : List Two) (x : List ℕ) (r : Interned) → ((c : Two) → In c ps → of c < length p) → actionTerm t p o (planRuns of ps x) ≡ ok r
+action-tree : (lim : Limits) (t : Tables) (p : Pool) → PoolValid p → (of : Two → ℕ) (o : ℕ) (ps : List Two) (x : List ℕ) (r : Interned) → ((c : Two) → In c ps → of c < length p) → actionTerm lim t p o (planRuns of ps x) ≡ ok r
     → treeAt (r .pool) (r .term) ≡ node o (runsOf (treesAfter [] p) (joinRuns (actionRuns t p o (planRuns of ps x))))
-action-tree t p v of o ps x r h e = op-means p o (actionRuns t p o (planRuns of ps x)) r (action-enters t p v o (planRuns of ps x) r (plan-below of (length p) ps x h) e) .0
+action-tree lim t p v of o ps x r h e = op-means p o (actionRuns t p o (planRuns of ps x)) r (action-enters lim t p v o (planRuns of ps x) r (plan-below of (length p) ps x h) e) .0
 
 -- A choice gives the same tree over any two valid pools in which its places mean the same trees.
-pub choice-anywhere : (t : Tables) (p q : Pool) → PoolValid p → PoolValid q → (of of′ : Two → ℕ) (old old′ : ℕ) (ch : Choice) → Same p q old old′ → SamePlaces p q of of′ ch
-    → (r s : Interned) → choiceTerm t of p old ch ≡ ok r → choiceTerm t of′ q old′ ch ≡ ok s → treeAt (r .pool) (r .term) ≡ treeAt (s .pool) (s .term)
+pub choice-anywhere : (lim : Limits) (t : Tables) (p q : Pool) → PoolValid p → PoolValid q → (of of′ : Two → ℕ) (old old′ : ℕ) (ch : Choice) → Same p q old old′ → SamePlaces p q of of′ ch
+    → (r s : Interned) → choiceTerm lim t of p old ch ≡ ok r → choiceTerm lim t of′ q old′ ch ≡ ok s → treeAt (r .pool) (r .term) ≡ treeAt (s .pool) (s .term)
 unfolding choiceTerm
-choice-anywhere t p q v w of of′ old old′ stay S P r s e f = rw (← ok-inj e, ← ok-inj f) (S .tree)
-choice-anywhere t p q v w of of′ old old′ (act a) S P r s e f =
-    action-tree t p v of (a .op) (a .places) (a .counts) r (λ c i. P c i .left) e
+choice-anywhere lim t p q v w of of′ old old′ stay S P r s e f = rw (← ok-inj e, ← ok-inj f) (S .tree)
+choice-anywhere lim t p q v w of of′ old old′ (act a) S P r s e f =
+    action-tree lim t p v of (a .op) (a .places) (a .counts) r (λ c i. P c i .left) e
     ∙ ap (node (a .op)) (runs-same p q v w (join-alike p q v w (picked p q v w (isCommutative (kindOf t (a .op))) (plan-alike p q v w of of′ (a .places) (a .counts) P))))
-    ∙ sym (action-tree t q w of′ (a .op) (a .places) (a .counts) s (λ c i. P c i .right) f)
+    ∙ sym (action-tree lim t q w of′ (a .op) (a .places) (a .counts) s (λ c i. P c i .right) f)
 
 -- the places that a choice uses stand in the pool
 abbrev pub PlacesWithin : Pool → (Two → ℕ) → Choice → Type 0
@@ -128,7 +128,7 @@ PlacesWithin p of stay = Unit
 PlacesWithin p of (act a) = (c : Two) → In c (a .places) → of c < length p
 
 -- So over a pool and over a larger one: what else has been interned changes nothing.
-pub choice-larger : (t : Tables) (p q : Pool) → PoolValid p → PoolValid q → Extends p q → (of : Two → ℕ) (old : ℕ) (ch : Choice) → old < length p → PlacesWithin p of ch
-    → (r s : Interned) → choiceTerm t of p old ch ≡ ok r → choiceTerm t of q old ch ≡ ok s → treeAt (r .pool) (r .term) ≡ treeAt (s .pool) (s .term)
-choice-larger t p q v w g of old stay h k = choice-anywhere t p q v w of of old old stay (same-extends g old h) tt
-choice-larger t p q v w g of old (act a) h k = choice-anywhere t p q v w of of old old (act a) (same-extends g old h) (λ c i. same-extends g (of c) (k c i))
+pub choice-larger : (lim : Limits) (t : Tables) (p q : Pool) → PoolValid p → PoolValid q → Extends p q → (of : Two → ℕ) (old : ℕ) (ch : Choice) → old < length p → PlacesWithin p of ch
+    → (r s : Interned) → choiceTerm lim t of p old ch ≡ ok r → choiceTerm lim t of q old ch ≡ ok s → treeAt (r .pool) (r .term) ≡ treeAt (s .pool) (s .term)
+choice-larger lim t p q v w g of old stay h k = choice-anywhere lim t p q v w of of old old stay (same-extends g old h) tt
+choice-larger lim t p q v w g of old (act a) h k = choice-anywhere lim t p q v w of of old old (act a) (same-extends g old h) (λ c i. same-extends g (of c) (k c i))

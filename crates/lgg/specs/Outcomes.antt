@@ -8,7 +8,7 @@ use native.Mathlib.Omega.{arith}
 use native.Mathlib.Nat.{le-refl, mod-lt, div-add-mod, mul-le-mul-right, lt-of-not-le}
 use native.Mathlib.Decide.{decLe}
 use lib.ListN.{length, getD}
-use Rattle.spec.specs.Bytes.{place, Two, ok, passed}
+use Rattle.spec.specs.Bytes.{Limits, place, Two, ok, passed}
 use Rattle.spec.specs.Image.{Tables}
 use Rattle.spec.specs.Graph.{build}
 use Rattle.spec.specs.Pool.{Interned}
@@ -28,11 +28,11 @@ first-place : (p : Two) (ps qs : List Two) → Starts (p ∷ []) ps → getD qs 
 unfolding place
 first-place p ps qs (rest, e) = rw e (rw (same-refl p, place) refl)
 
-pub root-in : (t : Tables) (p : Two) (b c : ℕ) (ps : List Two) → build t p b ≡ ok (passed ps c) → In p ps
-root-in t p b c ps e = let s = build-first t p b c ps e in rw (s .1) here
+pub root-in : (lim : Limits) (t : Tables) (p : Two) (b c : ℕ) (ps : List Two) → build lim t p b ≡ ok (passed ps c) → In p ps
+root-in lim t p b c ps e = let s = build-first lim t p b c ps e in rw (s .1) here
 
-pub root-quality : (t : Tables) (p : Two) (b c d : ℕ) (ps : List Two) (o : Outcome) → build t p b ≡ ok (passed ps c) → Ended t ps d o → o .quality ≡ qualityAfter t ps (o .rounds) p
-root-quality t p b c d ps o e f = f .quality ∙ first-place p ps (qualitiesAfter (o .rounds) t ps) (build-first t p b c ps e)
+pub root-quality : (lim : Limits) (t : Tables) (p : Two) (b c d : ℕ) (ps : List Two) (o : Outcome) → build lim t p b ≡ ok (passed ps c) → Ended t ps d o → o .quality ≡ qualityAfter t ps (o .rounds) p
+root-quality lim t p b c d ps o e f = f .quality ∙ first-place p ps (qualitiesAfter (o .rounds) t ps) (build-first lim t p b c ps e)
 
 -- ---- a run cut short before its rounds
 pub started-says : (t : Tables) (p : Two) (root : Interned) (n : ℕ) (o : Outcome) → o ≡ started t p root n → (o .pairs ≡ n) × (o .rounds ≡ 0) × (o .complete ≡ false) × (o .quality ≡ startingQuality t p)
@@ -105,29 +105,29 @@ rounds-reported t ps R b o earlier quiet f = go (f .status)
     )
 
 -- ---- two runs: the longer one reports at least as many rounds
-pub rounds-grow : (t : Tables) (p : Two) (b c : ℕ) (o u : Outcome) → b ≤ c → runOf t p b ≡ ok o → runOf t p c ≡ ok u → o .rounds ≤ u .rounds
-rounds-grow t p b c o u h e k = go (run-ends t p b o e) (run-ends t p c u k)
+pub rounds-grow : (lim : Limits) (t : Tables) (p : Two) (b c : ℕ) (o u : Outcome) → b ≤ c → runOf lim t p b ≡ ok o → runOf lim t p c ≡ ok u → o .rounds ≤ u .rounds
+rounds-grow lim t p b c o u h e k = go (run-ends lim t p b o e) (run-ends lim t p c u k)
   where
     none : (root : Interned) (n : ℕ) → o ≡ started t p root n → o .rounds ≤ u .rounds
     none root n s = rw (started-says t p root n o s .1) zero-le
 
-    count : (ps : List Two) (d : ℕ) → build t p b ≡ ok (passed ps d) → PairCount t p (length ps)
-    count ps d i = (ps, build-whole t p b d ps i, refl)
+    count : (ps : List Two) (d : ℕ) → build lim t p b ≡ ok (passed ps d) → PairCount t p (length ps)
+    count ps d i = (ps, build-whole lim t p b d ps i, refl)
 
-    go : Ends t p b o → Ends t p c u → o .rounds ≤ u .rounds
+    go : Ends lim t p b o → Ends lim t p c u → o .rounds ≤ u .rounds
     go (inBuilding root i s) j = none root 1 s
     go (inStarting root ps d i l s) j = none root (length ps) s
-    go (inRounds ps d m i l f) (inBuilding root j s) = absurd (omega (arith, build-cut t p (length ps) (count ps d i) c j, build-passed t p (length ps) (count ps d i) b d ps i .1))
+    go (inRounds ps d m i l f) (inBuilding root j s) = absurd (omega (arith, build-cut lim t p (length ps) (count ps d i) c j, build-passed lim t p (length ps) (count ps d i) b d ps i .1))
     go (inRounds ps d m i l f) (inStarting root qs d′ j l′ s) =
-        let (x, y) = build-passed t p (length ps) (count ps d i) c d′ qs j in
-        absurd (omega (arith, build-passed t p (length ps) (count ps d i) b d ps i .1))
-    go (inRounds ps d m i l f) (inRounds qs d′ m′ j l′ g) = by (sym (build-same t p b d c d′ ps qs i j)) (g .status)
+        let (x, y) = build-passed lim t p (length ps) (count ps d i) c d′ qs j in
+        absurd (omega (arith, build-passed lim t p (length ps) (count ps d i) b d ps i .1))
+    go (inRounds ps d m i l f) (inRounds qs d′ m′ j l′ g) = by (sym (build-same lim t p b d c d′ ps qs i j)) (g .status)
       where
         by : qs ≡ ps → Status t qs m′ u → o .rounds ≤ u .rounds
         by z (inl (x, y, w)) = elim (decLe (o .rounds) (u .rounds)) [ yes r ↦ r | no r ↦ absurd (clash (sym (f .moved (u .rounds) (lt-of-not-le r)) ∙ rw z at y)) ]
         by z (inr (x, y)) =
             let n : length qs ≡ length ps = ap (λ (w : List Two). length w) z in
-            let longer : m ≤ m′ = omega (arith, build-passed t p (length ps) (count ps d i) b d ps i .1, build-passed t p (length ps) (count ps d i) c d′ qs j .1) in
+            let longer : m ≤ m′ = omega (arith, build-passed lim t p (length ps) (count ps d i) b d ps i .1, build-passed lim t p (length ps) (count ps d i) c d′ qs j .1) in
             elim (decLe (o .rounds) (u .rounds)) [
               | yes r ↦ r
               | no r ↦ absurd (omega (arith, f .enough, mul-le-mul-right (suc (length ps)) (lt-of-not-le r), ap (λ (w : ℕ). suc (u .rounds) * suc w) n))

@@ -9,8 +9,8 @@ use native.Mathlib.Omega.{arith}
 use lib.Dec.{ltb, leb, eqb}
 use borrow.Author.Tests.{eqb-true, eq-eqb, ltb-true, ltb-false, lt-ltb}
 use lib.ListN.{length, getD, length-append, List·getD-append}
-use Rattle.spec.specs.Bytes.{pick, both, place, Two, sameTwo, sameTwos, ok, refused}
-use Rattle.spec.specs.Pool.{Node, Pool, nodeAt, TERMS, RUNS, sameNode, runCount, Interned, interned, intern}
+use Rattle.spec.specs.Bytes.{Limits, pick, both, place, Two, sameTwo, sameTwos, ok, refused}
+use Rattle.spec.specs.Pool.{Node, Pool, nodeAt, sameNode, runCount, Interned, interned, intern}
 use Rattle.spec.specs.Meaning.{treeOf, treesAfter, treeAt}
 use Rattle.lgg.specs.Pool.{NodeValid, PoolValid, getD-last, tree-last, tree-grows}
 use Rattle.lgg.specs.PoolTrees.{node-ext, tree-is}
@@ -140,9 +140,9 @@ added p n v w absent = record {
         go (inr a) (inr b) = v .apart i j a b (sym (old i a) ∙ e ∙ old j b)
 
 -- Interning keeps the pool valid and gives a number that means the node.
-pub intern-enters : (p : Pool) (n : Node) (r : Interned) → PoolValid p → NodeValid (length p) n → intern p n ≡ ok r → Interns p n r
+pub intern-enters : (lim : Limits) (p : Pool) (n : Node) (r : Interned) → PoolValid p → NodeValid (length p) n → intern lim p n ≡ ok r → Interns p n r
 unfolding intern
-intern-enters p n r v w e = go (ltb (place (sameNode n) p) (length p)) refl (both (ltb (length p) TERMS) (leb (runCount p + length (n .runs)) RUNS)) e
+intern-enters lim p n r v w e = go (ltb (place (sameNode n) p) (length p)) refl (both (ltb (length p) (lim .terms)) (leb (runCount p + length (n .runs)) (lim .runs))) e
   where
     go : (a : Bool) → ltb (place (sameNode n) p) (length p) ≡ a → (b : Bool) → pick a (ok (interned p (place (sameNode n) p))) (pick b (ok (interned (p ++ (n ∷ [])) (length p))) (refused 13)) ≡ ok r → Interns p n r
     go true h b e =
@@ -153,9 +153,9 @@ intern-enters p n r v w e = go (ltb (place (sameNode n) p) (length p)) refl (bot
     go false h false e = absurd (refused-ok e)
 
 -- Interning a node that is there gives its number.
-pub intern-there : (p : Pool) (n : Node) (a : ℕ) → PoolValid p → a < length p → nodeAt p a ≡ n → intern p n ≡ ok (interned p a)
+pub intern-there : (lim : Limits) (p : Pool) (n : Node) (a : ℕ) → PoolValid p → a < length p → nodeAt p a ≡ n → intern lim p n ≡ ok (interned p a)
 unfolding intern
-intern-there p n a v h e =
+intern-there lim p n a v h e =
     let f = place-first (sameNode n) noNode p a h (rw e (node-same n)) in
     let l : place (sameNode n) p < length p = omega arith in
     let same : place (sameNode n) p ≡ a = v .apart (place (sameNode n) p) a l h (sym (same-node n _ (place-passes (sameNode n) noNode p l)) ∙ sym e) in

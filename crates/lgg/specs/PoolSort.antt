@@ -8,7 +8,7 @@ use native.Mathlib.Omega.{arith}
 use lib.Dec.{eqb}
 use borrow.Author.Tests.{eqb-true, eqb-false}
 use lib.ListN.{length, replicate}
-use Rattle.spec.specs.Bytes.{Two, pick, ok}
+use Rattle.spec.specs.Bytes.{Limits, Two, pick, ok}
 use Rattle.spec.specs.Image.{Tables, kindOf, isCommutative}
 use Rattle.spec.specs.Pool.{Pool, Interned, opNode, isGreater, structuralCmp, insertRun, sortRuns}
 use Rattle.spec.specs.Round.{planRuns, actionTerm}
@@ -71,6 +71,6 @@ pub action-kept : (t : Tables) (p : Pool) (o : ℕ) (l : List Two) → isCommuta
 action-kept t p o l e = rw e refl
 
 -- The term of an operation over terms of the pool is entered, and the pool stays valid.
-pub action-enters : (t : Tables) (p : Pool) → PoolValid p → (o : ℕ) (l : List Two) (r : Interned) → RunsBelow (length p) l → actionTerm t p o l ≡ ok r → Interns p (opNode o (actionRuns t p o l)) r
+pub action-enters : (lim : Limits) (t : Tables) (p : Pool) → PoolValid p → (o : ℕ) (l : List Two) (r : Interned) → RunsBelow (length p) l → actionTerm lim t p o l ≡ ok r → Interns p (opNode o (actionRuns t p o l)) r
 unfolding actionTerm
-action-enters t p v o l r b e = intern-enters p (opNode o (actionRuns t p o l)) r v (op-valid (length p) o (actionRuns t p o l) (perm-below (action-perm t p o l) b)) e
+action-enters lim t p v o l r b e = intern-enters lim p (opNode o (actionRuns t p o l)) r v (op-valid (length p) o (actionRuns t p o l) (perm-below (action-perm t p o l) b)) e

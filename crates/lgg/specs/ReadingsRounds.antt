@@ -7,7 +7,7 @@ use mathlib.Core.List.{List, [], _∷_, map}
 use Prim.Native.Nat.{ℕ, zero, suc, _<_}
 use native.Mathlib.Omega.{arith}
 use lib.ListN.{length}
-use Rattle.spec.specs.Bytes.{Two, pick, place, sameTwo, Res, ok, refused, _>>=_, Checked, passed, cutShort}
+use Rattle.spec.specs.Bytes.{Limits, Two, pick, place, sameTwo, Res, ok, refused, _>>=_, Checked, passed, cutShort}
 use Rattle.spec.specs.Image.{Tables}
 use Rattle.spec.specs.Transport.{Problem, solveCells}
 use Rattle.spec.specs.Action.{Action, TransportAction, structural, transports, cellPairs, joins}
@@ -93,7 +93,7 @@ done-step {t} pool p q ps qs (ok a) rest r left m d e = go (rest (a .pool)) refl
     go (ok c) k e = last c k (prepend-passed (a .term) c r left e)
 
 -- ---- turns
-module _ (t : Tables) (v : Valid t) (margins : (p : Problem) (x : List ℕ) → solveCells p ≡ some x → Plan p x) where
+module _ (lim : Limits) (t : Tables) (v : Valid t) (margins : (p : Problem) (x : List ℕ) → solveCells p ≡ some x → Plan p x) where
   -- what a turn says of its choice
   pub data Chosen (q : Two → Two) (p : Two) (w : Turn) : Type 0 where
     stayed : w .choice ≡ stay → w .quality ≡ q p → Chosen q p w
@@ -135,7 +135,7 @@ module _ (t : Tables) (v : Valid t) (margins : (p : Problem) (x : List ℕ) → 
   places-good pool q of (c ∷ ps) h = N.andTerm (h c here .1) (places-good pool q of ps (λ d i. h d (there i)))
 
   pub action-made : (pool : Pool) (p : Two) (q : Two → Two) (of : Two → ℕ) (o : ℕ) (ps : List Two) (x : List ℕ) (r : Interned) → PoolValid pool → Legal t p o ps x
-      → ((c : Two) → In c ps → TermAt t pool q of c) → actionTerm t pool o (planRuns of ps x) ≡ ok r → Makes t pool p (qualityOver x (map q ps)) r
+      → ((c : Two) → In c ps → TermAt t pool q of c) → actionTerm lim t pool o (planRuns of ps x) ≡ ok r → Makes t pool p (qualityOver x (map q ps)) r
   action-made pool p q of o ps x r u L h e = record {
     valid = E .valid;
     grown = E .grown;
@@ -150,7 +150,7 @@ module _ (t : Tables) (v : Valid t) (margins : (p : Problem) (x : List ℕ) → 
       l = planRuns of ps x
 
       E : Interns pool (opNode o (actionRuns t pool o l)) r
-      E = action-enters t pool u o l r (plan-below of (length pool) ps x (λ c i. h c i .0)) e
+      E = action-enters lim t pool u o l r (plan-below of (length pool) ps x (λ c i. h c i .0)) e
 
       M : OpMeans pool o (actionRuns t pool o l) r
       M = op-means pool o (actionRuns t pool o l) r E
@@ -160,7 +160,7 @@ module _ (t : Tables) (v : Valid t) (margins : (p : Problem) (x : List ℕ) → 
 
   -- "one final term for each pair improved in a round, from the previous round's terms"
   pub choice-made : (pool : Pool) (p : Two) (q : Two → Two) (of : Two → ℕ) (w : Turn) (r : Interned) → PoolValid pool → Chosen q p w
-      → TermAt t pool q of p → ((c : Two) → In c (joins t p) → TermAt t pool q of c) → choiceTerm t of pool (of p) (w .choice) ≡ ok r → Makes t pool p (w .quality) r
+      → TermAt t pool q of p → ((c : Two) → In c (joins t p) → TermAt t pool q of c) → choiceTerm lim t of pool (of p) (w .choice) ≡ ok r → Makes t pool p (w .quality) r
   unfolding choiceTerm
   choice-made pool p q of w r u (stayed c k) g h e = rw k (stays (rw c at e))
     where
@@ -171,12 +171,12 @@ module _ (t : Tables) (v : Valid t) (margins : (p : Problem) (x : List ℕ) → 
   -- the turns of a round in order
   pub turns-done : (q : Two → Two) (of : Two → ℕ) (ps : List Two) (b : ℕ) (pool : Pool) (r : Terms) (left : ℕ) → PoolValid pool
       → ((p : Two) → In p ps → TermAt t pool q of p × ((c : Two) → In c (joins t p) → TermAt t pool q of c))
-      → turnsTerms t of ps (map (turnOf t q) ps) b pool ≡ ok (passed r left) → Done t pool ps (map (λ w. w .quality) (map (turnOf t q) ps)) r
+      → turnsTerms lim t of ps (map (turnOf t q) ps) b pool ≡ ok (passed r left) → Done t pool ps (map (λ w. w .quality) (map (turnOf t q) ps)) r
   unfolding turnsTerms
   turns-done q of [] b pool r left u h e = done-nil pool b r left u e
   turns-done q of (p ∷ ps) zero pool r left u h e = let z : _≡_ {A = ℕ} 0 1 = cc in absurd (omega arith)
   turns-done q of (p ∷ ps) (suc b) pool r left u h e =
-      done-step pool p (turnOf t q p .quality) ps (map (λ w. w .quality) (map (turnOf t q) ps)) (choiceTerm t of pool (of p) (turnOf t q p .choice)) (λ next. turnsTerms t of ps (map (turnOf t q) ps) b next) r left
+      done-step pool p (turnOf t q p .quality) ps (map (λ w. w .quality) (map (turnOf t q) ps)) (choiceTerm lim t of pool (of p) (turnOf t q p .choice)) (λ next. turnsTerms lim t of ps (map (turnOf t q) ps) b next) r left
       (λ a k. choice-made pool p q of (turnOf t q p) a u (turn-chosen q p) (h p here .0) (h p here .1) k)
       (λ a s A k. turns-done q of ps b (a .pool) s left (A .valid) (λ c i. (later (A .grown) c (h c (there i) .0), λ d j. later (A .grown) d (h c (there i) .1 d j))) k)
       e

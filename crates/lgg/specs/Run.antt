@@ -7,7 +7,7 @@ use Prim.Native.Nat.{ℕ, zero, suc, _+_, _*_, _-_, _≤_, _<_}
 use native.Mathlib.Omega.{arith}
 use native.Mathlib.Nat.{eq-or-lt-of-le, suc-inj}
 use lib.ListN.{length, getD}
-use Rattle.spec.specs.Bytes.{any, Two, Res, ok, refused, _>>=_, Checked, passed, cutShort}
+use Rattle.spec.specs.Bytes.{Limits, any, Two, Res, ok, refused, _>>=_, Checked, passed, cutShort}
 use Rattle.spec.specs.Image.{Tables}
 use Rattle.spec.specs.Graph.{build}
 use Rattle.spec.specs.Pool.{Interned, startingTerm}
@@ -31,7 +31,7 @@ pub record Ended (t : Tables) (ps : List Two) (b : ℕ) (o : Outcome) : Type 0 w
   pub enough : o .rounds * suc (length ps) ≤ b
   pub status : Status t ps b o
 
-module _ (t : Tables) (ps : List Two) where
+module _ (lim : Limits) (t : Tables) (ps : List Two) where
   -- a state between two rounds, of a run that began its rounds with b checks
   record Between (b : ℕ) (s : State) : Type 0 where
     qualities : s .qualities ≡ qualitiesAfter (s .rounds) t ps
@@ -71,52 +71,52 @@ module _ (t : Tables) (ps : List Two) where
   unfolding turnsOf
   turns-length qs = length-map (turnOf t (lookUp (0, 0) ps qs)) ps
 
-  rounds-end : (f b : ℕ) (s : State) (o : Outcome) → Between b s → s .budget ≤ f → roundsFrom f t ps s ≡ ok o → Ended t ps b o
+  rounds-end : (f b : ℕ) (s : State) (o : Outcome) → Between b s → s .budget ≤ f → roundsFrom lim f t ps s ≡ ok o → Ended t ps b o
   unfolding roundsFrom afterRound
   rounds-end zero b s o i h e = rw (← ok-inj e) (stop-partial b s i (omega arith))
-  rounds-end (suc f) b s o i h e = go (roundTerms t ps s ws (s .budget)) (round-spends t ps s ws (s .budget) (turns-length (s .qualities))) e (λ u j k d. rounds-end f b u o j k d)
+  rounds-end (suc f) b s o i h e = go (roundTerms lim t ps s ws (s .budget)) (round-spends lim t ps s ws (s .budget) (turns-length (s .qualities))) e (λ u j k d. rounds-end f b u o j k d)
     where
       ws : List Turn
       ws = turnsOf t ps (s .qualities)
 
       test : (x : Bool) → any changes ws ≡ x → (r : Terms) (c : ℕ) → s .budget ≡ suc (length ps) + c
-          → elim x [ false ↦ ok (outcome true ps s) | true ↦ roundsFrom f t ps (further s ws r c) ] ≡ ok o
-          → ((u : State) → Between b u → u .budget ≤ f → roundsFrom f t ps u ≡ ok o → Ended t ps b o) → Ended t ps b o
+          → elim x [ false ↦ ok (outcome true ps s) | true ↦ roundsFrom lim f t ps (further s ws r c) ] ≡ ok o
+          → ((u : State) → Between b u → u .budget ≤ f → roundsFrom lim f t ps u ≡ ok o → Ended t ps b o) → Ended t ps b o
       test false q r c l d ih = rw (← ok-inj d) (stop-complete b c s i (rw (i .qualities) at q) l)
       test true q r c l d ih = ih (further s ws r c) (go-on b c s r i (rw (i .qualities) at q) l) (omega arith) d
 
-      go : (r : Res (Checked Terms)) → Spent (suc (length ps)) (s .budget) r → (r >>= afterRound (λ u. roundsFrom f t ps u) ps s ws) ≡ ok o
-          → ((u : State) → Between b u → u .budget ≤ f → roundsFrom f t ps u ≡ ok o → Ended t ps b o) → Ended t ps b o
+      go : (r : Res (Checked Terms)) → Spent (suc (length ps)) (s .budget) r → (r >>= afterRound (λ u. roundsFrom lim f t ps u) ps s ws) ≡ ok o
+          → ((u : State) → Between b u → u .budget ≤ f → roundsFrom lim f t ps u ≡ ok o → Ended t ps b o) → Ended t ps b o
       go r (cut l) d ih = rw (← ok-inj d) (stop-partial b s i l)
       go r (paid {a = a} {c = c} l) d ih = test (any changes ws) refl a c l d ih
       go r ended d ih = absurd (refused-ok d)
 
 -- ---- the whole run
 -- where a run with budget b ends that is not refused, and what it reports
-pub data Ends (t : Tables) (p : Two) (b : ℕ) (o : Outcome) : Type 0 where
+pub data Ends (lim : Limits) (t : Tables) (p : Two) (b : ℕ) (o : Outcome) : Type 0 where
   -- "A run cut short in building reports 1 pair"
-  inBuilding : (root : Interned) → build t p b ≡ ok cutShort → o ≡ started t p root 1 → Ends t p b o
+  inBuilding : (root : Interned) → build lim t p b ≡ ok cutShort → o ≡ started t p root 1 → Ends lim t p b o
   -- "any other run n"
-  inStarting : (root : Interned) (ps : List Two) (c : ℕ) → build t p b ≡ ok (passed ps c) → c < length ps → o ≡ started t p root (length ps) → Ends t p b o
-  inRounds : (ps : List Two) (c d : ℕ) → build t p b ≡ ok (passed ps c) → c ≡ length ps + d → Ended t ps d o → Ends t p b o
+  inStarting : (root : Interned) (ps : List Two) (c : ℕ) → build lim t p b ≡ ok (passed ps c) → c < length ps → o ≡ started t p root (length ps) → Ends lim t p b o
+  inRounds : (ps : List Two) (c d : ℕ) → build lim t p b ≡ ok (passed ps c) → c ≡ length ps + d → Ended t ps d o → Ends lim t p b o
 
-pub run-ends : (t : Tables) (p : Two) (b : ℕ) (o : Outcome) → runOf t p b ≡ ok o → Ends t p b o
+pub run-ends : (lim : Limits) (t : Tables) (p : Two) (b : ℕ) (o : Outcome) → runOf lim t p b ≡ ok o → Ends lim t p b o
 unfolding runOf afterBuilding afterStarting qualitiesAfter
-run-ends t p b o e =
-    let (root, a, d) = bind-ok (startingTerm t [] p) (λ root. build t p b >>= λ g. afterBuilding t p root g) o e in
-    let (g, k, z) = bind-ok (build t p b) (λ g. afterBuilding t p root g) o d in
+run-ends lim t p b o e =
+    let (root, a, d) = bind-ok (startingTerm lim t [] p) (λ root. build lim t p b >>= λ g. afterBuilding lim t p root g) o e in
+    let (g, k, z) = bind-ok (build lim t p b) (λ g. afterBuilding lim t p root g) o d in
     go root g k z
   where
-    rounds : (root : Interned) (ps : List Two) (c : ℕ) → build t p b ≡ ok (passed ps c) → (r : Res (Checked Terms)) → Spent (length ps) c r → (r >>= afterStarting t p root ps) ≡ ok o → Ends t p b o
+    rounds : (root : Interned) (ps : List Two) (c : ℕ) → build lim t p b ≡ ok (passed ps c) → (r : Res (Checked Terms)) → Spent (length ps) c r → (r >>= afterStarting lim t p root ps) ≡ ok o → Ends lim t p b o
     rounds root ps c k r (cut h) z = inStarting root ps c k h (sym (ok-inj z))
     rounds root ps c k r (paid {a = a} {c = d} h) z =
-        inRounds ps c d k h (rounds-end t ps d d (record { pool = a .pool; qualities = map (startingQuality t) ps; terms = a .terms; rounds = 0; budget = d }) o
+        inRounds ps c d k h (rounds-end lim t ps d d (record { pool = a .pool; qualities = map (startingQuality t) ps; terms = a .terms; rounds = 0; budget = d }) o
         (record { qualities = refl; moved = λ r l. absurd (omega arith); spent = omega arith }) (omega arith) z)
     rounds root ps c k r ended z = absurd (refused-ok z)
 
-    go : (root : Interned) (g : Checked (List Two)) → build t p b ≡ ok g → afterBuilding t p root g ≡ ok o → Ends t p b o
+    go : (root : Interned) (g : Checked (List Two)) → build lim t p b ≡ ok g → afterBuilding lim t p root g ≡ ok o → Ends lim t p b o
     go root cutShort k z = inBuilding root k (sym (ok-inj z))
-    go root (passed ps c) k z = rounds root ps c k (startingTerms t ps c (root .pool)) (starting-spends t ps c (root .pool)) z
+    go root (passed ps c) k z = rounds root ps c k (startingTerms lim t ps c (root .pool)) (starting-spends lim t ps c (root .pool)) z
 
 -- ---- a longer run
 -- y is what a run that gave x gives with more checks: a refusal is the same refusal, a complete run the same run; a partial one may go on
@@ -139,15 +139,15 @@ stays-bind e (refused n) s h k l f g i = rw h refl
 partial-only : {o u : Outcome} → o .complete ≡ false → ok o ≡ ok u → u .complete ≡ false
 partial-only {o} {u} h e = sym (ap (λ (z : Outcome). z .complete) (ok-inj e)) ∙ h
 
-module _ (t : Tables) (ps : List Two) where
-  rounds-later : (f g e : ℕ) (s : State) → f ≤ g → Stays (roundsFrom f t ps s) (roundsFrom g t ps (withBudget s (s .budget + e)))
+module _ (lim : Limits) (t : Tables) (ps : List Two) where
+  rounds-later : (f g e : ℕ) (s : State) → f ≤ g → Stays (roundsFrom lim f t ps s) (roundsFrom lim g t ps (withBudget s (s .budget + e)))
   unfolding roundsFrom afterRound
   rounds-later zero g e s h = λ c. absurd (clash (sym c))
   rounds-later (suc f) zero e s h = absurd (omega arith)
   rounds-later (suc f) (suc g) e s h =
-      stays-bind e (roundTerms t ps s ws (s .budget)) (roundTerms t ps u ws (s .budget + e)) (round-later t ps s ws (s .budget) (s .budget + e) e (s .budget + e) refl)
-      (afterRound (λ z. roundsFrom f t ps z) ps s ws) (afterRound (λ z. roundsFrom g t ps z) ps u ws)
-      (λ a c. test (any changes ws) a c (rounds-later f g e (further t ps s ws a c) (omega arith)))
+      stays-bind e (roundTerms lim t ps s ws (s .budget)) (roundTerms lim t ps u ws (s .budget + e)) (round-later lim t ps s ws (s .budget) (s .budget + e) e (s .budget + e) refl)
+      (afterRound (λ z. roundsFrom lim f t ps z) ps s ws) (afterRound (λ z. roundsFrom lim g t ps z) ps u ws)
+      (λ a c. test (any changes ws) a c (rounds-later f g e (further lim t ps s ws a c) (omega arith)))
       (λ o z. partial-only {o = outcome false ps s} {u = o} refl z)
       (λ n z. refused-ok (sym z))
     where
@@ -157,14 +157,14 @@ module _ (t : Tables) (ps : List Two) where
       u : State
       u = withBudget s (s .budget + e)
 
-      test : (x : Bool) (a : Terms) (c : ℕ) → Stays (roundsFrom f t ps (further t ps s ws a c)) (roundsFrom g t ps (further t ps s ws a (c + e)))
-          → Stays (elim x [ false ↦ ok (outcome true ps s) | true ↦ roundsFrom f t ps (further t ps s ws a c) ]) (elim x [ false ↦ ok (outcome true ps u) | true ↦ roundsFrom g t ps (further t ps u ws a (c + e)) ])
+      test : (x : Bool) (a : Terms) (c : ℕ) → Stays (roundsFrom lim f t ps (further lim t ps s ws a c)) (roundsFrom lim g t ps (further lim t ps s ws a (c + e)))
+          → Stays (elim x [ false ↦ ok (outcome true ps s) | true ↦ roundsFrom lim f t ps (further lim t ps s ws a c) ]) (elim x [ false ↦ ok (outcome true ps u) | true ↦ roundsFrom lim g t ps (further lim t ps u ws a (c + e)) ])
       test false a c ih = λ z. refl
       test true a c ih = ih
 
-pub run-later : (t : Tables) (p : Two) (b c : ℕ) → b ≤ c → Stays (runOf t p b) (runOf t p c)
+pub run-later : (lim : Limits) (t : Tables) (p : Two) (b c : ℕ) → b ≤ c → Stays (runOf lim t p b) (runOf lim t p c)
 unfolding runOf afterBuilding afterStarting started
-run-later t p b c h = go (startingTerm t [] p)
+run-later lim t p b c h = go (startingTerm lim t [] p)
   where
     e : ℕ
     e = c - b
@@ -172,16 +172,16 @@ run-later t p b c h = go (startingTerm t [] p)
     is : c ≡ b + e
     is = omega arith
 
-    starting : (root : Interned) (ps : List Two) (d : ℕ) → Stays (startingTerms t ps d (root .pool) >>= afterStarting t p root ps) (startingTerms t ps (d + e) (root .pool) >>= afterStarting t p root ps)
+    starting : (root : Interned) (ps : List Two) (d : ℕ) → Stays (startingTerms lim t ps d (root .pool) >>= afterStarting lim t p root ps) (startingTerms lim t ps (d + e) (root .pool) >>= afterStarting lim t p root ps)
     starting root ps d =
-        stays-bind e (startingTerms t ps d (root .pool)) (startingTerms t ps (d + e) (root .pool)) (starting-later t ps d (d + e) e (root .pool) refl) (afterStarting t p root ps) (afterStarting t p root ps)
-        (λ a k. rounds-later t ps k (k + e) e (record { pool = a .pool; qualities = map (startingQuality t) ps; terms = a .terms; rounds = 0; budget = k }) (omega arith))
+        stays-bind e (startingTerms lim t ps d (root .pool)) (startingTerms lim t ps (d + e) (root .pool)) (starting-later lim t ps d (d + e) e (root .pool) refl) (afterStarting lim t p root ps) (afterStarting lim t p root ps)
+        (λ a k. rounds-later lim t ps k (k + e) e (record { pool = a .pool; qualities = map (startingQuality t) ps; terms = a .terms; rounds = 0; budget = k }) (omega arith))
         (λ o z. partial-only {o = started t p root (length ps)} {u = o} refl z)
         (λ n z. refused-ok (sym z))
 
-    go : (r : Res Interned) → Stays (r >>= λ root. build t p b >>= λ g. afterBuilding t p root g) (r >>= λ root. build t p c >>= λ g. afterBuilding t p root g)
+    go : (r : Res Interned) → Stays (r >>= λ root. build lim t p b >>= λ g. afterBuilding lim t p root g) (r >>= λ root. build lim t p c >>= λ g. afterBuilding lim t p root g)
     go (ok root) =
-        stays-bind e (build t p b) (build t p c) (build-later t p b c e (p ∷ []) 0 is) (afterBuilding t p root) (afterBuilding t p root)
+        stays-bind e (build lim t p b) (build lim t p c) (build-later lim t p b c e is) (afterBuilding lim t p root) (afterBuilding lim t p root)
         (λ ps d. starting root ps d)
         (λ o z. partial-only {o = started t p root 1} {u = o} refl z)
         (λ n z. refused-ok (sym z))

@@ -3,7 +3,7 @@ use mathlib.Core.Path.{_≡_, ap, _∙_}
 use mathlib.Core.List.{List, []}
 use Prim.Native.Nat.{ℕ}
 use lib.ListN.{length}
-use Rattle.spec.specs.Bytes.{Two, Res, ok, refused, _>>=_, Checked, passed, cutShort}
+use Rattle.spec.specs.Bytes.{Limits, Two, Res, ok, refused, _>>=_, Checked, passed, cutShort}
 use Rattle.spec.specs.Image.{Tables}
 use Rattle.spec.specs.Graph.{build}
 use Rattle.spec.specs.Pool.{Interned, startingTerm}
@@ -12,41 +12,41 @@ use Rattle.spec.specs.Run.{startingTerms, started, afterStarting, afterBuilding
 use Rattle.lgg.specs.RoundsFrom.{roundsOf}
 use Rattle.lgg.specs.Standing.{startState}
 
-module _ (t : Tables) (p : Two) (b : ℕ) where
-  after-root : (x : Res Interned) → startingTerm t [] p ≡ x → runOf t p b ≡ (x >>= λ root. build t p b >>= λ g. afterBuilding t p root g)
+module _ (lim : Limits) (t : Tables) (p : Two) (b : ℕ) where
+  after-root : (x : Res Interned) → startingTerm lim t [] p ≡ x → runOf lim t p b ≡ (x >>= λ root. build lim t p b >>= λ g. afterBuilding lim t p root g)
   unfolding runOf
-  after-root x e = ap (λ (z : Res Interned). z >>= λ root. build t p b >>= λ g. afterBuilding t p root g) e
+  after-root x e = ap (λ (z : Res Interned). z >>= λ root. build lim t p b >>= λ g. afterBuilding lim t p root g) e
 
   -- the root's starting term is refused
-  pub run-no-root : (n : ℕ) → startingTerm t [] p ≡ refused n → runOf t p b ≡ refused n
+  pub run-no-root : (n : ℕ) → startingTerm lim t [] p ≡ refused n → runOf lim t p b ≡ refused n
   run-no-root n e = after-root (refused n) e
 
-  module _ (root : Interned) (made : startingTerm t [] p ≡ ok root) where
-    after-build : (x : Res (Checked (List Two))) → build t p b ≡ x → runOf t p b ≡ (x >>= λ g. afterBuilding t p root g)
-    after-build x e = after-root (ok root) made ∙ ap (λ (z : Res (Checked (List Two))). z >>= λ g. afterBuilding t p root g) e
+  module _ (root : Interned) (made : startingTerm lim t [] p ≡ ok root) where
+    after-build : (x : Res (Checked (List Two))) → build lim t p b ≡ x → runOf lim t p b ≡ (x >>= λ g. afterBuilding lim t p root g)
+    after-build x e = after-root (ok root) made ∙ ap (λ (z : Res (Checked (List Two))). z >>= λ g. afterBuilding lim t p root g) e
 
     -- building is refused, or cut short
-    pub run-no-graph : (n : ℕ) → build t p b ≡ refused n → runOf t p b ≡ refused n
+    pub run-no-graph : (n : ℕ) → build lim t p b ≡ refused n → runOf lim t p b ≡ refused n
     run-no-graph n e = after-build (refused n) e
 
-    pub run-cut-building : build t p b ≡ ok cutShort → runOf t p b ≡ ok (started t p root 1)
+    pub run-cut-building : build lim t p b ≡ ok cutShort → runOf lim t p b ≡ ok (started t p root 1)
     unfolding afterBuilding
     run-cut-building e = after-build (ok cutShort) e
 
-    module _ (ps : List Two) (c : ℕ) (built : build t p b ≡ ok (passed ps c)) where
-      after-starting : (x : Res (Checked Terms)) → startingTerms t ps c (root .pool) ≡ x → runOf t p b ≡ (x >>= afterStarting t p root ps)
+    module _ (ps : List Two) (c : ℕ) (built : build lim t p b ≡ ok (passed ps c)) where
+      after-starting : (x : Res (Checked Terms)) → startingTerms lim t ps c (root .pool) ≡ x → runOf lim t p b ≡ (x >>= afterStarting lim t p root ps)
       unfolding afterBuilding
-      after-starting x e = after-build (ok (passed ps c)) built ∙ ap (λ (z : Res (Checked Terms)). z >>= afterStarting t p root ps) e
+      after-starting x e = after-build (ok (passed ps c)) built ∙ ap (λ (z : Res (Checked Terms)). z >>= afterStarting lim t p root ps) e
 
       -- a starting term is refused, or the starting terms are cut short
-      pub run-no-starting : (n : ℕ) → startingTerms t ps c (root .pool) ≡ refused n → runOf t p b ≡ refused n
+      pub run-no-starting : (n : ℕ) → startingTerms lim t ps c (root .pool) ≡ refused n → runOf lim t p b ≡ refused n
       run-no-starting n e = after-starting (refused n) e
 
-      pub run-cut-starting : startingTerms t ps c (root .pool) ≡ ok cutShort → runOf t p b ≡ ok (started t p root (length ps))
+      pub run-cut-starting : startingTerms lim t ps c (root .pool) ≡ ok cutShort → runOf lim t p b ≡ ok (started t p root (length ps))
       unfolding afterStarting
       run-cut-starting e = after-starting (ok cutShort) e
 
       -- the rounds decide
-      pub run-rounds : (r : Terms) (d : ℕ) → startingTerms t ps c (root .pool) ≡ ok (passed r d) → runOf t p b ≡ roundsOf t ps (startState t ps r d)
+      pub run-rounds : (r : Terms) (d : ℕ) → startingTerms lim t ps c (root .pool) ≡ ok (passed r d) → runOf lim t p b ≡ roundsOf lim t ps (startState t ps r d)
       unfolding afterStarting
       run-rounds r d e = after-starting (ok (passed r d)) e

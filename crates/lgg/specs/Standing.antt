@@ -8,7 +8,7 @@ use native.Mathlib.Nat.{not-suc-le-zero, eq-or-lt-of-le}
 use native.Mathlib.Omega.{arith}
 use lib.Dec.{eqb}
 use lib.ListN.{length, getD, length-append, List·getD-append}
-use Rattle.spec.specs.Bytes.{pick, place, Two, sameTwo, Res, ok, refused, Checked, passed, cutShort}
+use Rattle.spec.specs.Bytes.{Limits, pick, place, Two, sameTwo, Res, ok, refused, Checked, passed, cutShort}
 use Rattle.spec.specs.Image.{Tables, BEST-SIZE, bestSize}
 use Rattle.spec.specs.Graph.{build}
 use Rattle.spec.specs.Pool.{Pool, Interned, startingTerm}
@@ -70,16 +70,16 @@ pub record Grew (pool : Pool) (a : Interned) : Type 0 where
   pub within : a .term < length (a .pool)
 
 -- of a choice
-pub choice-grows : (t : Tables) (of : Two → ℕ) (pool : Pool) (old : ℕ) (c : Choice) (a : Interned) → PoolValid pool → old < length pool
-    → ((b : Act) → c ≡ act b → (y : Two) → In y (b .places) → of y < length pool) → choiceTerm t of pool old c ≡ ok a → Grew pool a
+pub choice-grows : (lim : Limits) (t : Tables) (of : Two → ℕ) (pool : Pool) (old : ℕ) (c : Choice) (a : Interned) → PoolValid pool → old < length pool
+    → ((b : Act) → c ≡ act b → (y : Two) → In y (b .places) → of y < length pool) → choiceTerm lim t of pool old c ≡ ok a → Grew pool a
 unfolding choiceTerm
-choice-grows t of pool old stay a v h f e = rw (← ok-inj e) (record { valid = v; grown = extends-refl pool; within = h })
-choice-grows t of pool old (act b) a v h f e =
-    let E = action-enters t pool v (b .op) (planRuns of (b .places) (b .counts)) a (plan-below of (length pool) (b .places) (b .counts) (f b refl)) e in record { valid = E .valid; grown = E .grown; within = E .within }
+choice-grows lim t of pool old stay a v h f e = rw (← ok-inj e) (record { valid = v; grown = extends-refl pool; within = h })
+choice-grows lim t of pool old (act b) a v h f e =
+    let E = action-enters lim t pool v (b .op) (planRuns of (b .places) (b .counts)) a (plan-below of (length pool) (b .places) (b .counts) (f b refl)) e in record { valid = E .valid; grown = E .grown; within = E .within }
 
 -- of a starting term
-pub starting-grows : (t : Tables) → Valid t → (pool : Pool) (c : Two) (a : Interned) → IsPair t c → PoolValid pool → startingTerm t pool c ≡ ok a → Grew pool a
-starting-grows t v pool c a h w e = let M = starting-made t v pool c a (h .0) (h .1) w e in record { valid = M .valid; grown = M .grown; within = M .within }
+pub starting-grows : (lim : Limits) (t : Tables) → Valid t → (pool : Pool) (c : Two) (a : Interned) → IsPair t c → PoolValid pool → startingTerm lim t pool c ≡ ok a → Grew pool a
+starting-grows lim t v pool c a h w e = let M = starting-made lim t v pool c a (h .0) (h .1) w e in record { valid = M .valid; grown = M .grown; within = M .within }
 
 -- ---- in the middle: k pairs have had their turn since the pool was `from`, and gave the terms `done`
 pub record Midway (from : Pool) (k : ℕ) (done : List ℕ) (pool : Pool) : Type 0 where
@@ -123,20 +123,20 @@ module _ (n : ℕ) (from : Pool) (whole : Res (Checked Terms)) (make : ℕ → P
       go (refused m) z ih = absurd (refused-ok (sym (stop k done (suc b) b pool m (omega arith) (omega arith) w z) ∙ e))
 
 -- ---- a round
-module _ (t : Tables) (ps : List Two) (s : State) (S : Standing t ps s) (closed : Closed t ps) where
+module _ (lim : Limits) (t : Tables) (ps : List Two) (s : State) (S : Standing t ps s) (closed : Closed t ps) where
   -- the terms of the round before
   abbrev of : Two → ℕ
   of = lookUp 0 ps (s .terms)
 
-  pub turn-grows : (k : ℕ) (done : List ℕ) (pool : Pool) (a : Interned) → k < length ps → Midway (s .pool) k done pool → turnTerm t of ps (s .qualities) k pool ≡ ok a → Grew pool a
+  pub turn-grows : (k : ℕ) (done : List ℕ) (pool : Pool) (a : Interned) → k < length ps → Midway (s .pool) k done pool → turnTerm lim t of ps (s .qualities) k pool ≡ ok a → Grew pool a
   turn-grows k done pool a h M e =
       let p = getD ps k (0, 0) in
       let i : In p ps = get-in ps k h in
-      choice-grows t of pool (of p) (turnOf t (lookUp (0, 0) ps (s .qualities)) p .choice) a (M .valid) (extends-within (M .grown) (of p) (look-within S p i))
+      choice-grows lim t of pool (of p) (turnOf t (lookUp (0, 0) ps (s .qualities)) p .choice) a (M .valid) (extends-within (M .grown) (of p) (look-within S p i))
       (λ b z y j. extends-within (M .grown) (of y) (look-within S y (closed p y i (choice-joins t (lookUp (0, 0) ps (s .qualities)) p b z y j)))) e
 
   -- the pool after one turn more
-  pub turn-midway : (k : ℕ) (done : List ℕ) (pool : Pool) (a : Interned) → k < length ps → Midway (s .pool) k done pool → turnTerm t of ps (s .qualities) k pool ≡ ok a → Midway (s .pool) (k + 1) (done ++ (a .term ∷ [])) (a .pool)
+  pub turn-midway : (k : ℕ) (done : List ℕ) (pool : Pool) (a : Interned) → k < length ps → Midway (s .pool) k done pool → turnTerm lim t of ps (s .qualities) k pool ≡ ok a → Midway (s .pool) (k + 1) (done ++ (a .term ∷ [])) (a .pool)
   turn-midway k done pool a h M e = midway-turn a M (turn-grows k done pool a h M e)
 
   -- the quality of pair k's turn
@@ -161,16 +161,16 @@ module _ (t : Tables) (ps : List Two) (s : State) (S : Standing t ps s) (closed 
   }
 
   -- a finished round
-  pub round-midway : (b c : ℕ) (r : Terms) → roundAt t ps s b ≡ ok (passed r c) → Midway (s .pool) (length ps) (r .terms) (r .pool)
+  pub round-midway : (b c : ℕ) (r : Terms) → roundAt lim t ps s b ≡ ok (passed r c) → Midway (s .pool) (length ps) (r .terms) (r .pool)
   round-midway b c r e =
-      loop-done (length ps) (s .pool) (roundAt t ps s b) (turnTerm t of ps (s .qualities)) (RoundAt t of ps (s .qualities) (roundAt t ps s b))
-      (λ k done b pool. round-cut t of ps (s .qualities) _ k done b pool)
-      (λ k done b c pool a. round-turn t of ps (s .qualities) _ k done b c pool a)
-      (λ k done b c pool m. round-refused t of ps (s .qualities) _ k done b c pool m)
-      (λ k done b pool. round-end t of ps (s .qualities) _ k done b pool)
-      turn-grows (length ps) 0 [] b (s .pool) r c (omega arith) (round-begin t of ps (s .qualities) b (s .pool)) (midway-begin (s .pool) (S .valid)) e
+      loop-done (length ps) (s .pool) (roundAt lim t ps s b) (turnTerm lim t of ps (s .qualities)) (RoundAt lim t of ps (s .qualities) (roundAt lim t ps s b))
+      (λ k done b pool. round-cut lim t of ps (s .qualities) _ k done b pool)
+      (λ k done b c pool a. round-turn lim t of ps (s .qualities) _ k done b c pool a)
+      (λ k done b c pool m. round-refused lim t of ps (s .qualities) _ k done b c pool m)
+      (λ k done b pool. round-end lim t of ps (s .qualities) _ k done b pool)
+      turn-grows (length ps) 0 [] b (s .pool) r c (omega arith) (round-begin lim t of ps (s .qualities) b (s .pool)) (midway-begin (s .pool) (S .valid)) e
 
-  pub standing-next : (b c : ℕ) (r : Terms) → roundAt t ps s b ≡ ok (passed r c) → Standing t ps (stateAfter s (turnsAt t ps s) r c)
+  pub standing-next : (b c : ℕ) (r : Terms) → roundAt lim t ps s b ≡ ok (passed r c) → Standing t ps (stateAfter s (turnsAt t ps s) r c)
   standing-next b c r e = standing-after (r .terms) (r .pool) c (round-midway b c r e)
 
 -- ---- starting terms
@@ -188,9 +188,9 @@ starting-stands t v p (h, k) = go (eqb (p .0) (p .1)) (v .best .bestRange (p .0)
     go true x y = (omega arith, omega arith)
     go false x y = (omega arith, omega arith)
 
-module _ (t : Tables) (v : Valid t) (ps : List Two) (pairs : (c : Two) → In c ps → IsPair t c) where
-  pub starting-midway : (from : Pool) (k : ℕ) (done : List ℕ) (pool : Pool) (a : Interned) → k < length ps → Midway from k done pool → startingTerm t pool (getD ps k (0, 0)) ≡ ok a → Midway from (k + 1) (done ++ (a .term ∷ [])) (a .pool)
-  starting-midway from k done pool a h M e = midway-turn a M (starting-grows t v pool (getD ps k (0, 0)) a (pairs (getD ps k (0, 0)) (get-in ps k h)) (M .valid) e)
+module _ (lim : Limits) (t : Tables) (v : Valid t) (ps : List Two) (pairs : (c : Two) → In c ps → IsPair t c) where
+  pub starting-midway : (from : Pool) (k : ℕ) (done : List ℕ) (pool : Pool) (a : Interned) → k < length ps → Midway from k done pool → startingTerm lim t pool (getD ps k (0, 0)) ≡ ok a → Midway from (k + 1) (done ++ (a .term ∷ [])) (a .pool)
+  starting-midway from k done pool a h M e = midway-turn a M (starting-grows lim t v pool (getD ps k (0, 0)) a (pairs (getD ps k (0, 0)) (get-in ps k h)) (M .valid) e)
 
   -- every pair has its starting term
   pub standing-started : (from : Pool) (done : List ℕ) (pool : Pool) (b : ℕ) → Midway from (length ps) done pool → Standing t ps (startState t ps (record { pool = pool; terms = done }) b)
@@ -203,22 +203,22 @@ module _ (t : Tables) (v : Valid t) (ps : List Two) (pairs : (c : Two) → In c 
     small = λ k h. rw (get-map (startingQuality t) ps k (0, 0) (0, 0) h) (starting-stands t v (getD ps k (0, 0)) (pairs (getD ps k (0, 0)) (get-in ps k h)) .1);
   }
 
-  pub started-midway : (from : Pool) (b c : ℕ) (r : Terms) → PoolValid from → startingTerms t ps b from ≡ ok (passed r c) → Midway from (length ps) (r .terms) (r .pool)
+  pub started-midway : (from : Pool) (b c : ℕ) (r : Terms) → PoolValid from → startingTerms lim t ps b from ≡ ok (passed r c) → Midway from (length ps) (r .terms) (r .pool)
   started-midway from b c r w e =
-      loop-done (length ps) from (startingTerms t ps b from) (λ k pool. startingTerm t pool (getD ps k (0, 0))) (StartingAt t ps (startingTerms t ps b from))
-      (λ k done b pool. starting-cut t ps _ k done b pool)
-      (λ k done b c pool a. starting-turn t ps _ k done b c pool a)
-      (λ k done b c pool m. starting-refused t ps _ k done b c pool m)
-      (λ k done b pool. starting-end t ps _ k done b pool)
-      (λ k done pool a h M z. starting-grows t v pool (getD ps k (0, 0)) a (pairs (getD ps k (0, 0)) (get-in ps k h)) (M .valid) z)
-      (length ps) 0 [] b from r c (omega arith) (starting-begin t ps b from) (midway-begin from w) e
+      loop-done (length ps) from (startingTerms lim t ps b from) (λ k pool. startingTerm lim t pool (getD ps k (0, 0))) (StartingAt lim t ps (startingTerms lim t ps b from))
+      (λ k done b pool. starting-cut lim t ps _ k done b pool)
+      (λ k done b c pool a. starting-turn lim t ps _ k done b c pool a)
+      (λ k done b c pool m. starting-refused lim t ps _ k done b c pool m)
+      (λ k done b pool. starting-end lim t ps _ k done b pool)
+      (λ k done pool a h M z. starting-grows lim t v pool (getD ps k (0, 0)) a (pairs (getD ps k (0, 0)) (get-in ps k h)) (M .valid) z)
+      (length ps) 0 [] b from r c (omega arith) (starting-begin lim t ps b from) (midway-begin from w) e
 
-  pub standing-begin : (from : Pool) (b c : ℕ) (r : Terms) → PoolValid from → startingTerms t ps b from ≡ ok (passed r c) → Standing t ps (startState t ps r c)
+  pub standing-begin : (from : Pool) (b c : ℕ) (r : Terms) → PoolValid from → startingTerms lim t ps b from ≡ ok (passed r c) → Standing t ps (startState t ps r c)
   standing-begin from b c r w e = standing-started from (r .terms) (r .pool) c (started-midway from b c r w e)
 
 -- the pairs of a built graph are pairs of classes of the image
-pub build-pairs : (t : Tables) → Valid t → (p : Two) → IsPair t p → (b c : ℕ) (ps : List Two) → build t p b ≡ ok (passed ps c) → (q : Two) → In q ps → IsPair t q
-build-pairs t v p h b c ps e q i = go q (build-whole t p b c ps e .exactly q .0 i)
+pub build-pairs : (lim : Limits) (t : Tables) → Valid t → (p : Two) → IsPair t p → (b c : ℕ) (ps : List Two) → build lim t p b ≡ ok (passed ps c) → (q : Two) → In q ps → IsPair t q
+build-pairs lim t v p h b c ps e q i = go q (build-whole lim t p b c ps e .exactly q .0 i)
   where
     go : (q : Two) → Reachable t p q → IsPair t q
     go q (queried z) = rw z h

@@ -11,7 +11,7 @@ use native.Mathlib.Omega.{arith}
 use lib.Dec.{ltb, leb, eqb}
 use borrow.Author.Tests.{leb-true}
 use lib.ListN.{length, getD, drop, length-take, length-append, List·getD-eq-default}
-use Rattle.spec.specs.Bytes.{pick, both, either, all, each, filter, upFrom, Two}
+use Rattle.spec.specs.Bytes.{Limits, pick, both, either, all, each, filter, upFrom, Two}
 use Rattle.spec.specs.Image.{Tables, Member, SPair, Lit, NO-IDENTITY, isAC, kindOf, identityOf, membersOf, childrenOf, theMember}
 use Rattle.spec.specs.Monomial.{Monomial, MonomialPair, insertAdd, addAll, monomial, classes, counts, itself, monomialsOf, padPair, bothItself, representationPairs, COUNT, narrow, narrowPairs}
 use Rattle.spec.specs.Transport.{solveCells, rowFlow}
@@ -305,17 +305,17 @@ runs-agree of of′ (p ∷ ps) (n ∷ x) h =
     ap₂ (λ (a : ℕ) (l : List Two). elim (eqb n 0) [ true ↦ l | false ↦ (a, n) ∷ l ]) (h p here) (runs-agree of of′ ps x (λ y i. h y (there i)))
 
 -- it reads the terms of the places alone
-pub choice-agree : (t : Tables) (of of′ : Two → ℕ) (pool : Pool) (old : ℕ) (a : Act) → ((y : Two) → In y (a .places) → of y ≡ of′ y)
-    → choiceTerm t of pool old (act a) ≡ choiceTerm t of′ pool old (act a)
+pub choice-agree : (lim : Limits) (t : Tables) (of of′ : Two → ℕ) (pool : Pool) (old : ℕ) (a : Act) → ((y : Two) → In y (a .places) → of y ≡ of′ y)
+    → choiceTerm lim t of pool old (act a) ≡ choiceTerm lim t of′ pool old (act a)
 unfolding choiceTerm
-choice-agree t of of′ pool old a h = ap (λ (l : List Two). actionTerm t pool (a .op) l) (runs-agree of of′ (a .places) (a .counts) h)
+choice-agree lim t of of′ pool old a h = ap (λ (l : List Two). actionTerm lim t pool (a .op) l) (runs-agree of of′ (a .places) (a .counts) h)
 
 -- so a turn's term reads the terms of its own pair and of the pairs that it joins
-pub turn-term-agree : (t : Tables) (q : Two → Two) (of of′ : Two → ℕ) (pool : Pool) (p : Two) → of p ≡ of′ p → ((c : Two) → In c (joins t p) → of c ≡ of′ c)
-    → choiceTerm t of pool (of p) (turnOf t q p .choice) ≡ choiceTerm t of′ pool (of′ p) (turnOf t q p .choice)
+pub turn-term-agree : (lim : Limits) (t : Tables) (q : Two → Two) (of of′ : Two → ℕ) (pool : Pool) (p : Two) → of p ≡ of′ p → ((c : Two) → In c (joins t p) → of c ≡ of′ c)
+    → choiceTerm lim t of pool (of p) (turnOf t q p .choice) ≡ choiceTerm lim t of′ pool (of′ p) (turnOf t q p .choice)
 unfolding choiceTerm
-turn-term-agree t q of of′ pool p e h = rw e (go (turnOf t q p .choice) refl)
+turn-term-agree lim t q of of′ pool p e h = rw e (go (turnOf t q p .choice) refl)
   where
-    go : (c : Choice) → turnOf t q p .choice ≡ c → choiceTerm t of pool (of′ p) c ≡ choiceTerm t of′ pool (of′ p) c
+    go : (c : Choice) → turnOf t q p .choice ≡ c → choiceTerm lim t of pool (of′ p) c ≡ choiceTerm lim t of′ pool (of′ p) c
     go stay z = refl
-    go (act a) z = choice-agree t of of′ pool (of′ p) a (λ c i. h c (choice-joins t q p a z c i))
+    go (act a) z = choice-agree lim t of of′ pool (of′ p) a (λ c i. h c (choice-joins t q p a z c i))

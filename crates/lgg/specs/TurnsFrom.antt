@@ -8,7 +8,7 @@ use native.Mathlib.Numerals.{add-one}
 use native.Mathlib.Omega.{arith}
 use lib.ListN.{length, getD, take, drop, drop-of-length-le}
 use lib.Seq.{drop-cons}
-use Rattle.spec.specs.Bytes.{any, either, Two, Res, ok, refused, _>>=_, Checked, passed, cutShort}
+use Rattle.spec.specs.Bytes.{Limits, any, either, Two, Res, ok, refused, _>>=_, Checked, passed, cutShort}
 use Rattle.spec.specs.Image.{Tables}
 use Rattle.spec.specs.Pool.{Pool, Interned, startingTerm}
 use Rattle.spec.specs.Round.{lookUp, Turn, changes, turnOf, turnsOf, choiceTerm, Terms, prepend, turnsTerms}
@@ -113,100 +113,100 @@ end-made : (done : List ℕ) (pool : Pool) (b : ℕ) → prefixed done (ok (pass
 end-made done pool b = ap (λ (z : List ℕ). ok (passed (record { pool = pool; terms = z }) b)) (append-nil done)
 
 -- ---- the turns of a round, from pair k on
-abbrev pub turnsFrom : Tables → (Two → ℕ) → List Two → List Turn → ℕ → ℕ → Pool → Res (Checked Terms)
-turnsFrom t of ps ws k b pool = turnsTerms t of (drop k ps) (drop k ws) b pool
+abbrev pub turnsFrom : (lim : Limits) → Tables → (Two → ℕ) → List Two → List Turn → ℕ → ℕ → Pool → Res (Checked Terms)
+turnsFrom lim t of ps ws k b pool = turnsTerms lim t of (drop k ps) (drop k ws) b pool
 
-module _ (t : Tables) (of : Two → ℕ) (ps : List Two) (ws : List Turn) (d : Turn) (len : length ws ≡ length ps) where
-  pub turns-from-cut : (k : ℕ) (pool : Pool) → k < length ps → turnsFrom t of ps ws k zero pool ≡ ok cutShort
+module _ (lim : Limits) (t : Tables) (of : Two → ℕ) (ps : List Two) (ws : List Turn) (d : Turn) (len : length ws ≡ length ps) where
+  pub turns-from-cut : (k : ℕ) (pool : Pool) → k < length ps → turnsFrom lim t of ps ws k zero pool ≡ ok cutShort
   unfolding turnsTerms
-  turns-from-cut k pool h = ap₂ (λ (x : List Two) (y : List Turn). turnsTerms t of x y zero pool) (drop-cons ps k (0, 0) h) (drop-cons ws k d (omega arith))
+  turns-from-cut k pool h = ap₂ (λ (x : List Two) (y : List Turn). turnsTerms lim t of x y zero pool) (drop-cons ps k (0, 0) h) (drop-cons ws k d (omega arith))
 
   pub turns-from-next : (k b : ℕ) (pool : Pool) → k < length ps
-      → turnsFrom t of ps ws k (suc b) pool ≡ (choiceTerm t of pool (of (getD ps k (0, 0))) (getD ws k d .choice) >>= λ a. prefixed (a .term ∷ []) (turnsFrom t of ps ws (suc k) b (a .pool)))
+      → turnsFrom lim t of ps ws k (suc b) pool ≡ (choiceTerm lim t of pool (of (getD ps k (0, 0))) (getD ws k d .choice) >>= λ a. prefixed (a .term ∷ []) (turnsFrom lim t of ps ws (suc k) b (a .pool)))
   unfolding turnsTerms
   turns-from-next k b pool h =
-      ap₂ (λ (x : List Two) (y : List Turn). turnsTerms t of x y (suc b) pool) (drop-cons ps k (0, 0) h) (drop-cons ws k d (omega arith))
-      ∙ made-rest (choiceTerm t of pool (of (getD ps k (0, 0))) (getD ws k d .choice)) (λ p. turnsFrom t of ps ws (suc k) b p)
+      ap₂ (λ (x : List Two) (y : List Turn). turnsTerms lim t of x y (suc b) pool) (drop-cons ps k (0, 0) h) (drop-cons ws k d (omega arith))
+      ∙ made-rest (choiceTerm lim t of pool (of (getD ps k (0, 0))) (getD ws k d .choice)) (λ p. turnsFrom lim t of ps ws (suc k) b p)
 
-  pub turns-from-end : (k b : ℕ) (pool : Pool) → length ps ≤ k → turnsFrom t of ps ws k b pool ≡ ok (passed (record { pool = pool; terms = [] }) b)
+  pub turns-from-end : (k b : ℕ) (pool : Pool) → length ps ≤ k → turnsFrom lim t of ps ws k b pool ≡ ok (passed (record { pool = pool; terms = [] }) b)
   unfolding turnsTerms
-  turns-from-end k b pool h = ap (λ (x : List Two). turnsTerms t of x (drop k ws) b pool) (drop-of-length-le ps {i = k} h)
+  turns-from-end k b pool h = ap (λ (x : List Two). turnsTerms lim t of x (drop k ws) b pool) (drop-of-length-le ps {i = k} h)
 
 -- ---- the loop over a round's turns: pairs ps with the qualities qs of the round before, terms `of`; `whole` is what the round comes to
-module _ (t : Tables) (of : Two → ℕ) (ps qs : List Two) where
+module _ (lim : Limits) (t : Tables) (of : Two → ℕ) (ps qs : List Two) where
   -- the round's result, when the first k turns have given the terms `done` and the pool, and b checks are left
   abbrev pub RoundAt : Res (Checked Terms) → ℕ → List ℕ → ℕ → Pool → Type 0
-  RoundAt whole k done b pool = whole ≡ prefixed done (turnsFrom t of ps (turnsOf t ps qs) k b pool)
+  RoundAt whole k done b pool = whole ≡ prefixed done (turnsFrom lim t of ps (turnsOf t ps qs) k b pool)
 
   -- what pair k's turn enters
   abbrev pub turnTerm : ℕ → Pool → Res Interned
-  turnTerm k pool = choiceTerm t of pool (of (getD ps k (0, 0))) (turnOf t (lookUp (0, 0) ps qs) (getD ps k (0, 0)) .choice)
+  turnTerm k pool = choiceTerm lim t of pool (of (getD ps k (0, 0))) (turnOf t (lookUp (0, 0) ps qs) (getD ps k (0, 0)) .choice)
 
-  pub round-begin : (b : ℕ) (pool : Pool) → RoundAt (turnsTerms t of ps (turnsOf t ps qs) b pool) 0 [] b pool
-  round-begin b pool = sym (prefixed-nil (turnsTerms t of ps (turnsOf t ps qs) b pool))
+  pub round-begin : (b : ℕ) (pool : Pool) → RoundAt (turnsTerms lim t of ps (turnsOf t ps qs) b pool) 0 [] b pool
+  round-begin b pool = sym (prefixed-nil (turnsTerms lim t of ps (turnsOf t ps qs) b pool))
 
   module _ (whole : Res (Checked Terms)) (k : ℕ) (done : List ℕ) where
     pub round-cut : (b : ℕ) (pool : Pool) → k < length ps → b ≡ 0 → RoundAt whole k done b pool → whole ≡ ok cutShort
-    round-cut b pool h e w = (rw e at w) ∙ ap (prefixed done) (turns-from-cut t of ps (turnsOf t ps qs) w₀ (turns-length t ps qs) k pool h)
+    round-cut b pool h e w = (rw e at w) ∙ ap (prefixed done) (turns-from-cut lim t of ps (turnsOf t ps qs) w₀ (turns-length t ps qs) k pool h)
       where
         w₀ : Turn
         w₀ = turnOf t (lookUp (0, 0) ps qs) (0, 0)
 
-    next : (b : ℕ) (pool : Pool) → k < length ps → RoundAt whole k done (suc b) pool → whole ≡ prefixed done (turnTerm k pool >>= λ a. prefixed (a .term ∷ []) (turnsFrom t of ps (turnsOf t ps qs) (suc k) b (a .pool)))
+    next : (b : ℕ) (pool : Pool) → k < length ps → RoundAt whole k done (suc b) pool → whole ≡ prefixed done (turnTerm k pool >>= λ a. prefixed (a .term ∷ []) (turnsFrom lim t of ps (turnsOf t ps qs) (suc k) b (a .pool)))
     next b pool h w =
-        w ∙ ap (prefixed done) (turns-from-next t of ps (turnsOf t ps qs) w₀ (turns-length t ps qs) k b pool h
-        ∙ ap (λ (z : Turn). choiceTerm t of pool (of (getD ps k (0, 0))) (z .choice) >>= λ a. prefixed (a .term ∷ []) (turnsFrom t of ps (turnsOf t ps qs) (suc k) b (a .pool))) (turn-at t ps qs k w₀ h))
+        w ∙ ap (prefixed done) (turns-from-next lim t of ps (turnsOf t ps qs) w₀ (turns-length t ps qs) k b pool h
+        ∙ ap (λ (z : Turn). choiceTerm lim t of pool (of (getD ps k (0, 0))) (z .choice) >>= λ a. prefixed (a .term ∷ []) (turnsFrom lim t of ps (turnsOf t ps qs) (suc k) b (a .pool))) (turn-at t ps qs k w₀ h))
       where
         w₀ : Turn
         w₀ = turnOf t (lookUp (0, 0) ps qs) (0, 0)
 
     pub round-turn : (b c : ℕ) (pool : Pool) (a : Interned) → k < length ps → b ≡ c + 1 → RoundAt whole k done b pool → turnTerm k pool ≡ ok a → RoundAt whole (k + 1) (done ++ (a .term ∷ [])) c (a .pool)
-    round-turn b c pool a h e w m = rw (add-one k) (step-made whole done (turnTerm k pool) (λ p. turnsFrom t of ps (turnsOf t ps qs) (suc k) c p) a (next c pool h (rw (e, add-one c) at w)) m)
+    round-turn b c pool a h e w m = rw (add-one k) (step-made whole done (turnTerm k pool) (λ p. turnsFrom lim t of ps (turnsOf t ps qs) (suc k) c p) a (next c pool h (rw (e, add-one c) at w)) m)
 
     pub round-refused : (b c : ℕ) (pool : Pool) (n : ℕ) → k < length ps → b ≡ c + 1 → RoundAt whole k done b pool → turnTerm k pool ≡ refused n → whole ≡ refused n
-    round-refused b c pool n h e w m = step-refused whole done (turnTerm k pool) (λ p. turnsFrom t of ps (turnsOf t ps qs) (suc k) c p) n (next c pool h (rw (e, add-one c) at w)) m
+    round-refused b c pool n h e w m = step-refused whole done (turnTerm k pool) (λ p. turnsFrom lim t of ps (turnsOf t ps qs) (suc k) c p) n (next c pool h (rw (e, add-one c) at w)) m
 
     pub round-end : (b : ℕ) (pool : Pool) → length ps ≤ k → RoundAt whole k done b pool → whole ≡ ok (passed (record { pool = pool; terms = done }) b)
-    round-end b pool h w = w ∙ ap (prefixed done) (turns-from-end t of ps (turnsOf t ps qs) (turnOf t (lookUp (0, 0) ps qs) (0, 0)) (turns-length t ps qs) k b pool h) ∙ end-made done pool b
+    round-end b pool h w = w ∙ ap (prefixed done) (turns-from-end lim t of ps (turnsOf t ps qs) (turnOf t (lookUp (0, 0) ps qs) (0, 0)) (turns-length t ps qs) k b pool h) ∙ end-made done pool b
 
 -- ---- the starting terms, from pair k on
-abbrev pub startingFrom : Tables → List Two → ℕ → ℕ → Pool → Res (Checked Terms)
-startingFrom t ps k b pool = startingTerms t (drop k ps) b pool
+abbrev pub startingFrom : (lim : Limits) → Tables → List Two → ℕ → ℕ → Pool → Res (Checked Terms)
+startingFrom lim t ps k b pool = startingTerms lim t (drop k ps) b pool
 
-module _ (t : Tables) (ps : List Two) where
-  pub starting-from-cut : (k : ℕ) (pool : Pool) → k < length ps → startingFrom t ps k zero pool ≡ ok cutShort
+module _ (lim : Limits) (t : Tables) (ps : List Two) where
+  pub starting-from-cut : (k : ℕ) (pool : Pool) → k < length ps → startingFrom lim t ps k zero pool ≡ ok cutShort
   unfolding startingTerms
-  starting-from-cut k pool h = ap (λ (x : List Two). startingTerms t x zero pool) (drop-cons ps k (0, 0) h)
+  starting-from-cut k pool h = ap (λ (x : List Two). startingTerms lim t x zero pool) (drop-cons ps k (0, 0) h)
 
   pub starting-from-next : (k b : ℕ) (pool : Pool) → k < length ps
-      → startingFrom t ps k (suc b) pool ≡ (startingTerm t pool (getD ps k (0, 0)) >>= λ a. prefixed (a .term ∷ []) (startingFrom t ps (suc k) b (a .pool)))
+      → startingFrom lim t ps k (suc b) pool ≡ (startingTerm lim t pool (getD ps k (0, 0)) >>= λ a. prefixed (a .term ∷ []) (startingFrom lim t ps (suc k) b (a .pool)))
   unfolding startingTerms
   starting-from-next k b pool h =
-      ap (λ (x : List Two). startingTerms t x (suc b) pool) (drop-cons ps k (0, 0) h)
-      ∙ made-rest (startingTerm t pool (getD ps k (0, 0))) (λ p. startingFrom t ps (suc k) b p)
+      ap (λ (x : List Two). startingTerms lim t x (suc b) pool) (drop-cons ps k (0, 0) h)
+      ∙ made-rest (startingTerm lim t pool (getD ps k (0, 0))) (λ p. startingFrom lim t ps (suc k) b p)
 
-  pub starting-from-end : (k b : ℕ) (pool : Pool) → length ps ≤ k → startingFrom t ps k b pool ≡ ok (passed (record { pool = pool; terms = [] }) b)
+  pub starting-from-end : (k b : ℕ) (pool : Pool) → length ps ≤ k → startingFrom lim t ps k b pool ≡ ok (passed (record { pool = pool; terms = [] }) b)
   unfolding startingTerms
-  starting-from-end k b pool h = ap (λ (x : List Two). startingTerms t x b pool) (drop-of-length-le ps {i = k} h)
+  starting-from-end k b pool h = ap (λ (x : List Two). startingTerms lim t x b pool) (drop-of-length-le ps {i = k} h)
 
   -- what the starting terms come to, when the first k pairs have given the terms `done` and the pool, and b checks are left
   abbrev pub StartingAt : Res (Checked Terms) → ℕ → List ℕ → ℕ → Pool → Type 0
-  StartingAt whole k done b pool = whole ≡ prefixed done (startingFrom t ps k b pool)
+  StartingAt whole k done b pool = whole ≡ prefixed done (startingFrom lim t ps k b pool)
 
-  pub starting-begin : (b : ℕ) (pool : Pool) → StartingAt (startingTerms t ps b pool) 0 [] b pool
-  starting-begin b pool = sym (prefixed-nil (startingTerms t ps b pool))
+  pub starting-begin : (b : ℕ) (pool : Pool) → StartingAt (startingTerms lim t ps b pool) 0 [] b pool
+  starting-begin b pool = sym (prefixed-nil (startingTerms lim t ps b pool))
 
   module _ (whole : Res (Checked Terms)) (k : ℕ) (done : List ℕ) where
     pub starting-cut : (b : ℕ) (pool : Pool) → k < length ps → b ≡ 0 → StartingAt whole k done b pool → whole ≡ ok cutShort
     starting-cut b pool h e w = (rw e at w) ∙ ap (prefixed done) (starting-from-cut k pool h)
 
-    pub starting-turn : (b c : ℕ) (pool : Pool) (a : Interned) → k < length ps → b ≡ c + 1 → StartingAt whole k done b pool → startingTerm t pool (getD ps k (0, 0)) ≡ ok a → StartingAt whole (k + 1) (done ++ (a .term ∷ [])) c (a .pool)
+    pub starting-turn : (b c : ℕ) (pool : Pool) (a : Interned) → k < length ps → b ≡ c + 1 → StartingAt whole k done b pool → startingTerm lim t pool (getD ps k (0, 0)) ≡ ok a → StartingAt whole (k + 1) (done ++ (a .term ∷ [])) c (a .pool)
     starting-turn b c pool a h e w m =
-        rw (add-one k) (step-made whole done (startingTerm t pool (getD ps k (0, 0))) (λ p. startingFrom t ps (suc k) c p) a ((rw (e, add-one c) at w) ∙ ap (prefixed done) (starting-from-next k c pool h)) m)
+        rw (add-one k) (step-made whole done (startingTerm lim t pool (getD ps k (0, 0))) (λ p. startingFrom lim t ps (suc k) c p) a ((rw (e, add-one c) at w) ∙ ap (prefixed done) (starting-from-next k c pool h)) m)
 
-    pub starting-refused : (b c : ℕ) (pool : Pool) (n : ℕ) → k < length ps → b ≡ c + 1 → StartingAt whole k done b pool → startingTerm t pool (getD ps k (0, 0)) ≡ refused n → whole ≡ refused n
+    pub starting-refused : (b c : ℕ) (pool : Pool) (n : ℕ) → k < length ps → b ≡ c + 1 → StartingAt whole k done b pool → startingTerm lim t pool (getD ps k (0, 0)) ≡ refused n → whole ≡ refused n
     starting-refused b c pool n h e w m =
-        step-refused whole done (startingTerm t pool (getD ps k (0, 0))) (λ p. startingFrom t ps (suc k) c p) n ((rw (e, add-one c) at w) ∙ ap (prefixed done) (starting-from-next k c pool h)) m
+        step-refused whole done (startingTerm lim t pool (getD ps k (0, 0))) (λ p. startingFrom lim t ps (suc k) c p) n ((rw (e, add-one c) at w) ∙ ap (prefixed done) (starting-from-next k c pool h)) m
 
     pub starting-end : (b : ℕ) (pool : Pool) → length ps ≤ k → StartingAt whole k done b pool → whole ≡ ok (passed (record { pool = pool; terms = done }) b)
     starting-end b pool h w = w ∙ ap (prefixed done) (starting-from-end k b pool h) ∙ end-made done pool b

@@ -1,7 +1,3 @@
-pub mod Numbering
-pub mod WalkLaws
-pub mod NumberLaws
-pub mod VisitLaws
 pub mod Lines
 pub mod Writing
 pub mod DecimalLaws

@@ -15,10 +15,10 @@ use Rattle.lgg.specs.Lists.{in-map}
 use Rattle.terms.specs.Buffers.{unpack, headIn, valueIn, partIn, nodeOf, nodeIn, poolOf, countIn}
 use Rattle.terms.specs.Chains.{Holds}
 use Rattle.terms.specs.PoolLaws.{pool-length, pool-at}
-use Rattle.listing.specs.Numbering.{Numbered, Listed}
-use Rattle.listing.specs.WalkLaws.{Closed, subterms-closed}
-use Rattle.listing.specs.NumberLaws.{at-in, number-of, place-at, few-listed}
-use Rattle.listing.specs.VisitLaws.{run-in}
+use Rattle.numbering.specs.Numbering.{Numbered, Listed}
+use Rattle.numbering.specs.WalkLaws.{Closed, subterms-closed}
+use Rattle.numbering.specs.NumberLaws.{at-in, number-of, place-at, few-listed}
+use Rattle.numbering.specs.VisitLaws.{run-in}
 use Rattle.listing.specs.Lines.{runIn, runsIn, headBytes, termIn, lineIn, linesIn, outcomeOf, firstBytes, Ready}
 use Rattle.listing.specs.declared.Report.{Report}
 

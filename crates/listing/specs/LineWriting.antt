@@ -9,7 +9,7 @@ use Rattle.spec.specs.Listing.{listingOf}
 use Rattle.terms.specs.Buffers.{firstIn, headIn, valueIn, countIn}
 use Rattle.terms.specs.Chains.{Holds}
 use Rattle.terms.specs.PoolLaws.{first-fits, first-inside}
-use Rattle.listing.specs.Numbering.{Listed}
+use Rattle.numbering.specs.Numbering.{Listed}
 use Rattle.listing.specs.Lines.{headBytes, runsIn, termIn, lineIn, linesIn, firstBytes, outcomeOf, Named, Ready}
 use Rattle.listing.specs.Writing.{Wrote}
 use Rattle.listing.specs.WriteLaws.{room-first, room-second, wrote-both}

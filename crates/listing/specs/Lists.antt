@@ -9,7 +9,7 @@ use lib.ListN.{length, drop}
 use borrow.Author.Tests.{le-leb, lt-leb}
 use Rattle.spec.specs.Bytes.{pick}
 use Rattle.spec.specs.Listing.{listingOf}
-use Rattle.listing.specs.Numbering.{numbersOf}
+use Rattle.numbering.specs.Numbering.{numbersOf}
 use Rattle.listing.specs.Lines.{outcomeOf}
 use Rattle.listing.specs.declared.Report.{Report}
 use Rattle.listing.specs.declared.Written.{Written}

@@ -1,18 +1,16 @@
-// The listing: the root's subterms numbered, its bytes measured, then written.
+// The listing: its bytes measured, then written.
 ghost use mathlib.Core.Path.{_≡_};
 ghost use mathlib.Core.List.{_++_};
-ghost use Prim.Native.Nat.{suc, _+_, _*_, _-_, _%_, _≤_, _<_};
+ghost use Prim.Native.Nat.{_+_, _*_, _-_, _%_, _≤_, _<_};
 ghost use lib.ListN.{length, getD, set, drop};
 ghost use Rattle.spec.specs.Bytes.{decimal};
-ghost use Rattle.spec.specs.Listing.{visitTerm, listingOf};
-ghost use Rattle.terms.specs.Buffers.{countIn, poolOf};
+ghost use Rattle.spec.specs.Listing.{listingOf};
+ghost use Rattle.terms.specs.Buffers.{countIn};
 ghost use Rattle.terms.specs.Chains.{Holds};
-ghost use Rattle.listing.specs.Numbering.{orderIn, settle, cleared, numbersOf, Numbered, Walk, Listed};
+ghost use Rattle.numbering.specs.Numbering.{Listed};
 ghost use Rattle.listing.specs.Lines.{runIn, runsIn, headBytes, lineIn, linesIn, statusBytes, firstBytes, outcomeOf, Named, Ready};
 ghost use Rattle.listing.specs.Lists.{Lists};
 ghost use Rattle.listing.specs.Writing.{Wrote};
-
-// The work buffer has two numbers a term: at 2 * t the number of term t plus 1, at 2 * k + 1 the term of line k.
 
 // what the first line reports
 pub struct Report {
@@ -29,76 +27,6 @@ pub enum Written {
     Full,
 }
 
-// ---- numbering
-fn put2(s: &mut [u16], at: usize, x: u16)
-    requires { ⌜ at < length (now s) ⌝ }
-    ensures { λ _. ⌜ now (s .exit) ≡ set (now (s .entry)) at x ⌝ }
-{
-    s[at] = x;
-}
-
-fn short(x: usize) -> u16
-    requires { ⌜ x < 65536 ⌝ }
-    ensures { λ r. ⌜ r ≡ x ⌝ }
-{
-    x as u16
-}
-
-fn clear_marks(marks: &mut [u16], m: usize)
-    requires { ⌜ m ≤ length (now marks) ⌝ }
-    ensures { λ _. ⌜ now (marks .exit) ≡ cleared m (now (marks .entry)) ⌝ }
-{
-    let mut i = 0;
-    while i < m {
-        marks[i] = 0;
-        i += 1;
-    }
-}
-
-// term t gets number n
-fn settle(marks: &mut [u16], n: usize, t: usize)
-    requires { ⌜ (2 * n + 1 < length (now marks)) × (2 * t < length (now marks)) × (n < 16384) × (t < 16384) ⌝ }
-    ensures { λ _. ⌜ now (marks .exit) ≡ settle (now (marks .entry)) n t ⌝ }
-{
-    put2(marks, 2 * t, short(n + 1));
-    put2(marks, 2 * n + 1, short(t));
-}
-
-fn child(r: u64) -> usize
-    ensures { λ a. ⌜ (a ≡ r % 16384) × (a < 16384) ⌝ }
-{
-    (r % 16384) as usize
-}
-
-// t and its subterms that have no number yet get the numbers after n0, children first
-fn number(terms: &[u32], runs: &[u64], marks: &mut [u16], n0: usize, t: usize) -> usize
-    requires { ⌜ Holds (now terms) (now runs) × (t < countIn (now terms)) × Numbered (countIn (now terms)) (now marks) (orderIn (now marks) n0) ⌝ }
-    ensures { λ r. ⌜ (r ≡ length (visitTerm (suc t) (poolOf (now (terms .entry)) (now (runs .entry))) t (orderIn (now (marks .entry)) n0))) × Walk (countIn (now (terms .entry))) (now (marks .entry)) (orderIn (now (marks .entry)) n0) (now (marks .exit)) (visitTerm (suc t) (poolOf (now (terms .entry)) (now (runs .entry))) t (orderIn (now (marks .entry)) n0)) ⌝ }
-{
-    if marks[2 * t] != 0 {
-        return n0;
-    }
-    let end = terms::first(terms, t + 1);
-    let mut i = terms::first(terms, t);
-    let mut n = n0;
-    while i < end {
-        n = number(terms, runs, marks, n, child(runs[i]));
-        i += 1;
-    }
-    settle(marks, n, t);
-    n + 1
-}
-
-// The root's subterms are numbered: how many they are.
-pub fn number_all(terms: &[u32], runs: &[u64], marks: &mut [u16], root: usize) -> usize
-    requires { ⌜ Holds (now terms) (now runs) × (root < countIn (now terms)) × (2 * countIn (now terms) ≤ length (now marks)) ⌝ }
-    ensures { λ r. ⌜ (now (marks .exit) ≡ numbersOf (now (terms .entry)) (now (runs .entry)) root (now (marks .entry))) × Listed (now (terms .entry)) (now (runs .entry)) (now (marks .exit)) root r ⌝ }
-{
-    let m = terms::count(terms);
-    clear_marks(marks, 2 * m);
-    number(terms, runs, marks, 0, root)
-}
-
 // ---- measuring
 fn digits(v: u64) -> usize
     ensures { λ r. ⌜ (r ≡ length (decimal v)) × (r ≤ 20) ⌝ }
@@ -109,25 +37,19 @@ fn digits(v: u64) -> usize
     digits(v / 10) + 1
 }
 
-fn num(x: u16) -> usize
-    ensures { λ r. ⌜ (r ≡ x) × (r < 65536) ⌝ }
-{
-    x as usize
-}
-
 fn number_of(marks: &[u16], t: usize) -> u64
     requires { ⌜ 0 < getD (now marks) (2 * t) 0 ⌝ }
     ensures { λ r. ⌜ r ≡ getD (now (marks .entry)) (2 * t) 0 - 1 ⌝ }
 {
-    (num(marks[2 * t]) - 1) as u64
+    numbers::long_size(numbers::at_u16(marks, 2 * t) - 1)
 }
 
 fn run_width(marks: &[u16], r: u64) -> usize
     requires { ⌜ 0 < getD (now marks) (2 * (r % 16384)) 0 ⌝ }
     ensures { λ n. ⌜ (n ≡ length (runIn (now (marks .entry)) r)) × (n ≤ 42) ⌝ }
 {
-    let a = digits(number_of(marks, child(r)));
-    1 + a + 1 + digits(r / 16384)
+    let a = digits(number_of(marks, terms::child(r)));
+    1 + a + 1 + digits(terms::times(r))
 }
 
 fn runs_width(runs: &[u64], marks: &[u16], from: usize, to: usize) -> usize
@@ -147,20 +69,20 @@ fn head_width(h: u32, v: u32) -> usize
     ensures { λ n. ⌜ (n ≡ length (headBytes h v)) × (n ≤ 46) ⌝ }
 {
     if h / 64 == 1 {
-        let a = digits((h % 64) as u64);
-        return 5 + a + 1 + digits(v as u64);
+        let a = digits(numbers::long_u32(h % 64));
+        return 5 + a + 1 + digits(numbers::long_u32(v));
     }
     if h / 64 == 2 {
         return 9;
     }
-    4 + digits((h % 64) as u64)
+    4 + digits(numbers::long_u32(h % 64))
 }
 
 fn term_at(marks: &[u16], k: usize) -> usize
     requires { ⌜ 2 * k + 1 < length (now marks) ⌝ }
     ensures { λ r. ⌜ r ≡ getD (now (marks .entry)) (2 * k + 1) 0 ⌝ }
 {
-    num(marks[2 * k + 1])
+    numbers::at_u16(marks, 2 * k + 1)
 }
 
 fn line_width(terms: &[u32], runs: &[u64], marks: &[u16], n: usize, k: usize) -> usize
@@ -170,7 +92,7 @@ fn line_width(terms: &[u32], runs: &[u64], marks: &[u16], n: usize, k: usize) ->
     let t = term_at(marks, k);
     let from = terms::first(terms, t);
     let to = terms::first(terms, t + 1);
-    let a = digits(k as u64);
+    let a = digits(numbers::long_size(k));
     let b = head_width(terms::head(terms, t), terms::value(terms, t));
     a + b + runs_width(runs, marks, from, to) + 1
 }
@@ -270,8 +192,8 @@ fn write_run(out: &mut [u8], at: usize, marks: &[u16], r: u64) -> usize
     requires { ⌜ (0 < getD (now marks) (2 * (r % 16384)) 0) × (at + length (runIn (now marks) r) ≤ length (now out)) ⌝ }
     ensures { λ n. ⌜ Wrote (runIn (now (marks .entry)) r) (now (out .entry)) at (now (out .exit)) n ⌝ }
 {
-    let a = labelled(out, at, b" ", number_of(marks, child(r)));
-    labelled(out, a, b":", r / 16384)
+    let a = labelled(out, at, b" ", number_of(marks, terms::child(r)));
+    labelled(out, a, b":", terms::times(r))
 }
 
 fn write_runs(
@@ -299,13 +221,13 @@ fn write_head(out: &mut [u8], at: usize, h: u32, v: u32) -> usize
     ensures { λ n. ⌜ Wrote (headBytes h v) (now (out .entry)) at (now (out .exit)) n ⌝ }
 {
     if h / 64 == 1 {
-        let a = labelled(out, at, b" lit ", (h % 64) as u64);
-        return labelled(out, a, b" ", v as u64);
+        let a = labelled(out, at, b" lit ", numbers::long_u32(h % 64));
+        return labelled(out, a, b" ", numbers::long_u32(v));
     }
     if h / 64 == 2 {
         return text(out, at, b" variants");
     }
-    labelled(out, at, b" op ", (h % 64) as u64)
+    labelled(out, at, b" op ", numbers::long_u32(h % 64))
 }
 
 fn write_line(
@@ -323,7 +245,7 @@ fn write_line(
     let t = term_at(marks, k);
     let from = terms::first(terms, t);
     let to = terms::first(terms, t + 1);
-    let a = decimal(out, at, k as u64);
+    let a = decimal(out, at, numbers::long_size(k));
     let b = write_head(out, a, terms::head(terms, t), terms::value(terms, t));
     let c = write_runs(out, b, runs, marks, from, to);
     text(out, c, b"\n")
@@ -400,7 +322,7 @@ pub fn list(
     requires { ⌜ Holds (now terms) (now runs) × (root < countIn (now terms)) × (2 * countIn (now terms) ≤ length (now marks)) ⌝ }
     ensures { λ r. ⌜ Lists (now (terms .entry)) (now (runs .entry)) root f (now (marks .entry)) (now (out .entry)) (now (marks .exit)) (now (out .exit)) r ⌝ }
 {
-    let n = number_all(terms, runs, marks, root);
+    let n = numbering::number_all(terms, runs, marks, root);
     let size = measure(terms, runs, marks, root, n, f);
     if size > out.len() {
         return Written::Full;

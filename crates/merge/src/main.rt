@@ -10,20 +10,20 @@ fn emit(s: &[u8], k: usize) {
 
 fn main() {
     let mut input = [0u8; 65537];
-    let mut lefts = [0u16; 4096];
-    let mut rights = [0u16; 4096];
-    let mut index = [0u16; 8192];
-    let mut pairs = [0u32; 24576];
-    let mut terms = [0u32; 8194];
-    let mut runs = [0u64; 4096];
+    let mut graph = [0u16; 4352];
+    let mut pairs = [0u32; 1536];
+    let mut work = [0u64; 1024];
+    let mut flow = [0u64; 256];
+    let mut terms = [0u32; 3074];
+    let mut runs = [0u64; 1024];
     let mut out = [0u8; 65536];
     let n = io::read_full(STDIN_FILENO, &mut input);
     let k = answer::respond(
         &input[..n],
-        &mut lefts,
-        &mut rights,
-        &mut index,
+        &mut graph,
         &mut pairs,
+        &mut work,
+        &mut flow,
         &mut terms,
         &mut runs,
         &mut out,

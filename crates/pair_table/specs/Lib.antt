@@ -3,6 +3,5 @@ pub mod Code
 pub mod Enter
 pub mod From
 pub mod Lists
-pub mod Refines
 pub mod Search
 pub mod Table

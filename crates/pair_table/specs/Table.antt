@@ -6,6 +6,7 @@ use lib.Dec.{ltb}
 use lib.ListN.{getD, set, length, take}
 use Rattle.spec.specs.Bytes.{Two, sameTwo, place, any, pick}
 use Rattle.spec.specs.Graph.{PAIRS}
+use Rattle.arrays.specs.Arrays.{unkey}
 use Rattle.pair_table.specs.declared.Pair.{Pair}
 use Rattle.pair_table.specs.declared.Count.{Count}
 use Rattle.pair_table.specs.declared.Entered.{Entered}
@@ -54,14 +55,14 @@ notNew (At i) = true
 notNew (New i) = false
 notNew Full = true
 
--- pair k of two plain arrays
-abbrev pub pairOf : List ℕ → List ℕ → ℕ → Two
-pairOf ls rs k = (getD ls k 0, getD rs k 0)
+-- pair k of those whose keys, left * 256 + right, stand from place `from` on
+abbrev pub pairAt : List ℕ → ℕ → ℕ → Two
+pairAt graph from k = unkey (getD graph (from + k) 0)
 
 -- n pairs from number k on, each entered after the k before it, up to one that was there already or finds no room: how many records are held then, and the table
-abbrev pub enteredOf : List ℕ → List ℕ → ℕ → ℕ → List Pair → ℕ × List Pair
-enteredOf ls rs zero k s = (k, s)
-enteredOf ls rs (suc n) k s = pick (notNew (enterOf s k (pairOf ls rs k))) (k, s) (enteredOf ls rs n (k + 1) (tableAfter s k (pairOf ls rs k)))
+abbrev pub enteredOf : List ℕ → ℕ → ℕ → ℕ → List Pair → ℕ × List Pair
+enteredOf graph from zero k s = (k, s)
+enteredOf graph from (suc n) k s = pick (notNew (enterOf s k (pairAt graph from k))) (k, s) (enteredOf graph from n (k + 1) (tableAfter s k (pairAt graph from k)))
 
 -- how many records stand from the queried pair's on; none where it is not held
 abbrev pub countedOf : ℕ × List Pair → Two → Count

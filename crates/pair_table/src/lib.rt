@@ -1,11 +1,11 @@
 // The pair table: "a lent slice of records, searched from its start". What decides is on values; the functions that hold the slice only index, call and loop.
 ghost use mathlib.Core.Path.{_≡_};
 ghost use mathlib.Core.Bool.{true};
-ghost use Prim.Native.Nat.{min, _-_, _≤_};
+ghost use Prim.Native.Nat.{min, _+_, _-_, _≤_};
 ghost use lib.ListN.{length, getD};
 ghost use Rattle.spec.specs.Bytes.{either, sameTwo, workAfter};
 ghost use Rattle.spec.specs.Graph.{PAIRS};
-ghost use Rattle.pair_table.specs.Table.{none, twoOf, findOf, putIn, outcomeOf, enterOf, tableAfter, notNew, enteredOf, countedOf};
+ghost use Rattle.pair_table.specs.Table.{none, twoOf, findOf, putIn, outcomeOf, enterOf, tableAfter, notNew, pairAt, enteredOf, countedOf};
 ghost use Rattle.pair_table.specs.Code.{codeOf};
 ghost use Rattle.pair_table.specs.Search.{seek, anyFrom};
 
@@ -158,14 +158,30 @@ pub fn clear_table(table: &mut [Pair])
     }
 }
 
-// A number of a plain slice; 0 past the end.
-fn word_at(s: &[u16], i: usize) -> u16
-    ensures { λ r. ⌜ r ≡ getD (now (s .entry)) i 0 ⌝ }
+// The key of pair k, which stands at from + k; 0 past the end.
+fn key_at(graph: &[u16], from: usize, k: usize) -> u16
+    ensures { λ r. ⌜ r ≡ getD (now (graph .entry)) (from + k) 0 ⌝ }
 {
-    if i < s.len() {
-        return s[i];
+    if from >= graph.len() {
+        return 0;
     }
-    0
+    if k >= graph.len() - from {
+        return 0;
+    }
+    graph[from + k]
+}
+
+// Its left class, and its right class.
+fn left_of(graph: &[u16], from: usize, k: usize) -> u16
+    ensures { λ r. ⌜ r ≡ pairAt (now (graph .entry)) from k .0 ⌝ }
+{
+    key_at(graph, from, k) / 256
+}
+
+fn right_of(graph: &[u16], from: usize, k: usize) -> u16
+    ensures { λ r. ⌜ r ≡ pairAt (now (graph .entry)) from k .1 ⌝ }
+{
+    key_at(graph, from, k) % 256
 }
 
 // Whether a pair was there already, or found no room.
@@ -179,14 +195,14 @@ fn not_new(e: Entered) -> bool
     }
 }
 
-// Enters the first n pairs of two plain slices in their order, as long as each is new. Gives how many records are held then.
-fn enter_all(table: &mut [Pair], lefts: &[u16], rights: &[u16], n: usize) -> usize
-    ensures { λ r. ⌜ (r ≡ enteredOf (now (lefts .entry)) (now (rights .entry)) n 0 (now (table .entry)) .0) × (now (table .exit) ≡ enteredOf (now (lefts .entry)) (now (rights .entry)) n 0 (now (table .entry)) .1) ⌝ }
+// Enters the n pairs whose keys stand from place `from` on, in their order, as long as each is new. Gives how many records are held then.
+fn enter_all(table: &mut [Pair], graph: &[u16], from: usize, n: usize) -> usize
+    ensures { λ r. ⌜ (r ≡ enteredOf (now (graph .entry)) from n 0 (now (table .entry)) .0) × (now (table .exit) ≡ enteredOf (now (graph .entry)) from n 0 (now (table .entry)) .1) ⌝ }
 {
     let mut k = 0;
     while k < n {
-        let l = word_at(lefts, k);
-        let r = word_at(rights, k);
+        let l = left_of(graph, from, k);
+        let r = right_of(graph, from, k);
         let e = enter(table, k, l, r);
         if not_new(e) {
             return k;
@@ -206,18 +222,18 @@ fn count_from(at: usize, held: usize) -> Count
     Count { pairs: 0 }
 }
 
-// Enters the first n pairs of two plain slices, and counts the records from the queried pair's on.
+// Enters the n pairs whose keys stand from place `from` on, and counts the records from the queried pair's on.
 pub fn enter_graph(
     table: &mut [Pair],
-    lefts: &[u16],
-    rights: &[u16],
+    graph: &[u16],
+    from: usize,
     n: usize,
     left: u16,
     right: u16,
 ) -> Count
-    ensures { λ r. ⌜ (r ≡ countedOf (enteredOf (now (lefts .entry)) (now (rights .entry)) n 0 (now (table .entry))) (left, right)) × (now (table .exit) ≡ enteredOf (now (lefts .entry)) (now (rights .entry)) n 0 (now (table .entry)) .1) ⌝ }
+    ensures { λ r. ⌜ (r ≡ countedOf (enteredOf (now (graph .entry)) from n 0 (now (table .entry))) (left, right)) × (now (table .exit) ≡ enteredOf (now (graph .entry)) from n 0 (now (table .entry)) .1) ⌝ }
 {
-    let held = enter_all(table, lefts, rights, n);
+    let held = enter_all(table, graph, from, n);
     let at = find(table, held, left, right);
     count_from(at, held)
 }

@@ -2,6 +2,8 @@
 // Writes a line for each: `size 5 mass 4 plan 1 1 0 1`, `refused` and its number, or `unreadable`.
 ghost use Prim.Native.Nat.{_+_, _≤_, _<_};
 ghost use lib.ListN.{length};
+use cost_matrix::CELLS;
+use cost_matrix::COSTS;
 use libc::STDIN_FILENO;
 use libc::STDOUT_FILENO;
 use transport::Answer;
@@ -350,8 +352,8 @@ fn solve_in(
     plan: &mut [u32],
     out: &mut [u8],
 ) -> usize {
-    let mut costs = [0u64; 12675];
-    let mut flow = [0u64; 4225];
+    let mut costs = [0u64; COSTS];
+    let mut flow = [0u64; CELLS];
     let a = solve_transport(
         supply,
         demand,

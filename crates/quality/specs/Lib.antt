@@ -1,5 +1,4 @@
-pub mod Known
+pub mod Runs
 pub mod Aligned
-pub mod Within
 pub mod Sums
 pub mod Offers

@@ -1,17 +1,18 @@
 -- A structural action counts each of its pairs once: its quality and its runs as plain sums and lists, pair by pair.
 use mathlib.Core.Path.{_≡_, refl, sym, ap, _∙_}
-use mathlib.Core.List.{List, [], _∷_, _++_, map}
-use Prim.Native.Nat.{ℕ, suc, _+_, _*_, _≤_, _<_}
+use mathlib.Core.List.{List, [], _∷_, map}
+use Prim.Native.Nat.{ℕ, _+_, _*_, _≤_, _<_}
 use native.Mathlib.Omega.{arith}
 use native.Mathlib.Numerals.{add-one}
-use lib.ListN.{length, getD, take, drop, set, length-map, length-set, drop-of-length-le, List·getD-map}
-use lib.Seq.{length-take-le, take-length, take-suc, drop-cons, append-snoc, set-at}
+use lib.ListN.{length, getD, drop, set, length-map, drop-of-length-le, List·getD-map}
+use lib.Seq.{drop-cons}
 use Rattle.spec.specs.Bytes.{Two, sum}
 use Rattle.spec.specs.Transport.{planSize, planMass}
 use Rattle.spec.specs.Action.{Action}
 use Rattle.spec.specs.Round.{cellsOver, ones, planRuns}
+use Rattle.laws.specs.Buffers.{over, Filled, filled-more, filled-all}
 use Rattle.id.specs.Tables.{getD-any}
-use Rattle.quality.specs.Known.{runsOf, over}
+use Rattle.quality.specs.Runs.{runsOf}
 use Rattle.quality.specs.Aligned.{structuralQuality}
 
 -- the entry k of a list, by its two parts
@@ -96,35 +97,16 @@ run-at of ps k h =
     ap (λ (l : List ℕ). getD l k 0) (ones-runs of ps) ∙ getD-any (map f ps) k 0 (f (0, 0)) (rw (length-map ps f) h) ∙ List·getD-map f ps k (0, 0)
 
 -- The first k runs stand in a buffer; what stands behind is as it was.
-pub record Listed (of : Two → ℕ) (ps : List Two) (list₀ : List ℕ) (k : ℕ) (list : List ℕ) : Type 0 where
-  pub done : k ≤ length ps
-  pub same : length list ≡ length list₀
-  pub numbers : list ≡ take k (runsOf of ps) ++ drop k list₀
+abbrev pub Listed : (Two → ℕ) → List Two → List ℕ → ℕ → List ℕ → Type 0
+Listed of ps list₀ k list = Filled (runsOf of ps) list₀ k list
 
--- a store takes the first k numbers of l to the first k + 1
-store-next : (l d : List ℕ) (k : ℕ) → k < length l → k < length d → set (take k l ++ drop k d) k (getD l k 0) ≡ take (suc k) l ++ drop (suc k) d
-store-next l d k a b =
-    ap (λ (r : List ℕ). set (take k l ++ r) k (getD l k 0)) (drop-cons d k 0 b)
-    ∙ set-at (take k l) (getD d k 0) (drop (suc k) d) (getD l k 0) k (length-take-le k l (omega arith))
-    ∙ sym (append-snoc (take k l) (getD l k 0) (drop (suc k) d))
-    ∙ ap (λ (r : List ℕ). r ++ drop (suc k) d) (sym (take-suc l k 0 a))
+module _ (of : Two → ℕ) (ps : List Two) (list₀ : List ℕ) (k : ℕ) (list : List ℕ) (S : Listed of ps list₀ k list) where
+  pub listed-more : k < length ps → k < length list → (l r x : ℕ) (list′ : List ℕ) → l ≡ getD ps k (0, 0) .0 → r ≡ getD ps k (0, 0) .1 → x ≡ of (l, r)
+      → list′ ≡ set list k (16384 + x) → Listed of ps list₀ (k + 1) list′
+  listed-more h b l r x list′ e f u w =
+      rw w
+      (filled-more (runsOf of ps) list₀ k list S (16384 + x) (omega (arith, many-runs of ps)) b
+      (ap (λ (z : ℕ). 16384 + z) (u ∙ ap of (two-parts ps k l r e f)) ∙ sym (run-at of ps k h)))
 
-module _ (of : Two → ℕ) (ps : List Two) (list₀ : List ℕ) where
-  pub listed-none : Listed of ps list₀ 0 list₀
-  listed-none = record { done = omega arith; same = refl; numbers = refl }
-
-  module _ (k : ℕ) (list : List ℕ) (S : Listed of ps list₀ k list) where
-    pub listed-more : k < length ps → k < length list → (l r x : ℕ) (list′ : List ℕ) → l ≡ getD ps k (0, 0) .0 → r ≡ getD ps k (0, 0) .1 → x ≡ of (l, r)
-        → list′ ≡ set list k (16384 + x) → Listed of ps list₀ (k + 1) list′
-    listed-more h b l r x list′ e f u w =
-        let v : 16384 + x ≡ getD (runsOf of ps) k 0 = ap (λ (z : ℕ). 16384 + z) (u ∙ ap of (two-parts ps k l r e f)) ∙ sym (run-at of ps k h) in
-        record {
-          done = omega arith;
-          same = ap (λ (z : List ℕ). length z) w ∙ length-set list k (16384 + x) ∙ S .same;
-          numbers = rw (add-one k) (w ∙ (λ i. set (S .numbers i) k (v i)) ∙ store-next (runsOf of ps) list₀ k (omega (arith, many-runs of ps)) (omega (arith, S .same)));
-        }
-
-    pub listed-all : length ps ≤ k → list ≡ over (runsOf of ps) list₀
-    listed-all h =
-        let e : k ≡ length (runsOf of ps) = omega (arith, S .done, many-runs of ps) in
-        S .numbers ∙ (λ i. take (e i) (runsOf of ps) ++ drop (e i) list₀) ∙ ap (λ (z : List ℕ). z ++ drop (length (runsOf of ps)) list₀) (take-length (runsOf of ps))
+  pub listed-all : length ps ≤ k → list ≡ over (runsOf of ps) list₀
+  listed-all h = filled-all (runsOf of ps) list₀ k list S (omega (arith, many-runs of ps))

@@ -48,15 +48,15 @@ fn read_record(buffer: &mut [u8]) -> usize {
 fn judge_next(
     input: &mut [u8],
     expected: &mut [u8],
-    lefts: &mut [u16],
-    rights: &mut [u16],
-    index: &mut [u16],
+    graph: &mut [u16],
     pairs: &mut [u32],
+    work: &mut [u64],
+    flow: &mut [u64],
     terms: &mut [u32],
     runs: &mut [u64],
     out: &mut [u8],
 ) -> Judged
-    requires { ⌜ Rooms (now lefts) (now rights) (now index) (now pairs) (now terms) (now runs) (now out) ⌝ }
+    requires { ⌜ Rooms (now graph) (now pairs) (now work) (now flow) (now terms) (now runs) (now out) ⌝ }
 {
     let n = read_record(input);
     if n > input.len() {
@@ -66,7 +66,7 @@ fn judge_next(
     if m > expected.len() {
         return Judged::End;
     }
-    let k = answer::respond(&input[0..n], lefts, rights, index, pairs, terms, runs, out);
+    let k = answer::respond(&input[0..n], graph, pairs, work, flow, terms, runs, out);
     if agrees(out, k, &expected[0..m]) {
         return Judged::Same;
     }
@@ -114,15 +114,15 @@ fn tallied(t: Tally, j: Judged) -> Tally
 fn replay_all(
     input: &mut [u8],
     expected: &mut [u8],
-    lefts: &mut [u16],
-    rights: &mut [u16],
-    index: &mut [u16],
+    graph: &mut [u16],
     pairs: &mut [u32],
+    work: &mut [u64],
+    flow: &mut [u64],
     terms: &mut [u32],
     runs: &mut [u64],
     out: &mut [u8],
 )
-    requires { ⌜ Rooms (now lefts) (now rights) (now index) (now pairs) (now terms) (now runs) (now out) ⌝ }
+    requires { ⌜ Rooms (now graph) (now pairs) (now work) (now flow) (now terms) (now runs) (now out) ⌝ }
 {
     let mut t = Tally {
         same: 0,
@@ -130,17 +130,7 @@ fn replay_all(
         left: 1000000,
     };
     while t.left > 0 {
-        let j = judge_next(
-            input,
-            expected,
-            lefts,
-            rights,
-            index,
-            pairs,
-            terms,
-            runs,
-            out,
-        );
+        let j = judge_next(input, expected, graph, pairs, work, flow, terms, runs, out);
         t = tallied(t, j);
     }
     say(t.same, t.all);
@@ -149,20 +139,20 @@ fn replay_all(
 fn main() {
     let mut input = [0u8; 65537];
     let mut expected = [0u8; 65536];
-    let mut lefts = [0u16; 4096];
-    let mut rights = [0u16; 4096];
-    let mut index = [0u16; 8192];
-    let mut pairs = [0u32; 24576];
-    let mut terms = [0u32; 8194];
-    let mut runs = [0u64; 4096];
+    let mut graph = [0u16; 4352];
+    let mut pairs = [0u32; 1536];
+    let mut work = [0u64; 1024];
+    let mut flow = [0u64; 256];
+    let mut terms = [0u32; 3074];
+    let mut runs = [0u64; 1024];
     let mut out = [0u8; 65536];
     replay_all(
         &mut input,
         &mut expected,
-        &mut lefts,
-        &mut rights,
-        &mut index,
+        &mut graph,
         &mut pairs,
+        &mut work,
+        &mut flow,
         &mut terms,
         &mut runs,
         &mut out,

@@ -6,9 +6,9 @@ use native.Mathlib.Omega.{arith}
 use lib.ListN.{length}
 use Rattle.spec.specs.Image.{Tables}
 use Rattle.ac_repr.specs.Walk.{walks, afterOf, leftOf, Stepped}
-use Rattle.ac_repr.specs.declared.pairs.Walk.{Walk}
-use Rattle.ac_repr.specs.declared.pairs.Step.{Step}
-use Rattle.ac_repr.specs.declared.pairs.Step.the-variants.{At}
+use Rattle.ac_repr.specs.declared.Walk.{Walk}
+use Rattle.ac_repr.specs.declared.Step.{Step}
+use Rattle.ac_repr.specs.declared.Step.the-variants.{At}
 
 -- fewer pairs are left at the next step
 pub left-less : (t : Tables) (l r : ℕ) (x : Step) (w : Walk) (y : Step) → x ≡ At w → Stepped t l r (walks t l r) (walks t l r (afterOf w)) y

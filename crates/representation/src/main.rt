@@ -6,15 +6,15 @@ ghost use lib.ListN.{length};
 ghost use Rattle.spec.specs.Image.{tablesOf};
 ghost use Rattle.laws.specs.Valid.{Valid};
 ghost use Rattle.image.specs.Loaded.{Loaded};
-ghost use Rattle.ac_repr.specs.Terms.{TERMS, NUMBERS};
-use ac_repr::Padded;
-use ac_repr::pairs::Step;
-use ac_repr::pairs::Walk;
+ghost use Rattle.monomial.specs.Terms.{TERMS, NUMBERS};
+use ac_repr::Step;
+use ac_repr::Walk;
 use image::Image;
 use judge::Verdict;
 use judge::judge;
 use libc::STDIN_FILENO;
 use libc::STDOUT_FILENO;
+use monomial::Padded;
 
 // of an image that shows every two of its classes
 const SMALL: usize = 12;
@@ -25,7 +25,7 @@ const FRAME: usize = 65536;
 const QUERY: usize = 8;
 
 fn number(n: usize) {
-    io::print_decimal(STDOUT_FILENO, n as u64);
+    io::print_decimal(STDOUT_FILENO, numbers::long_size(n));
 }
 
 fn refused() {
@@ -46,7 +46,7 @@ fn terms(mono: &[u64], n: usize)
 {
     let mut i = 0;
     while i < n {
-        term(ac_repr::class_at(mono, i), ac_repr::count_at(mono, i));
+        term(monomial::class_at(mono, i), monomial::count_at(mono, i));
         i += 1;
     }
 }
@@ -70,9 +70,9 @@ fn write(l: usize, r: usize, op: usize, left: &[u64], n: usize, right: &[u64], m
 fn line(s: &[u8], im: Image, l: usize, r: usize, w: Walk)
     requires { ⌜ Loaded (now s) im × Valid (tablesOf (now s)) × (l < im .classes) × (r < im .classes) × (w .op < im .operations) ⌝ }
 {
-    let mut left = [0u64; ac_repr::NUMBERS];
-    let mut right = [0u64; ac_repr::NUMBERS];
-    let found = ac_repr::pairs::monomials(s, im, l, r, w, &mut left, &mut right);
+    let mut left = [0u64; monomial::NUMBERS];
+    let mut right = [0u64; monomial::NUMBERS];
+    let found = ac_repr::monomials(s, im, l, r, w, &mut left, &mut right);
     match found {
         Padded::Pair(n, m) => {
             write(l, r, w.op, &left, n, &right, m);
@@ -85,12 +85,12 @@ fn line(s: &[u8], im: Image, l: usize, r: usize, w: Walk)
 fn of_classes(s: &[u8], im: Image, l: usize, r: usize)
     requires { ⌜ Loaded (now s) im × Valid (tablesOf (now s)) × (l < im .classes) × (r < im .classes) ⌝ }
 {
-    let mut x = ac_repr::pairs::first(s, im, l, r);
+    let mut x = ac_repr::first(s, im, l, r);
     loop {
         match x {
             Step::At(w) => {
                 line(s, im, l, r, w);
-                x = ac_repr::pairs::next(s, im, l, r, w);
+                x = ac_repr::next(s, im, l, r, w);
             }
             Step::End => {
                 return;
@@ -174,7 +174,7 @@ fn each(s: &[u8]) {
     let mut at = 0;
     while at + 4 <= s.len() {
         let from = at + 4;
-        let n = image::be4(s, at) as usize;
+        let n = numbers::size_u64(image::be4(s, at));
         if n > s.len() - from {
             return;
         }

@@ -1,11 +1,6 @@
-pub mod Arrays
-pub mod ArrayLaws
-pub mod Settling
-pub mod Spending
-pub mod Shorts
 pub mod Graphs
+pub mod Spending
+pub mod Idling
 pub mod Turning
 pub mod TakeLaws
-pub mod Quiet
-pub mod Outcomes
 pub mod Running

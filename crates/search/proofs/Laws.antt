@@ -1,4 +1,4 @@
--- What the definitions of Net say in each case of the code.
+-- What the definitions of Edges say in each case of the code.
 use mathlib.Core.Path.{_≡_, refl, sym}
 use mathlib.Core.Bool.{true, false}
 use mathlib.Core.List.{List}
@@ -7,27 +7,14 @@ use native.Mathlib.Omega.{arith}
 use borrow.Author.Tests.{lt-ltb, le-ltb, le-leb, lt-leb, eq-eqb, ne-eqb}
 use lib.ListN.{getD, set}
 use Rattle.wide.specs.declared.Wide.{Wide}
-use Rattle.search.specs.Net.{stateOf, labelled, offered, joined, improved, relaxed, capOf, costOf, alongMargin, alongCell, againstCell, spreadTo, alongRow, againstColumn, labelOf, visited, unseenTo}
 use Rattle.wide.specs.Wrap.{addWords, negWords}
 use native.Mathlib.Nat.{add-assoc, add-zero, sub-zero, mul-le-mul-right}
+use Rattle.labels.specs.Net.{stateOf, labelled, offered, joined, improved, relaxed, labelOf, unseenTo}
+use Rattle.cost_matrix.specs.Matrix.{capOf, costOf}
+use Rattle.search.specs.Edges.{alongMargin, alongCell, againstCell, spreadTo, alongRow, againstColumn, visited, TAKEN}
+use Rattle.spec.specs.Transport.{WIDEST}
 
 module _ (m : List ℕ) (u v : ℕ) (d : Wide) where
-  pub improved-queued : stateOf (labelled m u v d) v ≡ 2 → labelled m u v d ≡ improved m u v d
-  unfolding improved
-  improved-queued q = rw (eq-eqb (stateOf (labelled m u v d) v) 2 q) refl
-
-  pub improved-joins : (stateOf (labelled m u v d) v ≡ 2 → ⊥) → joined (labelled m u v d) v ≡ improved m u v d
-  unfolding improved
-  improved-joins q = rw (ne-eqb (stateOf (labelled m u v d) v) 2 q) refl
-
-  pub relaxed-yes : true ≡ offered m v d → improved m u v d ≡ relaxed m u v d
-  unfolding relaxed
-  relaxed-yes e = rw (sym e) refl
-
-  pub relaxed-not : false ≡ offered m v d → m ≡ relaxed m u v d
-  unfolding relaxed
-  relaxed-not e = rw (sym e) refl
-
   pub margin-yes : (r : ℕ) → 0 < r → relaxed m u v d ≡ alongMargin r m u v d
   unfolding alongMargin
   margin-yes r h = rw (lt-ltb 0 r h) refl
@@ -111,22 +98,10 @@ module _ (g x y : List ℕ) (r c u : ℕ) (m : List ℕ) where
   visited-row a b = rw (ne-eqb u 0 a, le-leb u r b) refl
 
   pub visited-column : (u ≡ 0 → ⊥) → r < u → u ≤ r + c
-      → (let t = alongMargin (getD y (65 + (u - 1 - r)) 0) m u (1 + r + c) (labelOf m u) in againstColumn g x c u (labelOf t u) r (u - 1 - r) 1 t) ≡ visited g x y r c u m
+      → (let t = alongMargin (getD y (WIDEST + (u - 1 - r)) 0) m u (1 + r + c) (labelOf m u) in againstColumn g x c u (labelOf t u) r (u - 1 - r) 1 t) ≡ visited g x y r c u m
   unfolding visited
   visited-column a b d = rw (ne-eqb u 0 a, lt-leb u r b, le-leb u (r + c) d) refl
 
-  pub visited-sink : (u ≡ 0 → ⊥) → r < u → r + c < u → spreadTo y (1 + r + c) (labelOf m (1 + r + c)) c 130 (1 + r) m ≡ visited g x y r c u m
+  pub visited-sink : (u ≡ 0 → ⊥) → r < u → r + c < u → spreadTo y (1 + r + c) (labelOf m (1 + r + c)) c TAKEN (1 + r) m ≡ visited g x y r c u m
   unfolding visited
   visited-sink a b d = rw (ne-eqb u 0 a, lt-leb u r b, lt-leb u (r + c) d) refl
-
-module _ (n i : ℕ) (m : List ℕ) where
-  pub unsee-start : unseenTo (n - 0) 0 m ≡ unseenTo n 0 m
-  unsee-start = rw (sub-zero n) refl
-
-  pub unsee-turn : i < n → unseenTo (n - i) i m ≡ unseenTo (n - (i + 1)) (i + 1) (set m (396 + i) 0)
-  unfolding unseenTo
-  unsee-turn h = let e : n - i ≡ suc (n - (i + 1)) = omega arith in rw e refl
-
-  pub unsee-end : n ≤ i → unseenTo (n - i) i m ≡ m
-  unfolding unseenTo
-  unsee-end h = let e : n - i ≡ 0 = omega arith in rw e refl

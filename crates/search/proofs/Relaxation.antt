@@ -19,11 +19,11 @@ use Rattle.wide.specs.declared.Wide.{Wide}
 use Rattle.wide.specs.Wrap.{Natural, less-natural}
 use Rattle.flow.specs.Cut.{bit}
 use Rattle.flow.specs.Search.{labelAt, predAt, true-false}
-use Rattle.search.specs.Net.{labelOf, predOf, stateOf, headOf, countOf, labelled, joined, improved, offered, relaxed}
 use Rattle.search.specs.Holds.{NetHolds, ringFrom}
-use Rattle.search.proofs.Laws.{improved-queued, improved-joins, relaxed-yes, relaxed-not}
 use Rattle.search.proofs.NetReads.{labelled-size, labelled-at, labelled-off, labelled-pred, labelled-pred-off, labelled-state, labelled-head, labelled-count, labelled-ring, joined-size, joined-label, joined-pred, joined-state, joined-state-off, joined-head, joined-ring, ring-length}
 use Rattle.search.proofs.Once.{one-same, one-other, occurs-last, queue-room}
+use Rattle.labels.specs.Net.{labelOf, predOf, stateOf, headOf, countOf, labelled, joined, improved, offered, relaxed, NODES, NET}
+use Rattle.labels.specs.NetLaws.{improved-queued, improved-joins, relaxed-yes, relaxed-not}
 
 bit-le : (b : Bool) → bit b ≤ 1
 bit-le true = omega arith
@@ -43,12 +43,12 @@ pub record Sized (p : Problem) (s : Search) : Type 0 where
   pub queued : length (s .queued) ≡ nodeCount p
   pub inside : (v : ℕ) → In v (s .queue) → v < nodeCount p
 
-module _ (p : Problem) (few : nodeCount p ≤ 132) (s : Search) (Z : Sized p s) (m : List ℕ) (N : NetHolds p s m)
+module _ (p : Problem) (few : nodeCount p ≤ NODES) (s : Search) (Z : Sized p s) (m : List ℕ) (N : NetHolds p s m)
     (u v : ℕ) (hv : v < nodeCount p) (d : Wide) (k : ℕ) (D : Natural d k) where
   abbrev t : Search
   t = label u v (pos k) s
 
-  hv′ : v < 132
+  hv′ : v < NODES
   hv′ = omega arith
 
   Lv : labelAt (label u v (pos k) s) v ≡ some (pos k)
@@ -130,19 +130,19 @@ module _ (p : Problem) (few : nodeCount p ≤ 132) (s : Search) (Z : Sized p s) 
       m′ : List ℕ
       m′ = labelled m u v d
 
-      len′ : length (labelled m u v d) ≡ 662
+      len′ : length (labelled m u v d) ≡ NET
       len′ = labelled-size m (N .size) u v hv′ d
 
       flag : getD (s .queued) v false ≡ false
       flag = sym (N .flags v hv) ∙ ne-eqb (stateOf m v) 2 e
 
-      hh : headOf (labelled m u v d) < 132
+      hh : headOf (labelled m u v d) < NODES
       hh = rw (labelled-head m (N .size) u v hv′ d) (N .head)
 
       room : length (s .queue) < nodeCount p
       room = queue-room (nodeCount p) (s .queue) v (Z .inside) (λ z. rw (N .once z) (bit-le (getD (s .queued) z false))) hv (N .once v ∙ ap bit flag)
 
-      hc : countOf (labelled m u v d) < 132
+      hc : countOf (labelled m u v d) < NODES
       hc = rw (labelled-count m (N .size) u v hv′ d) (omega (arith, room, count-is))
 
       same-ring : ringFrom (labelled m u v d) (countOf (labelled m u v d)) (headOf (labelled m u v d)) ≡ s .queue
@@ -151,7 +151,7 @@ module _ (p : Problem) (few : nodeCount p ≤ 132) (s : Search) (Z : Sized p s) 
       queue-is : label u v (pos k) s .queue ≡ s .queue ++ (v ∷ [])
       queue-is = rw flag refl
 
-      st : (z : ℕ) → z < 132 → z ≢ v → stateOf (joined (labelled m u v d) v) z ≡ stateOf m z
+      st : (z : ℕ) → z < NODES → z ≢ v → stateOf (joined (labelled m u v d) v) z ≡ stateOf m z
       st z hz ne = joined-state-off m′ len′ v hv′ hh hc z hz ne ∙ labelled-state m (N .size) u v hv′ d z
 
       stv : stateOf (joined (labelled m u v d) v) v ≡ 2

@@ -17,12 +17,13 @@ use Rattle.spec.specs.Transport.{Search, weight, rowsOf, colsOf, nodeCount, sin
 use Rattle.flow.specs.Sums.{sum-cong}
 use Rattle.flow.specs.Search.{labelAt, labelOr, labelSum, Labelled, good-leave, visited as all-visited}
 use Rattle.flow.specs.SearchEnds.{good-begin, inner, searched-rests}
-use Rattle.search.specs.Net.{stateOf, headOf, countOf, firstOf, visited, left, begun, ranTo, beyond, measure, searchedNet}
 use Rattle.search.specs.Holds.{NetHolds, Ready, Found}
 use Rattle.search.proofs.NetReads.{ring-length}
 use Rattle.search.proofs.Visits.{sized, dear103, Going, visit-holds}
 use Rattle.search.specs.Fits.{few}
 use Rattle.search.proofs.Turns.{first-is, first-lt, leave-holds, begin-holds}
+use Rattle.labels.specs.Net.{stateOf, headOf, countOf, firstOf, left, begun, NODES, HIGH, NET}
+use Rattle.search.specs.Edges.{visited, ranTo, beyond, measure, searchedNet}
 
 module _ {r c : ℕ} {g f y : List ℕ} (R : Ready r c g f y) where
   -- at the loop's head
@@ -34,7 +35,7 @@ module _ {r c : ℕ} {g f y : List ℕ} (R : Ready r c g f y) where
     pub fuel : ℕ
     pub rest : search (R .p) (weight (R .p)) (R .x) fuel (s .queue) s ≡ searched (R .p) (weight (R .p)) (R .x)
 
-  few′ : nodeCount (R .p) ≤ 132
+  few′ : nodeCount (R .p) ≤ NODES
   few′ = few (R .p) (R .small) (R .x) (R .partly)
 
   -- the measure, as the definition's numbers
@@ -42,17 +43,17 @@ module _ {r c : ℕ} {g f y : List ℕ} (R : Ready r c g f y) where
   unfolding measure
   measure-is s m N = omega (
     arith,
-    sum-cong (nodeCount (R .p)) {f = λ v. pick (eqb (stateOf m v) 0) (beyond (nodeCount (R .p))) (getD m v 0 + 2 ^ 64 * getD m (132 + v) 0)} {g = λ v. labelOr (beyond (nodeCount (R .p))) (labelAt s v)} (λ v hv. each v hv (ℕ-discrete (stateOf m v) 0)),
+    sum-cong (nodeCount (R .p)) {f = λ v. pick (eqb (stateOf m v) 0) (beyond (nodeCount (R .p))) (getD m v 0 + 2 ^ 64 * getD m (HIGH + v) 0)} {g = λ v. labelOr (beyond (nodeCount (R .p))) (labelAt s v)} (λ v hv. each v hv (ℕ-discrete (stateOf m v) 0)),
     ring-length m (countOf m) (headOf m),
     ap length (N .ring),
   )
     where
       each : (v : ℕ) → v < nodeCount (R .p) → Dec (stateOf m v ≡ 0)
-          → pick (eqb (stateOf m v) 0) (beyond (nodeCount (R .p))) (getD m v 0 + 2 ^ 64 * getD m (132 + v) 0) ≡ labelOr (beyond (nodeCount (R .p))) (labelAt s v)
+          → pick (eqb (stateOf m v) 0) (beyond (nodeCount (R .p))) (getD m v 0 + 2 ^ 64 * getD m (HIGH + v) 0) ≡ labelOr (beyond (nodeCount (R .p))) (labelAt s v)
       each v hv (yes e) = rw (eq-eqb (stateOf m v) 0 e, N .unseen v hv e) refl
       each v hv (no e) = let (k, a, b) = N .seen v hv e in rw (ne-eqb (stateOf m v) 0 e, a) (b .is)
 
-  pub begins : (m : List ℕ) → length m ≡ 662 → Searching (begun (1 + r + c) m)
+  pub begins : (m : List ℕ) → length m ≡ NET → Searching (begun (1 + r + c) m)
   unfolding searched
   begins m len =
       let e : begun (1 + r + c) m ≡ begun (sink (R .p)) m = λ i. begun (1 + sym (R .rows) i + sym (R .cols) i) m in
@@ -78,8 +79,8 @@ module _ {r c : ℕ} {g f y : List ℕ} (R : Ready r c g f y) where
 
   -- one turn: the facts that taking off the first node asks for, the state after it, and a lower measure
   pub record Turn (m : List ℕ) : Type 0 where
-    pub head : headOf m < 132
-    pub node : firstOf m < 132
+    pub head : headOf m < NODES
+    pub node : firstOf m < NODES
     pub next : Searching (visited g f y r c (firstOf m) (left m))
     pub less : measure r c (visited g f y r c (firstOf m) (left m)) < measure r c m
 

@@ -17,15 +17,15 @@ use Rattle.spec.specs.Transport.{Problem, Search, nodeCount, sink, label, leave
 use Rattle.flow.specs.Cut.{bit}
 use Rattle.flow.specs.Search.{labelAt, true-false, visited as all-visited}
 use Rattle.flow.specs.SearchEnds.{getD-same}
-use Rattle.search.specs.Net.{labelOf, stateOf, headOf, countOf, firstOf, left, unseenTo, begun}
 use Rattle.search.specs.Holds.{NetHolds, ringFrom}
-use Rattle.search.proofs.Laws.{improved-joins}
 use Rattle.search.proofs.NetReads.{ring-other, ring-length, labelled-state}
 use Rattle.search.proofs.Once.{one, one-same, one-other, occurs-first}
 use Rattle.search.proofs.Relaxation.{Sized, improved-holds}
+use Rattle.labels.specs.Net.{labelOf, stateOf, headOf, countOf, firstOf, left, unseenTo, begun, NODES, HIGH, PRED, STATE, HEAD, COUNT, NET}
+use Rattle.labels.specs.NetLaws.{improved-joins}
 
 -- ---- a place of the ring by its remainder
-pub ring-same : (m : List ℕ) (n a b : ℕ) → a % 132 ≡ b % 132 → ringFrom m n a ≡ ringFrom m n b
+pub ring-same : (m : List ℕ) (n a b : ℕ) → a % NODES ≡ b % NODES → ringFrom m n a ≡ ringFrom m n b
 unfolding ringFrom
 ring-same m zero a b e = refl
 ring-same m (suc n) a b e = rw (e, ring-same m n (a + 1) (b + 1) (omega arith)) refl
@@ -34,7 +34,7 @@ tail-of : {a b : ℕ} {l q : List ℕ} → a ∷ l ≡ b ∷ q → (a ≡ b) × 
 tail-of e = (cc, cc)
 
 -- ---- the first node leaves
-module _ (p : Problem) (few′ : nodeCount p ≤ 132) (s : Search) (Z : Sized p s) (m : List ℕ) (N : NetHolds p s m) (u : ℕ) (q : List ℕ) (eq : s .queue ≡ u ∷ q) where
+module _ (p : Problem) (few′ : nodeCount p ≤ NODES) (s : Search) (Z : Sized p s) (m : List ℕ) (N : NetHolds p s m) (u : ℕ) (q : List ℕ) (eq : s .queue ≡ u ∷ q) where
   pub count-suc : countOf m ≡ suc (length q)
   count-suc = sym (ring-length m (countOf m) (headOf m)) ∙ ap length (N .ring ∙ eq)
 
@@ -43,7 +43,7 @@ module _ (p : Problem) (few′ : nodeCount p ≤ 132) (s : Search) (Z : Sized p 
   parts =
       let e : ringFrom m (suc (length q)) (headOf m) ≡ u ∷ q = ap (λ (n : ℕ). ringFrom m n (headOf m)) (sym count-suc) ∙ N .ring ∙ eq in
       let (a, b) = tail-of e in
-      let h : headOf m % 132 ≡ headOf m = omega (arith, N .head) in
+      let h : headOf m % NODES ≡ headOf m = omega (arith, N .head) in
       (rw h at a, b)
 
   pub first-is : firstOf m ≡ u
@@ -52,43 +52,43 @@ module _ (p : Problem) (few′ : nodeCount p ≤ 132) (s : Search) (Z : Sized p 
   pub first-lt : u < nodeCount p
   first-lt = Z .inside u (rw eq here)
 
-  hu : u < 132
+  hu : u < NODES
   hu = omega (arith, first-lt)
 
-  left-is : left m ≡ set (set (set m (396 + u) 1) 660 ((headOf m + 1) % 132)) 661 (length q)
+  left-is : left m ≡ set (set (set m (STATE + u) 1) HEAD ((headOf m + 1) % NODES)) COUNT (length q)
   unfolding left
   left-is = let c : countOf m - 1 ≡ length q = omega (arith, count-suc) in rw (first-is, c) refl
 
-  far : (k : ℕ) → k ≢ 396 + u → k ≢ 660 → k ≢ 661 → getD (left m) k 0 ≡ getD m k 0
+  far : (k : ℕ) → k ≢ STATE + u → k ≢ HEAD → k ≢ COUNT → getD (left m) k 0 ≡ getD m k 0
   far k a b c = rw left-is
-      (getD-set-other (set (set m (396 + u) 1) 660 ((headOf m + 1) % 132)) 661 k (length q) 0 c
-      ∙ getD-set-other (set m (396 + u) 1) 660 k ((headOf m + 1) % 132) 0 b ∙ getD-set-other m (396 + u) k 1 0 a)
+      (getD-set-other (set (set m (STATE + u) 1) HEAD ((headOf m + 1) % NODES)) COUNT k (length q) 0 c
+      ∙ getD-set-other (set m (STATE + u) 1) HEAD k ((headOf m + 1) % NODES) 0 b ∙ getD-set-other m (STATE + u) k 1 0 a)
 
   state-u : stateOf (left m) u ≡ 1
   state-u = rw left-is
-      (getD-set-other (set (set m (396 + u) 1) 660 ((headOf m + 1) % 132)) 661 (396 + u) (length q) 0 (omega (arith, hu))
-      ∙ getD-set-other (set m (396 + u) 1) 660 (396 + u) ((headOf m + 1) % 132) 0 (omega (arith, hu)) ∙ getD-set-same m (396 + u) 1 0 (omega (arith, N .size, hu)))
+      (getD-set-other (set (set m (STATE + u) 1) HEAD ((headOf m + 1) % NODES)) COUNT (STATE + u) (length q) 0 (omega (arith, hu))
+      ∙ getD-set-other (set m (STATE + u) 1) HEAD (STATE + u) ((headOf m + 1) % NODES) 0 (omega (arith, hu)) ∙ getD-set-same m (STATE + u) 1 0 (omega (arith, N .size, hu)))
 
-  state-z : (z : ℕ) → z < 132 → z ≢ u → stateOf (left m) z ≡ stateOf m z
-  state-z z hz ne = far (396 + z) (omega arith) (omega arith) (omega arith)
+  state-z : (z : ℕ) → z < NODES → z ≢ u → stateOf (left m) z ≡ stateOf m z
+  state-z z hz ne = far (STATE + z) (omega arith) (omega arith) (omega arith)
 
-  label-z : (z : ℕ) → z < 132 → labelOf (left m) z ≡ labelOf m z
-  label-z z hz = λ i. record { lo = far z (omega arith) (omega arith) (omega arith) i; hi = far (132 + z) (omega arith) (omega arith) (omega arith) i }
+  label-z : (z : ℕ) → z < NODES → labelOf (left m) z ≡ labelOf m z
+  label-z z hz = λ i. record { lo = far z (omega arith) (omega arith) (omega arith) i; hi = far (HIGH + z) (omega arith) (omega arith) (omega arith) i }
 
-  head-is : headOf (left m) ≡ (headOf m + 1) % 132
+  head-is : headOf (left m) ≡ (headOf m + 1) % NODES
   head-is = rw left-is
-      (getD-set-other (set (set m (396 + u) 1) 660 ((headOf m + 1) % 132)) 661 660 (length q) 0 (omega arith)
-      ∙ getD-set-same (set m (396 + u) 1) 660 ((headOf m + 1) % 132) 0 (simp length-set (omega (arith, N .size))))
+      (getD-set-other (set (set m (STATE + u) 1) HEAD ((headOf m + 1) % NODES)) COUNT HEAD (length q) 0 (omega arith)
+      ∙ getD-set-same (set m (STATE + u) 1) HEAD ((headOf m + 1) % NODES) 0 (simp length-set (omega (arith, N .size))))
 
   count-is : countOf (left m) ≡ length q
-  count-is = rw left-is (getD-set-same (set (set m (396 + u) 1) 660 ((headOf m + 1) % 132)) 661 (length q) 0 (simp length-set (omega (arith, N .size))))
+  count-is = rw left-is (getD-set-same (set (set m (STATE + u) 1) HEAD ((headOf m + 1) % NODES)) COUNT (length q) 0 (simp length-set (omega (arith, N .size))))
 
-  ring-is : ringFrom (left m) (length q) ((headOf m + 1) % 132) ≡ q
+  ring-is : ringFrom (left m) (length q) ((headOf m + 1) % NODES) ≡ q
   ring-is = rw left-is
-      (ring-other (set (set m (396 + u) 1) 660 ((headOf m + 1) % 132)) 661 (length q) (inr (omega arith)) (length q) ((headOf m + 1) % 132)
-      ∙ ring-other (set m (396 + u) 1) 660 ((headOf m + 1) % 132) (inr (omega arith)) (length q) ((headOf m + 1) % 132)
-      ∙ ring-other m (396 + u) 1 (inl (omega (arith, hu))) (length q) ((headOf m + 1) % 132)
-      ∙ ring-same m (length q) ((headOf m + 1) % 132) (headOf m + 1) (omega arith) ∙ parts .1)
+      (ring-other (set (set m (STATE + u) 1) HEAD ((headOf m + 1) % NODES)) COUNT (length q) (inr (omega arith)) (length q) ((headOf m + 1) % NODES)
+      ∙ ring-other (set m (STATE + u) 1) HEAD ((headOf m + 1) % NODES) (inr (omega arith)) (length q) ((headOf m + 1) % NODES)
+      ∙ ring-other m (STATE + u) 1 (inl (omega (arith, hu))) (length q) ((headOf m + 1) % NODES)
+      ∙ ring-same m (length q) ((headOf m + 1) % NODES) (headOf m + 1) (omega arith) ∙ parts .1)
 
   flag-u : getD (s .queued) u false ≡ true
   flag-u = go (getD (s .queued) u false) refl
@@ -105,7 +105,7 @@ module _ (p : Problem) (few′ : nodeCount p ≤ 132) (s : Search) (Z : Sized p 
     size = rw left-is (simp length-set (N .size));
     unseen = λ z hz o. unseen z hz o (ℕ-discrete z u);
     seen = λ z hz o. let (k, a, b) = N .seen z hz (λ e. o (was z hz e (ℕ-discrete z u))) in (k, a, rw (label-z z (omega arith)) b);
-    pred = λ z hz o. far (264 + z) (omega arith) (omega arith) (omega arith) ∙ N .pred z hz (λ e. o (was z hz e (ℕ-discrete z u)));
+    pred = λ z hz o. far (PRED + z) (omega arith) (omega arith) (omega arith) ∙ N .pred z hz (λ e. o (was z hz e (ℕ-discrete z u)));
     flags = λ z hz. flags z hz (ℕ-discrete z u);
     head = rw head-is (omega arith);
     ring = rw (count-is, head-is) ring-is;
@@ -147,21 +147,21 @@ module _ (p : Problem) (few′ : nodeCount p ≤ 132) (s : Search) (Z : Sized p 
 pub unseen-size : (n v : ℕ) (m : List ℕ) → length (unseenTo n v m) ≡ length m
 unfolding unseenTo
 unseen-size zero v m = refl
-unseen-size (suc n) v m = unseen-size n (v + 1) (set m (396 + v) 0) ∙ length-set m (396 + v) 0
+unseen-size (suc n) v m = unseen-size n (v + 1) (set m (STATE + v) 0) ∙ length-set m (STATE + v) 0
 
 -- a number that was not written, and one that was
-unseen-off : (n v : ℕ) (m : List ℕ) (k : ℕ) → k < 396 + v → getD (unseenTo n v m) k 0 ≡ getD m k 0
+unseen-off : (n v : ℕ) (m : List ℕ) (k : ℕ) → k < STATE + v → getD (unseenTo n v m) k 0 ≡ getD m k 0
 unfolding unseenTo
 unseen-off zero v m k h = refl
-unseen-off (suc n) v m k h = unseen-off n (v + 1) (set m (396 + v) 0) k (omega arith) ∙ getD-set-other m (396 + v) k 0 0 (omega arith)
+unseen-off (suc n) v m k h = unseen-off n (v + 1) (set m (STATE + v) 0) k (omega arith) ∙ getD-set-other m (STATE + v) k 0 0 (omega arith)
 
-pub unseen-at : (n v : ℕ) (m : List ℕ) → 396 + v + n ≤ length m → (z : ℕ) → v ≤ z → z < v + n → stateOf (unseenTo n v m) z ≡ 0
+pub unseen-at : (n v : ℕ) (m : List ℕ) → STATE + v + n ≤ length m → (z : ℕ) → v ≤ z → z < v + n → stateOf (unseenTo n v m) z ≡ 0
 unfolding unseenTo
 unseen-at zero v m len z a b = absurd (omega arith)
-unseen-at (suc n) v m len z a b = go (ℕ-discrete z v) (λ a′. unseen-at n (v + 1) (set m (396 + v) 0) (rw (length-set m (396 + v) 0) (omega arith)) z a′ (omega arith))
+unseen-at (suc n) v m len z a b = go (ℕ-discrete z v) (λ a′. unseen-at n (v + 1) (set m (STATE + v) 0) (rw (length-set m (STATE + v) 0) (omega arith)) z a′ (omega arith))
   where
-    go : Dec (z ≡ v) → (v + 1 ≤ z → stateOf (unseenTo n (v + 1) (set m (396 + v) 0)) z ≡ 0) → stateOf (unseenTo n (v + 1) (set m (396 + v) 0)) z ≡ 0
-    go (yes e) ih = rw e (unseen-off n (v + 1) (set m (396 + v) 0) (396 + v) (omega arith) ∙ getD-set-same m (396 + v) 0 0 (omega arith))
+    go : Dec (z ≡ v) → (v + 1 ≤ z → stateOf (unseenTo n (v + 1) (set m (STATE + v) 0)) z ≡ 0) → stateOf (unseenTo n (v + 1) (set m (STATE + v) 0)) z ≡ 0
+    go (yes e) ih = rw e (unseen-off n (v + 1) (set m (STATE + v) 0) (STATE + v) (omega arith) ∙ getD-set-same m (STATE + v) 0 0 (omega arith))
     go (no e) ih = ih (omega arith)
 
 -- nothing seen, nothing queued
@@ -178,26 +178,26 @@ none-at : {A : Type 0} (n v : ℕ) (d : A) → getD (d ∷ replicate n d) v d �
 none-at n zero d = refl
 none-at n (suc v) d = getD-same n v d
 
-module _ (p : Problem) (few′ : nodeCount p ≤ 132) (m : List ℕ) (len : length m ≡ 662) where
+module _ (p : Problem) (few′ : nodeCount p ≤ NODES) (m : List ℕ) (len : length m ≡ NET) where
   abbrev clean : List ℕ
-  clean = set (set (unseenTo (sink p + 1) 0 m) 660 0) 661 0
+  clean = set (set (unseenTo (sink p + 1) 0 m) HEAD 0) COUNT 0
 
-  clean-size : length clean ≡ 662
+  clean-size : length clean ≡ NET
   clean-size = simp (length-set, unseen-size) len
 
   clean-state : (z : ℕ) → z < nodeCount p → stateOf clean z ≡ 0
   clean-state z hz =
-      getD-set-other (set (unseenTo (sink p + 1) 0 m) 660 0) 661 (396 + z) 0 0 (omega arith)
-      ∙ getD-set-other (unseenTo (sink p + 1) 0 m) 660 (396 + z) 0 0 (omega arith)
+      getD-set-other (set (unseenTo (sink p + 1) 0 m) HEAD 0) COUNT (STATE + z) 0 0 (omega arith)
+      ∙ getD-set-other (unseenTo (sink p + 1) 0 m) HEAD (STATE + z) 0 0 (omega arith)
       ∙ unseen-at (sink p + 1) 0 m (omega arith) z (omega arith) (omega arith)
 
   clean-head : headOf clean ≡ 0
   clean-head =
-      getD-set-other (set (unseenTo (sink p + 1) 0 m) 660 0) 661 660 0 0 (omega arith)
-      ∙ getD-set-same (unseenTo (sink p + 1) 0 m) 660 0 0 (simp unseen-size (omega arith))
+      getD-set-other (set (unseenTo (sink p + 1) 0 m) HEAD 0) COUNT HEAD 0 0 (omega arith)
+      ∙ getD-set-same (unseenTo (sink p + 1) 0 m) HEAD 0 0 (simp unseen-size (omega arith))
 
   clean-count : countOf clean ≡ 0
-  clean-count = getD-set-same (set (unseenTo (sink p + 1) 0 m) 660 0) 661 0 0 (simp (length-set, unseen-size) (omega arith))
+  clean-count = getD-set-same (set (unseenTo (sink p + 1) 0 m) HEAD 0) COUNT 0 0 (simp (length-set, unseen-size) (omega arith))
 
   clean-holds : NetHolds p (nothing p) clean
   unfolding ringFrom occurs

@@ -12,7 +12,7 @@ use lib.IntN.{ℤ, pos, _+ℤ_}
 use lib.Arith.{digits-lt}
 use lib.ListN.{getD}
 use Rattle.spec.specs.Bytes.{upFrom}
-use Rattle.spec.specs.Transport.{Problem, Search, weight, cellCost, cellAt, rowsOf, colsOf, nodeCount, sink, vertexOf, neighbours, residual, price, capacity, moved, relax, visit}
+use Rattle.spec.specs.Transport.{Problem, Search, weight, cellCost, cellAt, rowsOf, colsOf, nodeCount, sink, vertexOf, neighbours, residual, price, capacity, moved, relax, visit, WIDEST}
 use Rattle.wide.specs.declared.Wide.{Wide}
 use Rattle.wide.specs.Wrap.{Natural, addWords, negWords, add-natural, sub-natural}
 use Rattle.flow.specs.Signed.{posPart, negPart, plus, z-add}
@@ -21,11 +21,13 @@ use Rattle.flow.specs.Search.{labelAt, residualOf, priceOf, Labelled, none-some
 use Rattle.flow.specs.SearchEnds.{dear}
 use Rattle.flow.specs.Augmentation.{Partial, price-fwd, price-back}
 use Rattle.flow.specs.Magnitude.{Small, cost-lt, dearest-lt}
-use Rattle.search.specs.Net.{labelOf, stateOf, costOf, capOf, relaxed, alongMargin, alongCell, againstCell, spreadTo, alongRow, againstColumn, visited}
 use Rattle.search.specs.Fits.{few}
-use Rattle.search.specs.Holds.{NetHolds, CostsHold, FlowHolds, MarginsHold}
+use Rattle.search.specs.Holds.{NetHolds, FlowHolds, MarginsHold}
 use Rattle.search.proofs.Laws.{margin-yes, margin-not, cell-yes, cell-not, against-yes, against-not, visited-source, visited-row, visited-column, visited-sink}
 use Rattle.search.proofs.Relaxation.{Sized, relaxed-holds}
+use Rattle.labels.specs.Net.{labelOf, stateOf, relaxed}
+use Rattle.cost_matrix.specs.Matrix.{costOf, capOf, CostsHold}
+use Rattle.search.specs.Edges.{alongMargin, alongCell, againstCell, spreadTo, alongRow, againstColumn, visited, TAKEN}
 
 pub sized : {p : Problem} {w : ℕ} {x : List ℕ} {π : ℕ → ℕ} {K : ℕ} {s : Search} {h : ℕ → ℕ} → Labelled p w x π K s h → Sized p s
 sized G = record { dist = G .distLength; pred = G .predLength; queued = G .flagLength; inside = λ v i. (G .inside v i) .0 }
@@ -229,9 +231,9 @@ module _ (p : Problem) (S : Small p) (x : List ℕ) (I : Partial p (weight p) x)
         let a : 1 + rowsOf p + j - 1 - rowsOf p ≡ j = omega arith in
         let e = visited-column g f y (rowsOf p) (colsOf p) (1 + rowsOf p + j) m (λ z. absurd (omega arith)) (omega arith) (omega arith) in
         let b : 0 * colsOf p + j ≡ j = omega arith in
-        let t = margin-holds (1 + rowsOf p + j) (sink p) l (omega arith) (omega arith) s m G (getD y (65 + j) 0) (labelOf m (1 + rowsOf p + j)) D
+        let t = margin-holds (1 + rowsOf p + j) (sink p) l (omega arith) (omega arith) s m G (getD y (WIDEST + j) 0) (labelOf m (1 + rowsOf p + j)) D
         (rw (node-column p j hj, node-sink p) (M .demands j hj)) (rw (node-column p j hj, node-sink p) refl) in
-        let m′ = alongMargin (getD y (65 + j) 0) m (1 + rowsOf p + j) (1 + rowsOf p + colsOf p) (labelOf m (1 + rowsOf p + j)) in
+        let m′ = alongMargin (getD y (WIDEST + j) 0) m (1 + rowsOf p + j) (1 + rowsOf p + colsOf p) (labelOf m (1 + rowsOf p + j)) in
         let s′ = relax p (weight p) x (1 + rowsOf p + j) (pos l) (sink p) s in
         let D′ = label-natural p s′ m′ (t .net) (1 + rowsOf p + j) l (omega arith) (t .at) in
         let q = column-holds g f H F j l hj (labelOf m′ (1 + rowsOf p + j)) D′ (rowsOf p) 0 (omega arith) s′ m′ t in
@@ -241,7 +243,7 @@ module _ (p : Problem) (S : Small p) (x : List ℕ) (I : Partial p (weight p) x)
     unfolding neighbours residual price
     from-sink l s m G =
         rw (node-sink p, ← visited-sink g f y (rowsOf p) (colsOf p) (sink p) m (λ z. absurd (omega arith)) (omega arith) (omega arith))
-        (spread-holds y (sink p) l (omega arith) (labelOf m (sink p)) (label-natural p s m (G .net) (sink p) l (omega arith) (G .at)) (colsOf p) 130 (1 + rowsOf p) (omega arith)
+        (spread-holds y (sink p) l (omega arith) (labelOf m (sink p)) (label-natural p s m (G .net) (sink p) l (omega arith) (G .at)) (colsOf p) TAKEN (1 + rowsOf p) (omega arith)
         (λ j hj. (rw (node-sink p, node-column p j hj) (M .taken j hj), rw (node-sink p) refl)) s m G)
 
     -- all the edges of a node

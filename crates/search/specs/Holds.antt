@@ -8,35 +8,32 @@ use lib.Dec.{eqb}
 use lib.IntN.{pos}
 use lib.ListN.{length, getD}
 use Rattle.spec.specs.Meaning.{occurs}
-use Rattle.spec.specs.Transport.{Problem, Search, weight, rowsOf, colsOf, nodeCount, sink, cellAt, cellCost, capacity, supplyAt, demandAt, rowFlow, colFlow, searched, found}
+use Rattle.spec.specs.Transport.{Problem, Search, weight, rowsOf, colsOf, nodeCount, sink, supplyAt, demandAt, rowFlow, colFlow, searched, found, WIDEST}
 use Rattle.wide.specs.Wrap.{Natural}
 use Rattle.flow.specs.Cut.{bit}
 use Rattle.flow.specs.Search.{labelAt, predAt}
 use Rattle.flow.specs.Augmentation.{Partial}
 use Rattle.flow.specs.Magnitude.{Small}
-use Rattle.search.specs.Net.{labelOf, predOf, stateOf, headOf, countOf, costOf, capOf}
+use Rattle.labels.specs.Net.{labelOf, predOf, stateOf, headOf, countOf, NODES, RING, NET}
+use Rattle.cost_matrix.specs.Matrix.{CostsHold}
+use Rattle.search.specs.Edges.{TAKEN}
 
 -- n nodes of the ring from place h on
 unfoldable pub ringFrom : List ℕ → ℕ → ℕ → List ℕ
 ringFrom m zero h = []
-ringFrom m (suc n) h = getD m (528 + h % 132) 0 ∷ ringFrom m n (h + 1)
+ringFrom m (suc n) h = getD m (RING + h % NODES) 0 ∷ ringFrom m n (h + 1)
 
 -- the net m holds the search s
 pub record NetHolds (p : Problem) (s : Search) (m : List ℕ) : Type 0 where
-  pub size : length m ≡ 662
+  pub size : length m ≡ NET
   pub unseen : (v : ℕ) → v < nodeCount p → stateOf m v ≡ 0 → labelAt s v ≡ none
   pub seen : (v : ℕ) → v < nodeCount p → (stateOf m v ≡ 0 → ⊥) → (k : ℕ) × (labelAt s v ≡ some (pos k)) × Natural (labelOf m v) k
   pub pred : (v : ℕ) → v < nodeCount p → (stateOf m v ≡ 0 → ⊥) → predOf m v ≡ predAt s v
   pub flags : (v : ℕ) → v < nodeCount p → eqb (stateOf m v) 2 ≡ getD (s .queued) v false
-  pub head : headOf m < 132
+  pub head : headOf m < NODES
   pub ring : ringFrom m (countOf m) (headOf m) ≡ s .queue
   -- each node stands in the queue at most once: where its flag is set
   pub once : (v : ℕ) → occurs v (s .queue) ≡ bit (getD (s .queued) v false)
-
--- g holds the cells' costs and capacities
-pub record CostsHold (p : Problem) (g : List ℕ) : Type 0 where
-  pub costs : (i j : ℕ) → i < rowsOf p → j < colsOf p → Natural (costOf g (i * colsOf p + j)) (cellCost (weight p) (cellAt p i j))
-  pub caps : (i j : ℕ) → i < rowsOf p → j < colsOf p → capOf g (i * colsOf p + j) ≡ capacity p i j
 
 -- f holds the plan x
 abbrev pub FlowHolds : Problem → List ℕ → List ℕ → Type 0
@@ -45,8 +42,8 @@ FlowHolds p x f = (k : ℕ) → k < rowsOf p * colsOf p → getD f k 0 ≡ getD 
 -- y holds what is left of supplies and demands, and what the columns have
 pub record MarginsHold (p : Problem) (x y : List ℕ) : Type 0 where
   pub supplies : (i : ℕ) → i < rowsOf p → getD y i 0 ≡ supplyAt p i - rowFlow p x i
-  pub demands : (j : ℕ) → j < colsOf p → getD y (65 + j) 0 ≡ demandAt p j - colFlow p x j
-  pub taken : (j : ℕ) → j < colsOf p → getD y (130 + j) 0 ≡ colFlow p x j
+  pub demands : (j : ℕ) → j < colsOf p → getD y (WIDEST + j) 0 ≡ demandAt p j - colFlow p x j
+  pub taken : (j : ℕ) → j < colsOf p → getD y (TAKEN + j) 0 ≡ colFlow p x j
 
 -- a problem of r rows and c columns, and a plan so far, all in place for a search
 pub record Ready (r c : ℕ) (g f y : List ℕ) : Type 0 where

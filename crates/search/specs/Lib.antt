@@ -1,4 +1,4 @@
-pub mod Net
+pub mod Edges
 pub mod Holds
 pub mod Walk
 pub mod Fits

@@ -7,7 +7,11 @@ use native.Mathlib.Omega.{arith}
 use lib.Dec.{eqb}
 use lib.ListN.{getD, set}
 use Rattle.spec.specs.Bytes.{pick, Two}
-use Rattle.search.specs.Net.{predOf}
+use Rattle.labels.specs.Net.{predOf, NODES}
+
+-- the sink's place
+abbrev pub LAST : ℕ
+LAST = 131
 
 -- n steps (from, to) from place a on
 unfoldable pub stepsFrom : List ℕ → ℕ → ℕ → List Two
@@ -31,16 +35,16 @@ walkedAt m (suc n) v = pick (eqb v 0) (suc n) (walkedAt m n (predOf m v))
 -- from v the predecessors lead to the source in at most n steps
 pub data Leads (m : List ℕ) : ℕ → ℕ → Type 0 where
   arrived : {n v : ℕ} → v ≡ 0 → Leads m n v
-  onward : {n v : ℕ} → (v ≡ 0 → ⊥) → v < 132 → Leads m n (predOf m v) → Leads m (suc n) v
+  onward : {n v : ℕ} → (v ≡ 0 → ⊥) → v < NODES → Leads m n (predOf m v) → Leads m (suc n) v
 
 -- the steps from place a on
 abbrev pub here : List ℕ → ℕ → List Two
-here path a = stepsFrom path (131 - a) a
+here path a = stepsFrom path (LAST - a) a
 
-pub here-turn : (path : List ℕ) (a : ℕ) → a < 131 → here path a ≡ (getD path a 0, getD path (a + 1) 0) ∷ here path (a + 1)
+pub here-turn : (path : List ℕ) (a : ℕ) → a < LAST → here path a ≡ (getD path a 0, getD path (a + 1) 0) ∷ here path (a + 1)
 unfolding stepsFrom
-here-turn path a h = let e : 131 - a ≡ suc (131 - (a + 1)) = omega arith in rw e refl
+here-turn path a h = let e : LAST - a ≡ suc (LAST - (a + 1)) = omega arith in rw e refl
 
-pub here-end : (path : List ℕ) (a : ℕ) → 131 ≤ a → here path a ≡ []
+pub here-end : (path : List ℕ) (a : ℕ) → LAST ≤ a → here path a ≡ []
 unfolding stepsFrom
-here-end path a h = let e : 131 - a ≡ 0 = omega arith in rw e refl
+here-end path a h = let e : LAST - a ≡ 0 = omega arith in rw e refl

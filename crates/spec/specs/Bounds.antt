@@ -10,6 +10,7 @@ use Rattle.spec.specs.Image.{tablesOf}
 use Rattle.spec.specs.Graph.{enter, buildFrom}
 use Rattle.spec.specs.Pool.{Pool, litNode, intern, interned}
 use Rattle.spec.specs.Round.{Turn, act, turnsTerms}
+use Rattle.spec.specs.Run.{documentLimits}
 use Rattle.spec.specs.Transport.{Cell, cost, Problem, Solution, solveTransport}
 use Rattle.spec.specs.Merge.{mergeOf, programOf, OUTPUT}
 use Rattle.spec.specs.Asked.{hex}
@@ -130,19 +131,19 @@ unfoldable pairs : ℕ → List Two
 unfolding upFrom
 pairs n = map (λ i. (i, 0)) (upFrom 0 n)
 
-pair-4096 : enter (pairs 4095) (5, 1) ≡ ok (pairs 4095 ++ ((5, 1) ∷ []))
+pair-4096 : enter documentLimits (pairs 4095) (5, 1) ≡ ok (pairs 4095 ++ ((5, 1) ∷ []))
 unfolding enter pairs
 pair-4096 = refl
 
-pair-4097 : enter (pairs 4096) (5, 1) ≡ refused 12
+pair-4097 : enter documentLimits (pairs 4096) (5, 1) ≡ refused 12
 unfolding enter pairs
 pair-4097 = refl
 
-term-16384 : intern (map (λ i. litNode 0 i) (upFrom 0 16383)) (litNode 1 0) ≡ ok (interned (map (λ i. litNode 0 i) (upFrom 0 16383) ++ (litNode 1 0 ∷ [])) 16383)
+term-16384 : intern documentLimits (map (λ i. litNode 0 i) (upFrom 0 16383)) (litNode 1 0) ≡ ok (interned (map (λ i. litNode 0 i) (upFrom 0 16383) ++ (litNode 1 0 ∷ [])) 16383)
 unfolding intern upFrom
 term-16384 = refl
 
-term-16385 : intern (map (λ i. litNode 0 i) (upFrom 0 16384)) (litNode 1 0) ≡ refused 13
+term-16385 : intern documentLimits (map (λ i. litNode 0 i) (upFrom 0 16384)) (litNode 1 0) ≡ refused 13
 unfolding intern upFrom
 term-16385 = refl
 
@@ -151,11 +152,11 @@ unfolding hex
 imageE = hex "000000790100020004000400040900ffff0200ffff0000000100000000000100010001000100000001000200010002000000030003000100030000000300000000000500000000000000000007000000000001000000000000000200010000000000020002000000000001000100000001000000000001000000000001"
 
 -- 4,096 pairs of which (2, 3) joins a new one: 12 is met only where the check of that pair passes
-cut-before-12 : buildFrom 0 (tablesOf imageE) ((2, 3) ∷ map (λ i. (i, 9)) (upFrom 0 4095)) 0 ≡ ok cutShort
+cut-before-12 : buildFrom documentLimits 0 (tablesOf imageE) ((2, 3) ∷ map (λ i. (i, 9)) (upFrom 0 4095)) 0 ≡ ok cutShort
 unfolding buildFrom tablesOf imageE upFrom
 cut-before-12 = refl
 
-met-12 : buildFrom 1 (tablesOf imageE) ((2, 3) ∷ map (λ i. (i, 9)) (upFrom 0 4095)) 0 ≡ refused 12
+met-12 : buildFrom documentLimits 1 (tablesOf imageE) ((2, 3) ∷ map (λ i. (i, 9)) (upFrom 0 4095)) 0 ≡ refused 12
 unfolding buildFrom tablesOf imageE upFrom
 met-12 = refl
 
@@ -167,11 +168,11 @@ fullPool = map (λ i. litNode 0 i) (upFrom 0 16384)
 abbrev turn : Turn
 turn = record { quality = (1, 0); choice = act (record { op = 1; places = []; counts = [] }) }
 
-cut-before-13 : turnsTerms (tablesOf imageE) (λ p. 0) ((2, 3) ∷ []) (turn ∷ []) 0 fullPool ≡ ok cutShort
+cut-before-13 : turnsTerms documentLimits (tablesOf imageE) (λ p. 0) ((2, 3) ∷ []) (turn ∷ []) 0 fullPool ≡ ok cutShort
 unfolding turnsTerms
 cut-before-13 = refl
 
-met-13 : turnsTerms (tablesOf imageE) (λ p. 0) ((2, 3) ∷ []) (turn ∷ []) 1 fullPool ≡ refused 13
+met-13 : turnsTerms documentLimits (tablesOf imageE) (λ p. 0) ((2, 3) ∷ []) (turn ∷ []) 1 fullPool ≡ refused 13
 unfolding turnsTerms tablesOf imageE fullPool
 met-13 = refl
 

@@ -96,6 +96,12 @@ abbrev pub rule : ℕ → Bool → Res Unit
 rule n true = ok tt
 rule n false = refused n
 
+-- How many pairs, terms and runs a call may enter; document 01's numbers are `documentLimits` (Run).
+pub record Limits : Type 0 where
+  pub pairs : ℕ
+  pub terms : ℕ
+  pub runs : ℕ
+
 -- "A budget of checks": what spends checks is done, with the checks left, or it is cut short at a check that is expired.
 -- "With budget B, the first B checks pass and the next one is expired": a budget is the number of checks that still pass.
 pub data Checked (A : Type 0) : Type 0 where

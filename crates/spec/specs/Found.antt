@@ -9,6 +9,7 @@ use Rattle.spec.specs.Bytes.{text, Two, Res, ok, refused}
 use Rattle.spec.specs.Image.{Tables, Operation, Class, Member, tablesRules}
 use Rattle.spec.specs.Monomial.{pairOf, padPair, representationPairs, narrowPairs}
 use Rattle.spec.specs.Transport.{Cell, cost, forbidden, Problem, Solution, solveTransport}
+use Rattle.spec.specs.Run.{documentLimits}
 use Rattle.spec.specs.Pool.{Pool, opNode, litNode, variantsNode, joinRuns, intern, Interned, Order, less, greater, structuralCmp, sortRuns}
 use Rattle.spec.specs.Action.{Action, alignments, joins}
 use Rattle.spec.specs.Merge.{programOf}
@@ -154,7 +155,7 @@ abbrev numberOf : Res Interned → ℕ
 numberOf (ok a) = a .term
 numberOf (refused n) = 99
 
-apart : map (λ n. numberOf (intern pool n)) (opNode 0 ((1, 1) ∷ (2, 1) ∷ []) ∷ opNode 4 [] ∷ litNode 0 8 ∷ opNode 5 ((0, 2) ∷ []) ∷ opNode 5 ((0, 1) ∷ []) ∷ opNode 5 ((0, 1) ∷ (1, 1) ∷ (2, 1) ∷ []) ∷ opNode 5 ((1, 1) ∷ (1, 1) ∷ (0, 1) ∷ []) ∷ variantsNode 1 2 ∷ []) ≡ 13 ∷ 13 ∷ 13 ∷ 13 ∷ 13 ∷ 13 ∷ 10 ∷ 3 ∷ []
+apart : map (λ n. numberOf (intern documentLimits pool n)) (opNode 0 ((1, 1) ∷ (2, 1) ∷ []) ∷ opNode 4 [] ∷ litNode 0 8 ∷ opNode 5 ((0, 2) ∷ []) ∷ opNode 5 ((0, 1) ∷ []) ∷ opNode 5 ((0, 1) ∷ (1, 1) ∷ (2, 1) ∷ []) ∷ opNode 5 ((1, 1) ∷ (1, 1) ∷ (0, 1) ∷ []) ∷ variantsNode 1 2 ∷ []) ≡ 13 ∷ 13 ∷ 13 ∷ 13 ∷ 13 ∷ 13 ∷ 10 ∷ 3 ∷ []
 unfolding intern pool joinRuns
 apart = refl
 
@@ -163,7 +164,7 @@ unfolding joinRuns
 joined = (refl, refl)
 
 -- runs are counted, not what they stand for
-runs-counted : numberOf (intern (opNode 0 ((0, 70000) ∷ []) ∷ []) (opNode 1 ((0, 70000) ∷ []))) ≡ 1
+runs-counted : numberOf (intern documentLimits (opNode 0 ((0, 70000) ∷ []) ∷ []) (opNode 1 ((0, 70000) ∷ []))) ≡ 1
 unfolding intern joinRuns
 runs-counted = refl
 

@@ -4,11 +4,12 @@ use mathlib.Core.Bool.{true, false}
 use mathlib.Core.List.{List, [], _∷_, _++_, map}
 use Prim.Native.Nat.{ℕ}
 use lib.ListN.{replicate}
-use Rattle.spec.specs.Bytes.{text, Two, upFrom, ok, refused, workAfter}
+use Rattle.spec.specs.Bytes.{Limits, text, Two, upFrom, ok, refused, workAfter}
 use Rattle.spec.specs.Graph.{PAIRS, enter}
 use Rattle.spec.specs.Pool.{Pool, Node, opNode, litNode, joinRuns, TERMS, intern, interned}
 use Rattle.spec.specs.Transport.{Problem, Cell, cost, solveTransport, planAfter}
-use Rattle.spec.specs.Merge.{mergeOf, outputAfter}
+use Rattle.spec.specs.Run.{documentLimits}
+use Rattle.spec.specs.Merge.{mergeUnder, mergeOf, outputAfter}
 use Rattle.spec.specs.Asked.{hex}
 
 unfoldable imageE : List ℕ
@@ -46,11 +47,11 @@ unfoldable manyPairs : List Two
 unfolding upFrom
 manyPairs = map (λ i. (i, 0)) (upFrom 0 PAIRS)
 
-refused-12 : enter manyPairs (5, 1) ≡ refused 12
+refused-12 : enter documentLimits manyPairs (5, 1) ≡ refused 12
 unfolding enter manyPairs
 refused-12 = refl
 
-there-already : enter manyPairs (4095, 0) ≡ ok manyPairs
+there-already : enter documentLimits manyPairs (4095, 0) ≡ ok manyPairs
 unfolding enter manyPairs
 there-already = refl
 
@@ -59,11 +60,11 @@ unfoldable fullPool : Pool
 unfolding upFrom
 fullPool = map (λ i. litNode 0 i) (upFrom 0 TERMS)
 
-refused-13 : intern fullPool (litNode 1 0) ≡ refused 13
+refused-13 : intern documentLimits fullPool (litNode 1 0) ≡ refused 13
 unfolding fullPool intern
 refused-13 = refl
 
-found-again : intern fullPool (litNode 0 16383) ≡ ok (interned fullPool 16383)
+found-again : intern documentLimits fullPool (litNode 0 16383) ≡ ok (interned fullPool 16383)
 unfolding fullPool intern
 found-again = refl
 
@@ -72,14 +73,47 @@ unfoldable fullRuns : Pool
 unfolding upFrom
 fullRuns = map (λ i. record { head = 0; op = i; value = 0; runs = map (λ k. (k, 1)) (upFrom 0 64) }) (upFrom 0 1024)
 
-refused-13-runs : intern fullRuns (opNode 1024 ((0, 1) ∷ [])) ≡ refused 13
+refused-13-runs : intern documentLimits fullRuns (opNode 1024 ((0, 1) ∷ [])) ≡ refused 13
 unfolding fullRuns intern joinRuns
 refused-13-runs = refl
 
 -- a term without runs still has its place
-place-left : intern fullRuns (opNode 1024 []) ≡ ok (interned (fullRuns ++ (opNode 1024 [] ∷ [])) 1024)
+place-left : intern documentLimits fullRuns (opNode 1024 []) ≡ ok (interned (fullRuns ++ (opNode 1024 [] ∷ [])) 1024)
 unfolding fullRuns intern joinRuns
 place-left = refl
+
+-- ---- other limits: image E's run enters 3 pairs, 7 terms and 9 runs
+abbrev limits : ℕ → ℕ → ℕ → Limits
+limits p t r = record { pairs = p; terms = t; runs = r }
+
+enough : mergeUnder (limits 3 7 9) true imageE 2 3 14 94 ≡ ok listingE
+unfolding imageE mergeUnder text
+enough = refl
+
+a-pair-beyond : mergeUnder (limits 2 7 9) true imageE 2 3 14 94 ≡ refused 12
+unfolding imageE mergeUnder
+a-pair-beyond = refl
+
+a-term-beyond : mergeUnder (limits 3 6 9) true imageE 2 3 14 94 ≡ refused 13
+unfolding imageE mergeUnder
+a-term-beyond = refl
+
+a-run-beyond : mergeUnder (limits 3 7 8) true imageE 2 3 14 94 ≡ refused 13
+unfolding imageE mergeUnder
+a-run-beyond = refl
+
+-- the queried pair itself is entered; its starting term before it
+no-pair : mergeUnder (limits 0 5 5) true imageE 2 3 0 94 ≡ refused 12
+unfolding imageE mergeUnder
+no-pair = refl
+
+one-pair : mergeUnder (limits 1 5 5) true imageE 2 3 0 200 ≡ ok (text "partial pairs 1 rounds 0 size 6 mass 6\n0 lit 0 5\n1 lit 0 7\n2 op 1 0:1 1:1\n3 op 1 0:2\n4 variants 2:1 3:1\n")
+unfolding imageE mergeUnder text
+one-pair = refl
+
+root-before-pairs : mergeUnder (limits 0 4 5) true imageE 2 3 0 94 ≡ refused 13
+unfolding imageE mergeUnder
+root-before-pairs = refl
 
 -- ---- transport: "in transport 1, 15, 16"
 abbrev problem : List ℕ → List ℕ → List Cell → Problem

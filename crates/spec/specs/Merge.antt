@@ -4,23 +4,28 @@ use mathlib.Core.List.{List, [], _∷_, _++_}
 use Prim.Native.Nat.{ℕ, zero, suc, _+_}
 use lib.Dec.{ltb, leb, eqb}
 use lib.ListN.{length, take, drop}
-use Rattle.spec.specs.Bytes.{both, be2, be4, text, decimal, digits, Res, ok, refused, _>>=_, rule}
+use Rattle.spec.specs.Bytes.{both, be2, be4, text, decimal, digits, Limits, Res, ok, refused, _>>=_, rule}
 use Rattle.spec.specs.Image.{imageOf}
-use Rattle.spec.specs.Run.{runOf}
+use Rattle.spec.specs.Run.{documentLimits, runOf}
 use Rattle.spec.specs.Listing.{listingOf, line}
 
 -- "Order: 1 to 11, then 12 and 13 as met, 14 last". 2 to 10 are the image's, 12 and 13 the run's.
 -- `fit`: no work buffer is below its constant length; `room`: the output buffer's length.
-unfoldable pub mergeOf : Bool → List ℕ → ℕ → ℕ → ℕ → ℕ → Res (List ℕ)
+unfoldable pub mergeUnder : Limits → Bool → List ℕ → ℕ → ℕ → ℕ → ℕ → Res (List ℕ)
 unfolding imageOf listingOf runOf
-mergeOf fit image left right budget room = do
+mergeUnder lim fit image left right budget room = do
   _ ← rule 1 fit
   t ← imageOf image
   _ ← rule 11 (both (ltb left (length (t .classes))) (ltb right (length (t .classes))))
-  o ← runOf t (left, right) budget
+  o ← runOf lim t (left, right) budget
   let l = listingOf o
   _ ← rule 14 (leb (length l) room)
   ok l
+
+-- at document 01's limits
+unfoldable pub mergeOf : Bool → List ℕ → ℕ → ℕ → ℕ → ℕ → Res (List ℕ)
+unfolding mergeUnder
+mergeOf fit image left right budget room = mergeUnder documentLimits fit image left right budget room
 
 -- What the output buffer holds afterwards: the listing, and past it what it held; after a refusal all that it held.
 -- A work buffer afterwards is `workAfter` (Bytes) of `fit`: "An accepted call clears the work buffers too (every number zero)".

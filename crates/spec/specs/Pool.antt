@@ -4,7 +4,7 @@ use mathlib.Core.List.{List, [], _∷_, _++_, map}
 use Prim.Native.Nat.{ℕ, zero, suc, _+_, _-_}
 use lib.Dec.{ltb, leb, eqb}
 use lib.ListN.{length, getD}
-use Rattle.spec.specs.Bytes.{pick, both, sum, place, Two, sameTwos, Res, ok, refused, _>>=_}
+use Rattle.spec.specs.Bytes.{pick, both, sum, place, Two, sameTwos, Limits, Res, ok, refused, _>>=_}
 use Rattle.spec.specs.Image.{Tables, Lit, kindOf, bestSize, bestMember, childrenOf}
 
 -- a term's head, by its rank in `structural_cmp`: an operation, a literal, a marked place
@@ -68,11 +68,11 @@ pub record Interned : Type 0 where
 abbrev pub interned : Pool → ℕ → Interned
 interned p a = record { pool = p; term = a }
 
-unfoldable pub intern : Pool → Node → Res Interned
+unfoldable pub intern : Limits → Pool → Node → Res Interned
 unfolding place runCount sameTwos
-intern p n =
+intern lim p n =
     let a = place (sameNode n) p in
-    let room = both (ltb (length p) TERMS) (leb (runCount p + length (n .runs)) RUNS) in
+    let room = both (ltb (length p) (lim .terms)) (leb (runCount p + length (n .runs)) (lim .runs)) in
     pick (ltb a (length p)) (ok (interned p a)) (pick room (ok (interned (p ++ (n ∷ [])) (length p))) (refused 13))
 
 -- ---- `structural_cmp`: head's rank, operation, value, length, then the children from the left, "as it does on the expanded lists"
@@ -147,28 +147,28 @@ childTerms best p (c ∷ l) = do
   ok (record { pool = m .pool; runs = (a .term, c .1) ∷ m .runs })
 
 -- fuel: the class's best size, for best sizes fall along the best members' children
-unfoldable pub bestTermIn : ℕ → Tables → Pool → ℕ → Res Interned
+unfoldable pub bestTermIn : Limits → ℕ → Tables → Pool → ℕ → Res Interned
 unfolding childTerms intern joinRuns
-bestTermIn zero t p c = ok (interned p 0)
-bestTermIn (suc f) t p c =
+bestTermIn lim zero t p c = ok (interned p 0)
+bestTermIn lim (suc f) t p c =
     let m = bestMember t c in
     elim (eqb (kindOf t (m .op)) Lit) [
-      | true ↦ intern p (litNode (m .op) (m .value))
+      | true ↦ intern lim p (litNode (m .op) (m .value))
       | false ↦ do
-        k ← childTerms (bestTermIn f t) p (childrenOf t m)
-        intern (k .pool) (opNode (m .op) (k .runs))
+        k ← childTerms (bestTermIn lim f t) p (childrenOf t m)
+        intern lim (k .pool) (opNode (m .op) (k .runs))
     ]
 
-abbrev pub bestTerm : Tables → Pool → ℕ → Res Interned
-bestTerm t p c = bestTermIn (bestSize t c) t p c
+abbrev pub bestTerm : Limits → Tables → Pool → ℕ → Res Interned
+bestTerm lim t p c = bestTermIn lim (bestSize t c) t p c
 
 -- "Starting term: the best term of one class; or the marked place Variants of two best terms" (`evaluate_generalize_action`)
-unfoldable pub startingTerm : Tables → Pool → Two → Res Interned
+unfoldable pub startingTerm : Limits → Tables → Pool → Two → Res Interned
 unfolding bestTermIn intern joinRuns
-startingTerm t p c = elim (eqb (c .0) (c .1)) [
-  | true ↦ bestTerm t p (c .0)
+startingTerm lim t p c = elim (eqb (c .0) (c .1)) [
+  | true ↦ bestTerm lim t p (c .0)
   | false ↦ do
-    a ← bestTerm t p (c .0)
-    b ← bestTerm t (a .pool) (c .1)
-    intern (b .pool) (variantsNode (a .term) (b .term))
+    a ← bestTerm lim t p (c .0)
+    b ← bestTerm lim t (a .pool) (c .1)
+    intern lim (b .pool) (variantsNode (a .term) (b .term))
 ]

@@ -6,7 +6,7 @@ use mathlib.Core.Option.{Option, none, some}
 use Prim.Native.Nat.{ℕ, zero, suc, _+_}
 use lib.Dec.{ltb, eqb}
 use lib.ListN.{getD}
-use Rattle.spec.specs.Bytes.{pick, both, either, place, Two, sameTwo, Res, ok, _>>=_, Checked, passed, cutShort}
+use Rattle.spec.specs.Bytes.{pick, both, either, place, Two, sameTwo, Limits, Res, ok, _>>=_, Checked, passed, cutShort}
 use Rattle.spec.specs.Image.{Tables, kindOf, isCommutative, bestSize}
 use Rattle.spec.specs.Monomial.{counts}
 use Rattle.spec.specs.Transport.{Cell, cost, Problem, solveCells, planSize, planMass}
@@ -115,15 +115,15 @@ planRuns of (p ∷ ps) [] = []
 planRuns of (p ∷ ps) (n ∷ x) = elim (eqb n 0) [ true ↦ planRuns of ps x | false ↦ (of p, n) ∷ planRuns of ps x ]
 
 -- `intern_action_result`: children of commutative kinds are sorted
-unfoldable pub actionTerm : Tables → Pool → ℕ → List Two → Res Interned
+unfoldable pub actionTerm : Limits → Tables → Pool → ℕ → List Two → Res Interned
 unfolding intern joinRuns sortRuns
-actionTerm t p o l = intern p (opNode o (pick (isCommutative (kindOf t o)) (sortRuns p l) l))
+actionTerm lim t p o l = intern lim p (opNode o (pick (isCommutative (kindOf t o)) (sortRuns p l) l))
 
 -- "one final term for each pair improved in a round", from the previous round's terms
-unfoldable pub choiceTerm : Tables → (Two → ℕ) → Pool → ℕ → Choice → Res Interned
+unfoldable pub choiceTerm : Limits → Tables → (Two → ℕ) → Pool → ℕ → Choice → Res Interned
 unfolding actionTerm planRuns
-choiceTerm t of p old stay = ok (interned p old)
-choiceTerm t of p old (act a) = actionTerm t p (a .op) (planRuns of (a .places) (a .counts))
+choiceTerm lim t of p old stay = ok (interned p old)
+choiceTerm lim t of p old (act a) = actionTerm lim t p (a .op) (planRuns of (a .places) (a .counts))
 
 -- the terms of the pairs from some pair on, with the pool that holds them
 pub record Terms : Type 0 where
@@ -135,12 +135,12 @@ prepend a (passed r b) = passed (record { pool = r .pool; terms = a ∷ r .terms
 prepend a cutShort = cutShort
 
 -- The turns of a round in order: "one [check] a pair in it", and "a final term at the end of its pair's turn, also in a round cut short later".
-unfoldable pub turnsTerms : Tables → (Two → ℕ) → List Two → List Turn → ℕ → Pool → Res (Checked Terms)
+unfoldable pub turnsTerms : Limits → Tables → (Two → ℕ) → List Two → List Turn → ℕ → Pool → Res (Checked Terms)
 unfolding choiceTerm
-turnsTerms t of [] ws b pool = ok (passed (record { pool = pool; terms = [] }) b)
-turnsTerms t of (p ∷ ps) [] b pool = ok (passed (record { pool = pool; terms = [] }) b)
-turnsTerms t of (p ∷ ps) (w ∷ ws) zero pool = ok cutShort
-turnsTerms t of (p ∷ ps) (w ∷ ws) (suc b) pool = do
-  a ← choiceTerm t of pool (of p) (w .choice)
-  r ← turnsTerms t of ps ws b (a .pool)
+turnsTerms lim t of [] ws b pool = ok (passed (record { pool = pool; terms = [] }) b)
+turnsTerms lim t of (p ∷ ps) [] b pool = ok (passed (record { pool = pool; terms = [] }) b)
+turnsTerms lim t of (p ∷ ps) (w ∷ ws) zero pool = ok cutShort
+turnsTerms lim t of (p ∷ ps) (w ∷ ws) (suc b) pool = do
+  a ← choiceTerm lim t of pool (of p) (w .choice)
+  r ← turnsTerms lim t of ps ws b (a .pool)
   ok (prepend (a .term) r)

@@ -9,6 +9,7 @@ use lib.ListN.{length}
 use borrow.Author.Tests.{ne-eqb}
 use Rattle.spec.specs.Bytes.{refused}
 use Rattle.spec.specs.Image.{tablesOf}
+use Rattle.spec.specs.Run.{documentLimits}
 use Rattle.spec.specs.Merge.{mergeOf}
 use Rattle.laws.specs.Accepted as A
 use Rattle.lgg.specs.Results.{refused-ok, refused-inj}
@@ -36,7 +37,7 @@ number fit image left right budget room k q = go (way fit image left right budge
     go (outside e f g h) = from 11 e (omega arith) (omega arith)
     go (stopped j e T f) =
         let (n, c, _) = D.pair-count (tablesOf image) (left, right) in
-        elim (D.refused-by (tablesOf image) (left, right) n c budget j f) [ inl x ↦ let z = x .0 in from j e (omega arith) (omega arith) | inr x ↦ from j e (omega arith) (omega arith) ]
+        elim (D.refused-by documentLimits (tablesOf image) (left, right) n c budget j f) [ inl x ↦ let z = x .0 in from j e (omega arith) (omega arith) | inr x ↦ from j e (omega arith) (omega arith) ]
     go (over o e T f h) = from 14 e (omega arith) (omega arith)
     go (listed o e T f h) = absurd (refused-ok (sym q ∙ e))
 
@@ -76,5 +77,5 @@ pub returns-as : (image : List ℕ) (left right budget : ℕ) (fit : Bool) (out 
 returns-as image left right budget fit out out′ a r e m = rw e (returns-of image left right budget fit out out′ a m)
 
 -- buffers of these lengths are never refused
-pub lengths-fit : fitOf 4096 (lengths .lefts) (lengths .rights) (lengths .index) (lengths .pairs) (lengths .terms) (lengths .runs) ≡ true
+pub lengths-fit : fitOf 256 (lengths .graph) (lengths .pairs) (lengths .work) (lengths .flow) (lengths .terms) (lengths .runs) ≡ true
 lengths-fit = refl

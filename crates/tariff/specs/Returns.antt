@@ -41,4 +41,4 @@ pub record Returns (image : List ℕ) (left right budget : ℕ) (fit : Bool) (ou
 
 -- The constant lengths of the work buffers (docs/BUFFERS.md).
 abbrev pub lengths : Lengths
-lengths = record { lefts = 4096; rights = 4096; index = 8192; pairs = 24576; terms = 8194; runs = 4096 }
+lengths = record { graph = 4352; pairs = 1536; work = 1024; flow = 256; terms = 3074; runs = 1024 }

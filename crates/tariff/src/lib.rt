@@ -16,10 +16,10 @@ pub struct Returned {
 // How many numbers each work buffer of `tariff_merge` has at least.
 #[repr(C)]
 pub struct Lengths {
-    pub lefts: usize,
-    pub rights: usize,
-    pub index: usize,
+    pub graph: usize,
     pub pairs: usize,
+    pub work: usize,
+    pub flow: usize,
     pub terms: usize,
     pub runs: usize,
 }
@@ -51,12 +51,12 @@ pub extern "C" fn tariff_lengths() -> Lengths
     ensures { λ r. ⌜ r ≡ lengths ⌝ }
 {
     Lengths {
-        lefts: 4096,
-        rights: 4096,
-        index: 8192,
-        pairs: 24576,
-        terms: 8194,
-        runs: 4096,
+        graph: 4352,
+        pairs: 1536,
+        work: 1024,
+        flow: 256,
+        terms: 3074,
+        runs: 1024,
     }
 }
 
@@ -67,27 +67,27 @@ pub extern "C" fn tariff_merge(
     left: u16,
     right: u16,
     budget: u32,
-    lefts: &mut [u16],
-    rights: &mut [u16],
-    index: &mut [u16],
+    graph: &mut [u16],
     pairs: &mut [u32],
+    work: &mut [u64],
+    flow: &mut [u64],
     terms: &mut [u32],
     runs: &mut [u64],
     out: &mut [u8],
 ) -> Returned
     ensures { λ r. do
-      let fit = fitOf 4096 (length (now (lefts .entry))) (length (now (rights .entry))) (length (now (index .entry))) (length (now (pairs .entry))) (length (now (terms .entry))) (length (now (runs .entry)))
-      ⌜ Returns (now (image .entry)) left right budget fit (now (out .entry)) (now (out .exit)) r × Cleared fit (now (lefts .entry)) (now (lefts .exit)) (now (rights .entry)) (now (rights .exit)) (now (index .entry)) (now (index .exit)) (now (pairs .entry)) (now (pairs .exit)) (now (terms .entry)) (now (terms .exit)) (now (runs .entry)) (now (runs .exit)) ⌝ }
+      let fit = fitOf 256 (length (now (graph .entry))) (length (now (pairs .entry))) (length (now (work .entry))) (length (now (flow .entry))) (length (now (terms .entry))) (length (now (runs .entry)))
+      ⌜ Returns (now (image .entry)) left right budget fit (now (out .entry)) (now (out .exit)) r × Cleared fit (now (graph .entry)) (now (graph .exit)) (now (pairs .entry)) (now (pairs .exit)) (now (work .entry)) (now (work .exit)) (now (flow .entry)) (now (flow .exit)) (now (terms .entry)) (now (terms .exit)) (now (runs .entry)) (now (runs .exit)) ⌝ }
 {
     let a = au::merge_plain(
         image,
         left,
         right,
         budget,
-        lefts,
-        rights,
-        index,
+        graph,
         pairs,
+        work,
+        flow,
         terms,
         runs,
         out,

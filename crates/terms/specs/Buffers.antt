@@ -8,34 +8,34 @@ use Rattle.spec.specs.Bytes.{Two}
 use Rattle.spec.specs.Pool.{Pool, Node}
 
 abbrev pub BUCKETS : ℕ
-BUCKETS = 4096
+BUCKETS = 1024
 
 -- where the chains' last terms stand, and where the count stands
 abbrev pub BUCKET : ℕ
 BUCKET = 0
 
 abbrev pub COUNT : ℕ
-COUNT = 4096
+COUNT = 1024
 
 -- where the first term's four numbers stand
 abbrev pub FIRSTS : ℕ
-FIRSTS = 4097
+FIRSTS = 1025
 
 abbrev pub HEADS : ℕ
-HEADS = 4098
+HEADS = 1026
 
 abbrev pub VALUES : ℕ
-VALUES = 4099
+VALUES = 1027
 
 abbrev pub CHAINS : ℕ
-CHAINS = 4100
+CHAINS = 1028
 
 -- how many numbers no term needs, and how many a whole pool
 abbrev pub LEAST : ℕ
-LEAST = 4098
+LEAST = 1026
 
 abbrev pub NUMBERS : ℕ
-NUMBERS = 69634
+NUMBERS = 66562
 
 abbrev pub firstIn : List ℕ → ℕ → ℕ
 firstIn terms i = getD terms (FIRSTS + i * 4) 0

@@ -3,7 +3,7 @@ use mathlib.Core.Path.{_≡_}
 use mathlib.Core.List.{List, [], _∷_}
 use Prim.Native.Nat.{ℕ, zero, suc, _+_, _*_, _-_, _/_, _%_, _^_, _≤_, _<_}
 use lib.ListN.{length, getD}
-use Rattle.spec.specs.Bytes.{sum}
+use Rattle.spec.specs.Bytes.{Limits, sum}
 use Rattle.spec.specs.Pool.{TERMS, RUNS}
 use Rattle.lgg.specs.Pool.{PoolValid}
 use Rattle.terms.specs.Buffers.{BUCKETS, LEAST, NUMBERS, firstIn, headIn, valueIn, chainIn, bucketIn, countIn, partIn, poolOf, part, nodesIn}
@@ -16,7 +16,7 @@ mixAll x [] = x
 mixAll x (r ∷ l) = mixAll (mixOf x r) l
 
 abbrev pub fold : ℕ → ℕ
-fold x = (x + x / 4096 + x / 16777216) % 4096
+fold x = (x + x / 1024 + x / 1048576) % 1024
 
 -- the key of a node, by its numbers
 unfoldable pub keyOf : ℕ → ℕ → List ℕ → ℕ
@@ -35,9 +35,12 @@ pub record Chained (terms runs : List ℕ) (n : ℕ) : Type 0 where
   pub link : (i : ℕ) → i < n → 0 < chainIn terms i → keyIn terms runs (chainIn terms i - 1) ≡ keyIn terms runs i
   pub next : (i j : ℕ) → i < n → j < i → keyIn terms runs j ≡ keyIn terms runs i → j < chainIn terms i
 
--- Buffers for every pool within the limits.
-abbrev pub Whole : List ℕ → List ℕ → Type 0
-Whole terms runs = (NUMBERS ≤ length terms) × (RUNS ≤ length runs)
+-- Buffers for every pool within the limits, and these no larger than document 01's.
+pub record Rooms (lim : Limits) (terms runs : List ℕ) : Type 0 where
+  pub few : lim .terms ≤ TERMS
+  pub ends : lim .runs ≤ RUNS
+  pub long : LEAST + lim .terms * 4 ≤ length terms
+  pub roomy : lim .runs ≤ length runs
 
 -- The buffers hold a pool.
 pub record Holds (terms runs : List ℕ) : Type 0 where

@@ -8,8 +8,8 @@ use lib.Dec.{ltb, leb}
 use borrow.Author.Tests.{lt-ltb, le-ltb}
 use lib.ListN.{length, getD, take, drop, length-append, length-map, drop-of-length-le}
 use lib.Seq.{paste, take-all, take-length, drop-append-seam, drop-length}
-use Rattle.spec.specs.Bytes.{pick, both, place, Two, Res, ok, refused}
-use Rattle.spec.specs.Pool.{Pool, Node, TERMS, RUNS, sameNode, runCount, Interned, interned, intern}
+use Rattle.spec.specs.Bytes.{Limits, pick, both, place, Two, Res, ok, refused}
+use Rattle.spec.specs.Pool.{Pool, Node, sameNode, runCount, Interned, interned, intern}
 use Rattle.lgg.specs.PoolIntern.{Extends, extends-refl}
 use Rattle.terms.specs.Buffers.{part, pack, unpack, nodeOf, nodesIn, poolOf}
 use Rattle.terms.specs.Chains.{keyOf, Holds}
@@ -60,9 +60,9 @@ unfolding laidOver
 laid-over-one b n = refl
 
 -- what interning adds
-intern-adds : (p : Pool) (n : Node) → poolAfter p (intern p n) ≡ p ++ pick (grew p (intern p n)) (n ∷ []) []
+intern-adds : (lim : Limits) (p : Pool) (n : Node) → poolAfter p (intern lim p n) ≡ p ++ pick (grew p (intern lim p n)) (n ∷ []) []
 unfolding intern
-intern-adds p n = go (ltb (place (sameNode n) p) (length p)) (both (ltb (length p) TERMS) (leb (runCount p + length (n .runs)) RUNS))
+intern-adds lim p n = go (ltb (place (sameNode n) p) (length p)) (both (ltb (length p) (lim .terms)) (leb (runCount p + length (n .runs)) (lim .runs)))
   where
     R : Bool → Bool → Res Interned
     R a b = pick a (ok (interned p (place (sameNode n) p))) (pick b (ok (interned (p ++ (n ∷ [])) (length p))) (refused 13))
@@ -106,13 +106,13 @@ module _ {terms runs terms₁ runs₁ terms₂ runs₂ : List ℕ} {p₁ p₂ : 
       }
 
 -- interning, found, entered or refused
-pub grows-intern : {terms runs list : List ℕ} {n h v : ℕ} {terms′ runs′ : List ℕ} {r : Entered} → n ≤ length list → Interning terms runs list n h v terms′ runs′ r
-    → Grows terms runs terms′ runs′ (poolAfter (poolOf terms runs) (intern (poolOf terms runs) (nodeOf h v (part list 0 n))))
-grows-intern {terms} {runs} {list} {n} {h} {v} k I = record {
+pub grows-intern : (lim : Limits) → {terms runs list : List ℕ} {n h v : ℕ} {terms′ runs′ : List ℕ} {r : Entered} → n ≤ length list → Interning lim terms runs list n h v terms′ runs′ r
+    → Grows terms runs terms′ runs′ (poolAfter (poolOf terms runs) (intern lim (poolOf terms runs) (nodeOf h v (part list 0 n))))
+grows-intern lim {terms} {runs} {list} {n} {h} {v} k I = record {
   pool = I .pool;
   holds = I .holds;
   grown = record { later = _; is = adds };
-  numbers = ap₂ (λ (x y : List ℕ). (x, y)) (I .termsAre) (I .runsAre) ∙ by (grew p (intern p node)) ∙ ap (laidOver (terms, runs)) (sym (ap (drop (length p)) adds ∙ drop-append-seam p _));
+  numbers = ap₂ (λ (x y : List ℕ). (x, y)) (I .termsAre) (I .runsAre) ∙ by (grew p (intern lim p node)) ∙ ap (laidOver (terms, runs)) (sym (ap (drop (length p)) adds ∙ drop-append-seam p _));
 }
   where
     p : Pool
@@ -121,8 +121,8 @@ grows-intern {terms} {runs} {list} {n} {h} {v} k I = record {
     node : Node
     node = nodeOf h v (part list 0 n)
 
-    adds : poolAfter p (intern p node) ≡ p ++ pick (grew p (intern p node)) (node ∷ []) []
-    adds = intern-adds p node
+    adds : poolAfter p (intern lim p node) ≡ p ++ pick (grew p (intern lim p node)) (node ∷ []) []
+    adds = intern-adds lim p node
 
     by : (b : Bool) → _≡_ {A = Buffers} (pick b (enterTerm terms h v n (keyOf h v (part list 0 n))) terms, pick b (enterRuns terms runs list n) runs) (laidOver (terms, runs) (pick b (node ∷ []) []))
     by true = sym (laid-over-one (terms, runs) node ∙ laid-node terms runs list n h v k)

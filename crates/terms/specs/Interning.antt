@@ -6,10 +6,10 @@ use Prim.Native.Nat.{ℕ, zero, suc, _+_, _*_, _-_, _≤_, _<_}
 use lib.Dec.{ltb}
 use lib.ListN.{length, getD, set}
 use lib.Seq.{paste}
-use Rattle.spec.specs.Bytes.{pick, Res, ok, refused}
+use Rattle.spec.specs.Bytes.{Limits, pick, Res, ok, refused}
 use Rattle.spec.specs.Pool.{Pool, Node, Interned, intern}
 use Rattle.terms.specs.Buffers.{BUCKET, COUNT, FIRSTS, HEADS, VALUES, CHAINS, firstIn, countIn, bucketIn, poolOf, part, nodesIn, nodeIn, nodeOf}
-use Rattle.terms.specs.Chains.{Holds, Whole, keyOf}
+use Rattle.terms.specs.Chains.{Holds, keyOf}
 use Rattle.terms.specs.declared.Entered.{Entered}
 use Rattle.terms.specs.declared.Entered.the-variants as E
 
@@ -36,12 +36,6 @@ enterTerm terms h v n b = putChain (putTerm terms (countIn terms) h v (firstIn t
 unfoldable pub enterRuns : List ℕ → List ℕ → List ℕ → ℕ → List ℕ
 enterRuns terms runs list n = paste runs (firstIn terms (countIn terms)) list n
 
--- X holds of the answer, unless it is `Short`: only where the buffers are shorter than a whole pool's, and then S
-abbrev pub Unless : List ℕ → List ℕ → Entered → Type 0 → Type 0 → Type 0
-Unless terms runs E.Short S X = (Whole terms runs → ⊥) × S
-Unless terms runs (E.Term t) S X = X
-Unless terms runs E.Full S X = X
-
 -- refusal 13 is `Full`
 abbrev pub enteredOf : Res Interned → Entered
 enteredOf (ok r) = E.Term (r .term)
@@ -56,9 +50,9 @@ abbrev pub grew : Pool → Res Interned → Bool
 grew p r = ltb (length p) (length (poolAfter p r))
 
 -- `intern` of the node with head h, value v and the n runs of list
-pub record Interning (terms runs list : List ℕ) (n h v : ℕ) (terms′ runs′ : List ℕ) (r : Entered) : Type 0 where
-  pub answer : r ≡ enteredOf (intern (poolOf terms runs) (nodeOf h v (part list 0 n)))
-  pub pool : poolOf terms′ runs′ ≡ poolAfter (poolOf terms runs) (intern (poolOf terms runs) (nodeOf h v (part list 0 n)))
+pub record Interning (lim : Limits) (terms runs list : List ℕ) (n h v : ℕ) (terms′ runs′ : List ℕ) (r : Entered) : Type 0 where
+  pub answer : r ≡ enteredOf (intern lim (poolOf terms runs) (nodeOf h v (part list 0 n)))
+  pub pool : poolOf terms′ runs′ ≡ poolAfter (poolOf terms runs) (intern lim (poolOf terms runs) (nodeOf h v (part list 0 n)))
   pub holds : Holds terms′ runs′
-  pub termsAre : terms′ ≡ pick (grew (poolOf terms runs) (intern (poolOf terms runs) (nodeOf h v (part list 0 n)))) (enterTerm terms h v n (keyOf h v (part list 0 n))) terms
-  pub runsAre : runs′ ≡ pick (grew (poolOf terms runs) (intern (poolOf terms runs) (nodeOf h v (part list 0 n)))) (enterRuns terms runs list n) runs
+  pub termsAre : terms′ ≡ pick (grew (poolOf terms runs) (intern lim (poolOf terms runs) (nodeOf h v (part list 0 n)))) (enterTerm terms h v n (keyOf h v (part list 0 n))) terms
+  pub runsAre : runs′ ≡ pick (grew (poolOf terms runs) (intern lim (poolOf terms runs) (nodeOf h v (part list 0 n)))) (enterRuns terms runs list n) runs

@@ -11,8 +11,8 @@ use borrow.Author.Tests.{eqb-true, eqb-false, eq-eqb, ne-eqb}
 use lib.ListN.{length, getD, set, take, drop, length-append, length-map, length-set, List·getD-append, length-drop, take-append-drop}
 use lib.Seq.{ext-getD, length-take-le, getD-take, take-at, getD-append-add, getD-drop, set-split, drop-drop, drop-append-add, take-append-le, set-at, drop-at, drop-cons}
 use Rattle.spec.specs.Bytes.{pick, sum, Two}
-use Rattle.spec.specs.Pool.{joinTo, joinRuns}
-use Rattle.terms.specs.Buffers.{part, unpack}
+use Rattle.spec.specs.Pool.{joinTo, joinRuns, opNode}
+use Rattle.terms.specs.Buffers.{part, unpack, nodeOf}
 use Rattle.terms.specs.Joining.{appendNumber, joinNumbers, over, Begins, joinedIn}
 use Rattle.terms.specs.PartLaws.{part-length, part-at, part-cong, part-snoc}
 
@@ -221,3 +221,10 @@ module _ (l₀ list : List ℕ) (i m : ℕ) (B : Begins (joinedIn l₀ i) l₀ l
 pub join-start : (list : List ℕ) → Begins (joinedIn list 0) list list 0
 unfolding joinNumbers part
 join-start list = record { many = refl; numbers = refl }
+
+pub begins-fits : {l list list′ : List ℕ} {n : ℕ} → Begins l list list′ n → n ≤ length list′
+begins-fits {l} {list} b = rw (b .numbers) (omega (arith, b .many, length-append l (drop (length l) list)))
+
+-- an operation's node by its numbers
+pub op-node : (o : ℕ) (l : List ℕ) (m : List Two) → o < 64 → map unpack l ≡ joinRuns m → nodeOf o 0 l ≡ opNode o m
+op-node o l m h e = let a : o / 64 ≡ 0 = omega arith in let b : o % 64 ≡ o = omega arith in rw (a, b, e) refl

@@ -6,16 +6,8 @@ pub mod PoolLaws
 pub mod ChainLaws
 pub mod EnterLaws
 pub mod InternLaws
-pub mod ShortLaws
 pub mod Emptying
 pub mod Growing
 pub mod Joining
 pub mod JoinLaws
 pub mod GrowLaws
-pub mod Comparing
-pub mod CompareLaws
-pub mod Steps
-pub mod Sorting
-pub mod SortLaws
-pub mod Results
-pub mod ResultLaws

@@ -40,6 +40,10 @@ pub part-cons : (l : List ℕ) (i n : ℕ) → i < n → part l i (n - i) ≡ ge
 unfolding part
 part-cons l i n h = let e : n - i ≡ suc (n - (i + 1)) = omega arith in let f : i + 1 ≡ suc i = omega arith in rw (e, f) refl
 
+pub part-over : (l : List ℕ) (i n : ℕ) → n ≤ i → part l i (n - i) ≡ []
+unfolding part
+part-over l i n h = let e : n - i ≡ 0 = omega arith in rw e refl
+
 pub part-snoc : (l : List ℕ) (a n : ℕ) → part l a (suc n) ≡ part l a n ++ (getD l (a + n) 0 ∷ [])
 unfolding part
 part-snoc l a zero = let e : a + 0 ≡ a = omega arith in rw e refl

@@ -7,11 +7,11 @@ use Prim.Native.Nat.{ℕ, zero, suc, _+_, _*_, _-_, _/_, _%_, _^_, _≤_, _<_}
 use native.Mathlib.Nat.{not-suc-le-zero, eq-or-lt-of-le}
 use native.Mathlib.Omega.{arith}
 use lib.ListN.{length, getD, length-append, length-map, List·getD-append}
-use Rattle.spec.specs.Bytes.{Two, sum}
+use Rattle.spec.specs.Bytes.{Limits, Two, sum}
 use Rattle.spec.specs.Pool.{Pool, Node, nodeAt, TERMS, RUNS, runCount}
 use Rattle.lgg.specs.Pool.{getD-last}
 use Rattle.terms.specs.Buffers.{part, unpack, nodeOf, nodeIn, nodesIn, poolOf, partIn, lengthIn, firstIn, headIn, valueIn, countIn}
-use Rattle.terms.specs.Chains.{Holds}
+use Rattle.terms.specs.Chains.{Holds, Rooms}
 use Rattle.terms.specs.Interning.{Tells}
 use Rattle.terms.specs.PartLaws.{part-length}
 
@@ -104,3 +104,7 @@ module _ (terms runs : List ℕ) (H : Holds terms runs) where
 
 pub first-at : {t f : ℕ} (terms : List ℕ) → t ≡ countIn terms → f ≡ firstIn terms t → f ≡ firstIn terms (countIn terms)
 first-at terms e g = rw (← e) g
+
+-- buffers of the same lengths have the same room
+pub rooms-same : {lim : Limits} {terms runs terms′ runs′ : List ℕ} → length terms′ ≡ length terms → length runs′ ≡ length runs → Rooms lim terms runs → Rooms lim terms′ runs′
+rooms-same e f r = record { few = r .few; ends = r .ends; long = omega (arith, r .long); roomy = omega (arith, r .roomy) }

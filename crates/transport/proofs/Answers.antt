@@ -9,27 +9,28 @@ use native.Mathlib.Decide.{ℕ-discrete}
 use native.Mathlib.Omega.{arith}
 use borrow.Author.Tests.{le-leb, lt-leb}
 use lib.Dec.{T, leb, eqb, leb→le, eqb→eq}
-use lib.ListN.{length, getD, set, take, replicate, length-replicate}
+use lib.ListN.{length, getD, set, take, replicate}
 use lib.Seq.{getD-take, length-take-le, getD-set-same, getD-set-other, ext-getD}
 use Rattle.spec.specs.Bytes.{both, ok, sumTo, workAfter}
 use Rattle.spec.specs.Meaning.{Plan}
-use Rattle.spec.specs.Transport.{solveCells, solvedBy, planSize, planMass, planAfter}
+use Rattle.spec.specs.Transport.{solveCells, solvedBy, planSize, planMass, planAfter, WIDEST}
 use Rattle.wide.specs.Value.{unsigned}
 use Rattle.wide.specs.Wrap.{Natural}
-use Rattle.search.specs.Fits.{cells-fit}
 use Rattle.flow.specs.Sums.{sum-term}
 use Rattle.flow.specs.Network.{rowFlow-is}
 use Rattle.flow.specs.Search.{true-false}
-use Rattle.flow.specs.SearchEnds.{getD-same}
 use Rattle.flow.specs.Theorems.{margins}
 use Rattle.transport.specs.declared.Answer.{Answer}
 use Rattle.transport.specs.declared.Answer.the-variants as A
 use Rattle.transport.specs.declared.Quality.{Quality}
-use Rattle.transport.specs.Cells.{cellsFrom, problemOf, totalFrom}
-use Rattle.transport.specs.Solved.{Shaped, PlanIn, isPlan, Emptied}
+use Rattle.cost_matrix.specs.Matrix.{CELLS, COSTS, costsAfter, Given, Laid}
+use Rattle.cost_matrix.specs.Places.{cells-fit, place-of}
+use Rattle.cost_matrix.specs.Cells.{cellsFrom, problemOf, small-of}
+use Rattle.cost_matrix.specs.Laying.{given-of}
+use Rattle.augment.specs.Solved.{PlanIn, isPlan}
+use Rattle.transport.specs.Slices.{Shaped, totalFrom}
 use Rattle.transport.specs.Public.{told, totalsOf, shapeOf, shapedOf, transportOf, Told}
-use Rattle.transport.proofs.CellLaws.{size-total, mass-total}
-use Rattle.transport.specs.SolvedLaws.{place-of}
+use Rattle.transport.proofs.Totals.{size-total, mass-total}
 
 module _ (supply demand sizes masses flags plan : List ℕ) where
   abbrev shape : Bool
@@ -100,19 +101,19 @@ le-of a b e = leb→le a b (rw e tt)
 eq-of : (a b : ℕ) → eqb a b ≡ true → a ≡ b
 eq-of a b e = eqb→eq a b (rw e tt)
 
-pub shape-right : (supply demand sizes masses flags plan costs flow : List ℕ) → 12675 ≤ length costs → 4225 ≤ length flow
+pub shape-right : (supply demand sizes masses flags plan costs flow : List ℕ) → COSTS ≤ length costs → CELLS ≤ length flow
     → true ≡ shapeOf (length supply) (length demand) (length sizes) (length masses) (length flags) (length plan) → Shaped supply demand sizes masses flags costs flow × (length plan ≡ length supply * length demand)
 shape-right supply demand sizes masses flags plan costs flow lc lf e =
     let n = length supply * length demand in
-    let (a, a′) = both-true (leb (length supply) 65) (both (leb (length demand) 65) (both (eqb (length sizes) n) (both (eqb (length masses) n) (both (eqb (length flags) n) (eqb (length plan) n))))) (sym e) in
-    let (b, b′) = both-true (leb (length demand) 65) (both (eqb (length sizes) n) (both (eqb (length masses) n) (both (eqb (length flags) n) (eqb (length plan) n)))) a′ in
+    let (a, a′) = both-true (leb (length supply) WIDEST) (both (leb (length demand) WIDEST) (both (eqb (length sizes) n) (both (eqb (length masses) n) (both (eqb (length flags) n) (eqb (length plan) n))))) (sym e) in
+    let (b, b′) = both-true (leb (length demand) WIDEST) (both (eqb (length sizes) n) (both (eqb (length masses) n) (both (eqb (length flags) n) (eqb (length plan) n)))) a′ in
     let (c, c′) = both-true (eqb (length sizes) n) (both (eqb (length masses) n) (both (eqb (length flags) n) (eqb (length plan) n))) b′ in
     let (d, d′) = both-true (eqb (length masses) n) (both (eqb (length flags) n) (eqb (length plan) n)) c′ in
     let (f, g) = both-true (eqb (length flags) n) (eqb (length plan) n) d′ in
-    let few = cells-fit (length supply) (length demand) (le-of (length supply) 65 a) (le-of (length demand) 65 b) in (
+    let few = cells-fit (length supply) (length demand) (le-of (length supply) WIDEST a) (le-of (length demand) WIDEST b) in (
       record {
-        rows = le-of (length supply) 65 a;
-        columns = le-of (length demand) 65 b;
+        rows = le-of (length supply) WIDEST a;
+        columns = le-of (length demand) WIDEST b;
         sizesLong = eq-of (length sizes) n c;
         massesLong = eq-of (length masses) n d;
         allowedLong = eq-of (length flags) n f;
@@ -121,6 +122,16 @@ shape-right supply demand sizes masses flags plan costs flow lc lf e =
       },
       eq-of (length plan) n g,
     )
+
+-- the slices' problem is in place once its costs are laid
+module _ (supply demand sizes masses flags costs flow : List ℕ) (Z : Shaped supply demand sizes masses flags costs flow) (low : (i : ℕ) → getD supply i 0 < 2 ^ 32) (lows : (i : ℕ) → getD sizes i 0 < 2 ^ 32) (lowm : (i : ℕ) → getD masses i 0 < 2 ^ 32) (g : List ℕ)
+    (e : g ≡ costsAfter (problemOf supply demand sizes masses flags) costs) where
+  pub slices-given : Given (problemOf supply demand sizes masses flags) supply demand g
+  unfolding problemOf
+  slices-given = given-of (problemOf supply demand sizes masses flags) (small-of supply demand sizes masses flags (Z .rows) (Z .columns) low lows lowm) supply demand costs g refl refl (Z .costsLong) e
+
+  pub slices-laid : Laid supply demand g
+  slices-laid = record { p = problemOf supply demand sizes masses flags; given = slices-given }
 
 -- ---- the loops
 abbrev pub Copied : List ℕ → List ℕ → ℕ → Type 0
@@ -136,23 +147,20 @@ copied-next f x n h C k hk = go (ℕ-discrete k n)
 pub copied-end : (f x : List ℕ) (n : ℕ) → length x ≡ n → n ≤ length f → Copied f x n → x ≡ take n f
 copied-end f x n e h C = ext-getD 0 x (take n f) (e ∙ sym (length-take-le n f h)) (λ k hk. C k (rw e at hk) ∙ sym (getD-take n f k 0 (rw e at hk)))
 
-pub cleared : (s : List ℕ) (n : ℕ) → length s ≡ n → Emptied s n → s ≡ replicate n 0
-cleared s n e E = ext-getD 0 s (replicate n 0) (e ∙ sym (length-replicate {A = ℕ} n 0)) (λ k hk. E k (rw e at hk) ∙ sym (getD-same n k 0))
-
 -- ---- the gates of the public function
 module _ (supply demand sizes masses flags plan costs flow : List ℕ) where
   abbrev fit : Bool
-  fit = both (leb 12675 (length costs)) (leb 4225 (length flow))
+  fit = both (leb COSTS (length costs)) (leb CELLS (length flow))
 
-  pub gate-costs : length costs < 12675 → Told (transportOf fit supply demand sizes masses flags (length plan)) plan plan (A.Refused 1) × (costs ≡ workAfter 0 fit costs) × (flow ≡ workAfter 0 fit flow)
-  gate-costs h = rw (lt-leb 12675 (length costs) h) (too-short supply demand sizes masses flags plan, refl, refl)
+  pub gate-costs : length costs < COSTS → Told (transportOf fit supply demand sizes masses flags (length plan)) plan plan (A.Refused 1) × (costs ≡ workAfter 0 fit costs) × (flow ≡ workAfter 0 fit flow)
+  gate-costs h = rw (lt-leb COSTS (length costs) h) (too-short supply demand sizes masses flags plan, refl, refl)
 
-  pub gate-flow : 12675 ≤ length costs → length flow < 4225 → Told (transportOf fit supply demand sizes masses flags (length plan)) plan plan (A.Refused 1) × (costs ≡ workAfter 0 fit costs) × (flow ≡ workAfter 0 fit flow)
-  gate-flow g h = rw (le-leb 12675 (length costs) g, lt-leb 4225 (length flow) h) (too-short supply demand sizes masses flags plan, refl, refl)
+  pub gate-flow : COSTS ≤ length costs → length flow < CELLS → Told (transportOf fit supply demand sizes masses flags (length plan)) plan plan (A.Refused 1) × (costs ≡ workAfter 0 fit costs) × (flow ≡ workAfter 0 fit flow)
+  gate-flow g h = rw (le-leb COSTS (length costs) g, lt-leb CELLS (length flow) h) (too-short supply demand sizes masses flags plan, refl, refl)
 
-  pub gate-open : 12675 ≤ length costs → 4225 ≤ length flow → (plan′ : List ℕ) (r : Answer) → Told (shapedOf supply demand sizes masses flags (length plan)) plan plan′ r
+  pub gate-open : COSTS ≤ length costs → CELLS ≤ length flow → (plan′ : List ℕ) (r : Answer) → Told (shapedOf supply demand sizes masses flags (length plan)) plan plan′ r
       → (costs′ flow′ : List ℕ) (m n : ℕ) → costs′ ≡ replicate m 0 → m ≡ length costs → flow′ ≡ replicate n 0 → n ≡ length flow
       → Told (transportOf fit supply demand sizes masses flags (length plan)) plan plan′ r × (costs′ ≡ workAfter 0 fit costs) × (flow′ ≡ workAfter 0 fit flow)
   gate-open g h plan′ r t costs′ flow′ m n a b c d =
-      rw (le-leb 12675 (length costs) g, le-leb 4225 (length flow) h)
+      rw (le-leb COSTS (length costs) g, le-leb CELLS (length flow) h)
       (long-enough supply demand sizes masses flags plan plan′ r t, a ∙ ap (λ (k : ℕ). replicate k 0) b, c ∙ ap (λ (k : ℕ). replicate k 0) d)

@@ -1,8 +1,3 @@
-pub mod Path
-pub mod Sending
-pub mod Cells
-pub mod Solved
-pub mod SolvedLaws
-pub mod HasPlan
+pub mod Slices
 pub mod Public
 pub mod Promise

@@ -10,7 +10,7 @@ use lib.Dec.{leb, eqb}
 use lib.ListN.{length, replicate}
 use Rattle.spec.specs.Bytes.{both, Two, Res, ok, refused, workAfter}
 use Rattle.spec.specs.Meaning.{Plan, _⊑_}
-use Rattle.spec.specs.Transport.{Problem, Solution, shapeRight, solveTransport, planAfter}
+use Rattle.spec.specs.Transport.{Problem, Solution, shapeRight, solveTransport, planAfter, WIDEST}
 use Rattle.wide.specs.Value.{unsigned}
 use Rattle.flow.specs.Search.{true-false}
 use Rattle.flow.specs.Theorems as F
@@ -18,17 +18,18 @@ use Rattle.flow.specs.Theorems.{totals, NoPlan}
 use Rattle.transport.specs.declared.Answer.{Answer}
 use Rattle.transport.specs.declared.Answer.the-variants as A
 use Rattle.transport.specs.declared.Quality.{Quality}
-use Rattle.transport.specs.Cells.{cells-length, problemOf}
+use Rattle.cost_matrix.specs.Matrix.{CELLS, COSTS}
+use Rattle.cost_matrix.specs.Cells.{cells-length, problemOf}
 use Rattle.transport.specs.Public.{told, totalsOf, shapeOf, shapedOf, transportOf, Ensures}
 
 -- 1: no "work buffer below its constant length"
 abbrev pub Fits : List ℕ → List ℕ → Type 0
-Fits costs flow = (12675 ≤ length costs) × (4225 ≤ length flow)
+Fits costs flow = (COSTS ≤ length costs) × (CELLS ≤ length flow)
 
 -- 15: not "over 65 rows or columns, or cells or a lent plan buffer not rows × columns". A cell has a size, a mass and a flag.
 abbrev pub Shape : (supply demand sizes masses allowed plan : List ℕ) → Type 0
 Shape supply demand sizes masses allowed plan =
-    (length supply ≤ 65) × (length demand ≤ 65) × (length sizes ≡ length supply * length demand) × (length masses ≡ length supply * length demand) × (length allowed ≡ length supply * length demand) × (length plan ≡ length supply * length demand)
+    (length supply ≤ WIDEST) × (length demand ≤ WIDEST) × (length sizes ≡ length supply * length demand) × (length masses ≡ length supply * length demand) × (length allowed ≡ length supply * length demand) × (length plan ≡ length supply * length demand)
 
 -- the promise, of the problem p that the slices give
 pub record Promise (supply demand sizes masses allowed plan costs flow plan′ costs′ flow′ : List ℕ) (r : Answer) (p : Problem) : Type 0 where
@@ -56,23 +57,23 @@ both-true : (a b : Bool) → both a b ≡ true → (a ≡ true) × (b ≡ true)
 both-true true b e = (refl, e)
 both-true false b e = absurd (true-false (sym e))
 
-fits-says : (costs flow : List ℕ) → both (leb 12675 (length costs)) (leb 4225 (length flow)) ≡ true ↔ Fits costs flow
+fits-says : (costs flow : List ℕ) → both (leb COSTS (length costs)) (leb CELLS (length flow)) ≡ true ↔ Fits costs flow
 fits-says costs flow = (
-  λ e. let (a, b) = both-true (leb 12675 (length costs)) _ e in (leb-true 12675 (length costs) a, leb-true 4225 (length flow) b),
-  λ h. rw (le-leb 12675 (length costs) (h .0), le-leb 4225 (length flow) (h .1)) refl,
+  λ e. let (a, b) = both-true (leb COSTS (length costs)) _ e in (leb-true COSTS (length costs) a, leb-true CELLS (length flow) b),
+  λ h. rw (le-leb COSTS (length costs) (h .0), le-leb CELLS (length flow) (h .1)) refl,
 )
 
-shape-says : (r c s m a p : ℕ) → shapeOf r c s m a p ≡ true ↔ ((r ≤ 65) × (c ≤ 65) × (s ≡ r * c) × (m ≡ r * c) × (a ≡ r * c) × (p ≡ r * c))
-shape-says r c s m a p = (says, λ h. rw (le-leb r 65 (h .0), le-leb c 65 (h .1), eq-eqb s (r * c) (h .2), eq-eqb m (r * c) (h .3), eq-eqb a (r * c) (h .4), eq-eqb p (r * c) (h .5)) refl)
+shape-says : (r c s m a p : ℕ) → shapeOf r c s m a p ≡ true ↔ ((r ≤ WIDEST) × (c ≤ WIDEST) × (s ≡ r * c) × (m ≡ r * c) × (a ≡ r * c) × (p ≡ r * c))
+shape-says r c s m a p = (says, λ h. rw (le-leb r WIDEST (h .0), le-leb c WIDEST (h .1), eq-eqb s (r * c) (h .2), eq-eqb m (r * c) (h .3), eq-eqb a (r * c) (h .4), eq-eqb p (r * c) (h .5)) refl)
   where
-    says : shapeOf r c s m a p ≡ true → (r ≤ 65) × (c ≤ 65) × (s ≡ r * c) × (m ≡ r * c) × (a ≡ r * c) × (p ≡ r * c)
+    says : shapeOf r c s m a p ≡ true → (r ≤ WIDEST) × (c ≤ WIDEST) × (s ≡ r * c) × (m ≡ r * c) × (a ≡ r * c) × (p ≡ r * c)
     says e =
-        let (x, e₁) = both-true (leb r 65) _ e in
-        let (y, e₂) = both-true (leb c 65) _ e₁ in
+        let (x, e₁) = both-true (leb r WIDEST) _ e in
+        let (y, e₂) = both-true (leb c WIDEST) _ e₁ in
         let (z, e₃) = both-true (eqb s (r * c)) _ e₂ in
         let (u, e₄) = both-true (eqb m (r * c)) _ e₃ in
         let (v, w) = both-true (eqb a (r * c)) _ e₄ in
-        (leb-true r 65 x, leb-true c 65 y, eqb-true s (r * c) z, eqb-true m (r * c) u, eqb-true a (r * c) v, eqb-true p (r * c) w)
+        (leb-true r WIDEST x, leb-true c WIDEST y, eqb-true s (r * c) z, eqb-true m (r * c) u, eqb-true a (r * c) v, eqb-true p (r * c) w)
 
 by-tests : (a b s p : Bool) → both a (both b (both s (both s (both s p)))) ≡ both (both a b) (both s p)
 by-tests true true true p = refl
@@ -86,7 +87,7 @@ module _ (supply demand sizes masses allowed : List ℕ) (m : length masses ≡ 
   unfolding problemOf
   shape-is =
       rw (m, a, cells-length sizes masses allowed (length sizes) 0)
-      (by-tests (leb (length supply) 65) (leb (length demand) 65) (eqb (length sizes) (length supply * length demand)) (eqb plan (length supply * length demand)))
+      (by-tests (leb (length supply) WIDEST) (leb (length demand) WIDEST) (eqb (length sizes) (length supply * length demand)) (eqb plan (length supply * length demand)))
 
   pub transport-is : (fit : Bool) → transportOf fit supply demand sizes masses allowed plan ≡ solveTransport fit (problemOf supply demand sizes masses allowed) plan
   unfolding transportOf shapedOf solveTransport
@@ -128,7 +129,7 @@ module _ (supply demand sizes masses allowed plan costs flow plan′ costs′ fl
   P = Promise supply demand sizes masses allowed plan costs flow plan′ costs′ flow′ r p
 
   abbrev fit : Bool
-  fit = both (leb 12675 (length costs)) (leb 4225 (length flow))
+  fit = both (leb COSTS (length costs)) (leb CELLS (length flow))
 
   abbrev shape : Bool
   shape = shapeOf (length supply) (length demand) (length sizes) (length masses) (length allowed) (length plan)

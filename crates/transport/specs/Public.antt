@@ -6,11 +6,12 @@ use Prim.Native.Nat.{ℕ, _*_}
 use lib.Dec.{leb, eqb}
 use lib.ListN.{length}
 use Rattle.spec.specs.Bytes.{both, Two, Res, ok, refused, _>>=_, rule, workAfter}
-use Rattle.spec.specs.Transport.{Problem, Solution, solveCells, solvedBy, planAfter}
+use Rattle.spec.specs.Transport.{Problem, Solution, solveCells, solvedBy, planAfter, WIDEST}
 use Rattle.wide.specs.Value.{unsigned}
 use Rattle.transport.specs.declared.Answer.{Answer}
 use Rattle.transport.specs.declared.Answer.the-variants as A
-use Rattle.transport.specs.Cells.{problemOf}
+use Rattle.cost_matrix.specs.Matrix.{CELLS, COSTS}
+use Rattle.cost_matrix.specs.Cells.{problemOf}
 
 -- the number of a refusal, or the plan's size and mass
 unfoldable pub told : Answer → Res Two
@@ -24,7 +25,7 @@ totalsOf (refused n) = refused n
 
 -- "over 65 rows or columns, or cells or a lent plan buffer not rows × columns": r rows, c columns, the lengths of the cells' three slices and of the plan
 abbrev pub shapeOf : ℕ → ℕ → ℕ → ℕ → ℕ → ℕ → Bool
-shapeOf r c s m a p = both (leb r 65) (both (leb c 65) (both (eqb s (r * c)) (both (eqb m (r * c)) (both (eqb a (r * c)) (eqb p (r * c))))))
+shapeOf r c s m a p = both (leb r WIDEST) (both (leb c WIDEST) (both (eqb s (r * c)) (both (eqb m (r * c)) (both (eqb a (r * c)) (eqb p (r * c))))))
 
 unfoldable pub shapedOf : List ℕ → List ℕ → List ℕ → List ℕ → List ℕ → ℕ → Res Solution
 unfolding problemOf solveCells solvedBy
@@ -46,6 +47,6 @@ pub record Told (o : Res Solution) (plan plan′ : List ℕ) (r : Answer) : Type
 -- what `solve_transport` ensures: r is its answer; plan, costs and flow are the lent buffers before the call, plan′, costs′ and flow′ afterwards
 abbrev pub Ensures : (supply demand sizes masses allowed plan costs flow plan′ costs′ flow′ : List ℕ) → Answer → Type 0
 Ensures supply demand sizes masses allowed plan costs flow plan′ costs′ flow′ r =
-    Told (transportOf (both (leb 12675 (length costs)) (leb 4225 (length flow))) supply demand sizes masses allowed (length plan)) plan plan′ r
-    × (costs′ ≡ workAfter 0 (both (leb 12675 (length costs)) (leb 4225 (length flow))) costs)
-    × (flow′ ≡ workAfter 0 (both (leb 12675 (length costs)) (leb 4225 (length flow))) flow)
+    Told (transportOf (both (leb COSTS (length costs)) (leb CELLS (length flow))) supply demand sizes masses allowed (length plan)) plan plan′ r
+    × (costs′ ≡ workAfter 0 (both (leb COSTS (length costs)) (leb CELLS (length flow))) costs)
+    × (flow′ ≡ workAfter 0 (both (leb COSTS (length costs)) (leb CELLS (length flow))) flow)

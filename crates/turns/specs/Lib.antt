@@ -1,13 +1,4 @@
-pub mod Cells
-pub mod Sums
-pub mod Room
-pub mod Laying
-pub mod Listing
-pub mod Better
-pub mod Offers
-pub mod OfferLaws
-pub mod PlanLaws
-pub mod Walking
 pub mod Taking
 pub mod Agreeing
+pub mod Walking
 pub mod Ending

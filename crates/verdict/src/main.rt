@@ -23,10 +23,6 @@ fn decimal(n: usize) {
     digit(n % 10);
 }
 
-fn small(n: u8) -> usize {
-    n as usize
-}
-
 fn say(v: Verdict) {
     match v {
         Verdict::Accepted(_) => {
@@ -34,7 +30,7 @@ fn say(v: Verdict) {
         }
         Verdict::Refused(n) => {
             io::write_all(STDOUT_FILENO, b"refused ");
-            decimal(small(n));
+            decimal(numbers::size_u8(n));
         }
         Verdict::Doubled(c) => {
             io::write_all(STDOUT_FILENO, b"refused 10 class ");
@@ -49,7 +45,7 @@ fn each(s: &[u8]) {
     let mut at = 0;
     while at + 4 <= s.len() {
         let from = at + 4;
-        let n = image::be4(s, at) as usize;
+        let n = numbers::size_u64(image::be4(s, at));
         if n > s.len() - from {
             return;
         }

@@ -17,10 +17,10 @@ const OUTPUT: usize = 2_048;
 const GARBAGE: u8 = 0xa5;
 
 struct Buffers {
-    lefts: Vec<u16>,
-    rights: Vec<u16>,
-    index: Vec<u16>,
+    graph: Vec<u16>,
     pairs: Vec<u32>,
+    work: Vec<u64>,
+    flow: Vec<u64>,
     terms: Vec<u32>,
     runs: Vec<u64>,
     out: Vec<u8>,
@@ -29,10 +29,10 @@ struct Buffers {
 impl Buffers {
     fn new() -> Buffers {
         Buffers {
-            lefts: vec![0; raw::LEFTS + 3],
-            rights: vec![0; raw::RIGHTS + 3],
-            index: vec![0; raw::INDEX + 3],
+            graph: vec![0; raw::GRAPH + 3],
             pairs: vec![0; raw::PAIRS + 3],
+            work: vec![0; raw::WORK + 3],
+            flow: vec![0; raw::FLOW + 3],
             terms: vec![0; raw::TERMS + 3],
             runs: vec![0; raw::RUNS + 3],
             out: vec![0; OUTPUT],
@@ -40,10 +40,10 @@ impl Buffers {
     }
 
     fn fill(&mut self) {
-        self.lefts.fill(0xa5a5);
-        self.rights.fill(0xa5a5);
-        self.index.fill(0xa5a5);
+        self.graph.fill(0xa5a5);
         self.pairs.fill(0xa5a5_a5a5);
+        self.work.fill(0xa5a5_a5a5_a5a5_a5a5);
+        self.flow.fill(0xa5a5_a5a5_a5a5_a5a5);
         self.terms.fill(0xa5a5_a5a5);
         self.runs.fill(0xa5a5_a5a5_a5a5_a5a5);
         self.out.fill(GARBAGE);
@@ -56,10 +56,10 @@ impl Buffers {
         } else {
             (0, 0, 0)
         };
-        self.lefts.iter().all(|x| *x == two)
-            && self.rights.iter().all(|x| *x == two)
-            && self.index.iter().all(|x| *x == two)
+        self.graph.iter().all(|x| *x == two)
             && self.pairs.iter().all(|x| *x == four)
+            && self.work.iter().all(|x| *x == eight)
+            && self.flow.iter().all(|x| *x == eight)
             && self.terms.iter().all(|x| *x == four)
             && self.runs.iter().all(|x| *x == eight)
     }
@@ -81,14 +81,14 @@ impl Buffers {
                 u16::from_be_bytes([a, b]),
                 u16::from_be_bytes([c, d]),
                 u32::from_be_bytes([e, f, g, h]),
-                self.lefts.as_mut_ptr(),
-                self.lefts.len(),
-                self.rights.as_mut_ptr(),
-                self.rights.len(),
-                self.index.as_mut_ptr(),
-                self.index.len(),
+                self.graph.as_mut_ptr(),
+                self.graph.len(),
                 self.pairs.as_mut_ptr(),
                 self.pairs.len(),
+                self.work.as_mut_ptr(),
+                self.work.len(),
+                self.flow.as_mut_ptr(),
+                self.flow.len(),
                 self.terms.as_mut_ptr(),
                 terms,
                 self.runs.as_mut_ptr(),

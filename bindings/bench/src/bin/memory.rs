@@ -53,7 +53,7 @@ fn peak(frame: &[u8]) -> usize {
 
 fn main() {
     let lent =
-        2 * (raw::LEFTS + raw::RIGHTS + raw::INDEX) + 4 * (raw::PAIRS + raw::TERMS) + 8 * raw::RUNS;
+        2 * raw::GRAPH + 4 * (raw::PAIRS + raw::TERMS) + 8 * (raw::WORK + raw::FLOW + raw::RUNS);
     println!("| Queries | listed, bytes at the peak | library, bytes of work buffers |");
     println!("|---|---|---|");
     for family in families() {

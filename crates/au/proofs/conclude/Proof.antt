@@ -1,47 +1,29 @@
+use Rattle.query.specs.declared.Query.{Query}
+use mathlib.Core.Path.{subst}
+use mathlib.Core.Bool.{Bool, true, false}
+use Rattle.au.specs.Engine.{limited, SettledBy}
+use Rattle.au.specs.Assembled.{wide-roomy}
+use Rattle.au.specs.PreparedLaws.{settled}
+use Prim.Native.Nat.{_-_}
+use mathlib.Core.Path.{_≡_, refl, sym, _∙_}
 use borrow.Author.Needs.{needs}
-use mathlib.Core.Path.{ap, subst, _∙_}
-use Rattle.au.specs.declared.Prepared.{Prepared}
-use Rattle.au.specs.Prepared.{pairsOf, Prepares}
-use Rattle.au.specs.PreparedLaws.{merges-stop}
-use Rattle.au.specs.TableCounts.{counts-go, counts-again}
 use Rattle.au.proofs.conclude.Statement.{statement}
 use Rattle.au.proofs.conclude.Tie as tie
 
-enum-known-p : tie.Need-enum-known-p
-enum-known-p c = search needs
-
-clear-all-requires : tie.Need-clear-all-requires
-clear-all-requires c κs = search needs
-
-enum-known-p-2 : tie.Need-enum-known-p-2
-enum-known-p-2 c = search needs
-
-wide-requires : tie.Need-wide-requires
-wide-requires c κs = search needs
-
-wide-requires-2 : tie.Need-wide-requires-2
-wide-requires-2 c κs = search needs
+small-requires : tie.Need-small-requires
+small-requires c κs = search needs
 
 finish-requires : tie.Need-finish-requires
 finish-requires c κs =
-    let a = c .before .before .before .before .before .before .before .before .before .before .before .before .before .before .before .before .before .before .before .before in
-    let g = subst (λ (z : Prepared). Prepares (a .args .s .now) (a .args .left) (a .args .right) (a .args .budget) z (a .args .lefts .now) (a .args .rights .now) (a .args .index .now) (a .args .terms .now) (a .args .runs .now)) (c .before .before .before .before .before .before .before .before .before .before .p2 .given .1) (a .pre .2) in
-    (a .pre .0, a .pre .1, rw (c .before .before .before .before .before .before .before .before .wide .ensures .0, c .before .before .before .before .before .before .before .wide2 .ensures .0) g, rw (c .before .before .before .before .before .before .before .before .wide .ensures .0, c .before .before .before .before .before .before .before .wide2 .ensures .0) (counts-go (a .args .c .pairs) g (a .pre .3 ∙ ap pairsOf (c .before .before .before .before .before .before .before .before .before .before .p2 .given .1))))
+    let a = c .before .before .before .before .before .before .before .before .before .before .before .before .before .before .before .before in
+    let e = c .before .before .before .before .before .before .before .small .ensures in
+    (rw e (a .pre .1), rw e (wide-roomy (a .pre .0)), a .pre .2)
 
-enum-known-p-3 : tie.Need-enum-known-p-3
-enum-known-p-3 c = search needs
+met-limit-requires : tie.Need-met-limit-requires
+met-limit-requires c κs = search needs
 
-wide-requires-3 : tie.Need-wide-requires-3
-wide-requires-3 c κs = search needs
-
-wide-requires-4 : tie.Need-wide-requires-4
-wide-requires-4 c κs = search needs
-
-finish-again-requires : tie.Need-finish-again-requires
-finish-again-requires c κs =
-    let a = c .before .before .before .before .before .before .before .before .before .before .before .before .before .before .before .before .before .before .before .before in
-    let g = subst (λ (z : Prepared). Prepares (a .args .s .now) (a .args .left) (a .args .right) (a .args .budget) z (a .args .lefts .now) (a .args .rights .now) (a .args .index .now) (a .args .terms .now) (a .args .runs .now)) (c .before .before .before .before .before .before .before .before .before .before .p3 .given .1) (a .pre .2) in
-    (g .loaded, g .read, rw (c .before .before .before .before .before .before .before .before .wide3 .ensures .0) (g .left), rw (c .before .before .before .before .before .before .before .wide4 .ensures .0) (g .right), a .pre .0 .lefts, a .pre .0 .rights, a .pre .1, rw (c .before .before .before .before .before .before .before .before .wide3 .ensures .0, c .before .before .before .before .before .before .before .wide4 .ensures .0) (counts-again (a .args .c .pairs) g (a .pre .3 ∙ ap pairsOf (c .before .before .before .before .before .before .before .before .before .before .p3 .given .1))))
+run-again-requires : tie.Need-run-again-requires
+run-again-requires c κs = search needs
 
 same-length : tie.Need-same-length
 same-length c = search needs
@@ -61,14 +43,17 @@ same-length-5 c = search needs
 same-length-6 : tie.Need-same-length-6
 same-length-6 c = search needs
 
-returns : tie.Need-returns
-returns c =
-    let a = c .before .before .before .before .before .before .before .before .before .before .before .before .before .before .before .before .before .before .before .before .before .before .before .before .before .before .before .before .before .before in
-    let g = subst (λ (z : Prepared). Prepares (a .args .s .now) (a .args .left) (a .args .right) (a .args .budget) z (a .args .lefts .now) (a .args .rights .now) (a .args .index .now) (a .args .terms .now) (a .args .runs .now)) (c .before .before .before .before .before .before .before .before .before .before .before .before .before .before .before .before .before .before .before .before .p .given .1) (a .pre .2) in
-    (merges-stop (a .args .s .now) (a .args .left) (a .args .right) (a .args .budget) (a .args .out .now) (c .before .before .before .before .before .before .before .before .before .before .before .before .before .before .before .before .before .before .before .before .p .given .0 .0) g, c .before .before .before .before .before .before .before .before .before .before .before .before .clear-all .ensures)
-
 same-length-7 : tie.Need-same-length-7
 same-length-7 c = search needs
+
+returns : tie.Need-returns
+returns c =
+    let a = c .before .before .before .before .before .before .before .before .before .before .before .before .before .before .before .before .before .before .before .before .before .before .before .before .before .before .before .before .before .before .before .before .before .before .before .before .before in
+    let q : Query = (record { left = a .args .left; right = a .args .right; budget = a .args .budget }) in
+    let F = rw (c .before .before .before .before .before .before .before .before .before .before .before .before .before .before .before .before .before .before .before .before .before .before .before .before .before .before .before .before .small .ensures) at (c .before .before .before .before .before .before .before .before .before .before .before .before .before .before .before .before .before .before .before .before .finish .ensures .0) in
+    let m : limited (c .before .before .before .before .before .before .before .before .before .before .before .before .before .before .before .before .before .before .before .before .finish .result) ≡ true = sym (c .before .before .before .before .before .met-limit .ensures) ∙ c .before .before .before .before .if1 .taken in
+    let Z : SettledBy (limited (c .before .before .before .before .before .before .before .before .before .before .before .before .before .before .before .before .before .before .before .before .finish .result)) (a .args .s .now) q (c .before .before .before .before .before .before .before .before .before .before .before .before .before .before .before .before .before .before .before .before .finish .result) (c .before .before .before .before .before .before .before .before .before .before .before .before .before .before .before .before .before .before .before .before .finish .last .1 .1 .1 .1 .1 .1 .1 .1 .1 .1 .1 .0) (c .before .before .run-again .last .1 .1 .1 .1 .0) (c .before .before .run-again .result) = subst (λ (b : Bool). SettledBy b (a .args .s .now) q (c .before .before .before .before .before .before .before .before .before .before .before .before .before .before .before .before .before .before .before .before .finish .result) (c .before .before .before .before .before .before .before .before .before .before .before .before .before .before .before .before .before .before .before .before .finish .last .1 .1 .1 .1 .1 .1 .1 .1 .1 .1 .1 .0) (c .before .before .run-again .last .1 .1 .1 .1 .0) (c .before .before .run-again .result)) (sym m) (c .before .before .run-again .ensures) in
+    (settled (a .args .s .now) q (a .args .p) (a .args .graph .now) (a .args .terms .now) (a .args .runs .now) (a .pre .1) (a .args .out .now) (c .before .before .before .before .before .before .before .before .before .before .before .before .before .before .before .before .before .before .before .before .finish .last .1 .1 .1 .1 .1 .1 .1 .1 .1 .1 .1 .0) (c .before .before .run-again .last .1 .1 .1 .1 .0) (c .before .before .before .before .before .before .before .before .before .before .before .before .before .before .before .before .before .before .before .before .finish .result) (c .before .before .run-again .result) F Z, c .before .before .before .before .before .before .before .before .before .before .before .before .before .before .before .before .before .before .before .before .finish .ensures .1)
 
 same-length-8 : tie.Need-same-length-8
 same-length-8 c = search needs
@@ -88,69 +73,39 @@ same-length-12 c = search needs
 same-length-13 : tie.Need-same-length-13
 same-length-13 c = search needs
 
-returns-2 : tie.Need-returns-2
-returns-2 c =
-    rw (c .before .before .before .before .before .before .before .before .before .before .before .before .before .before .before .before .before .before .before .before .before .before .before .wide .ensures .0, c .before .before .before .before .before .before .before .before .before .before .before .before .before .before .before .before .before .before .before .before .before .before .wide2 .ensures .0) at (c .before .before .before .before .before .before .before .before .before .before .before .before .before .before .finish .ensures)
-
 same-length-14 : tie.Need-same-length-14
 same-length-14 c = search needs
 
-same-length-15 : tie.Need-same-length-15
-same-length-15 c = search needs
-
-same-length-16 : tie.Need-same-length-16
-same-length-16 c = search needs
-
-same-length-17 : tie.Need-same-length-17
-same-length-17 c = search needs
-
-same-length-18 : tie.Need-same-length-18
-same-length-18 c = search needs
-
-same-length-19 : tie.Need-same-length-19
-same-length-19 c = search needs
-
-same-length-20 : tie.Need-same-length-20
-same-length-20 c = search needs
-
-returns-3 : tie.Need-returns-3
-returns-3 c =
-    rw (c .before .before .before .before .before .before .before .before .before .before .before .before .before .before .before .before .before .before .before .before .before .before .before .wide3 .ensures .0, c .before .before .before .before .before .before .before .before .before .before .before .before .before .before .before .before .before .before .before .before .before .before .wide4 .ensures .0) at (c .before .before .before .before .before .before .before .before .before .before .before .before .before .before .finish-again .ensures)
+returns-2 : tie.Need-returns-2
+returns-2 c =
+    let a = c .before .before .before .before .before .before .before .before .before .before .before .before .before .before .before .before .before .before .before .before .before .before .before .before .before .before .before .before .before .before .before .before .before in
+    let q : Query = (record { left = a .args .left; right = a .args .right; budget = a .args .budget }) in
+    let F = rw (c .before .before .before .before .before .before .before .before .before .before .before .before .before .before .before .before .before .before .before .before .before .before .before .before .small .ensures) at (c .before .before .before .before .before .before .before .before .before .before .before .before .before .before .before .before .finish .ensures .0) in
+    let m : limited (c .before .before .before .before .before .before .before .before .before .before .before .before .before .before .before .before .finish .result) ≡ false = sym (c .before .met-limit .ensures) ∙ c .if1 .left in
+    let Z : SettledBy (limited (c .before .before .before .before .before .before .before .before .before .before .before .before .before .before .before .before .finish .result)) (a .args .s .now) q (c .before .before .before .before .before .before .before .before .before .before .before .before .before .before .before .before .finish .result) (c .before .before .before .before .before .before .before .before .before .before .before .before .before .before .before .before .finish .last .1 .1 .1 .1 .1 .1 .1 .1 .1 .1 .1 .0) (c .before .before .before .before .before .before .before .before .before .before .before .before .before .before .before .before .finish .last .1 .1 .1 .1 .1 .1 .1 .1 .1 .1 .1 .0) (c .before .before .before .before .before .before .before .before .before .before .before .before .before .before .before .before .finish .result) = subst (λ (b : Bool). SettledBy b (a .args .s .now) q (c .before .before .before .before .before .before .before .before .before .before .before .before .before .before .before .before .finish .result) (c .before .before .before .before .before .before .before .before .before .before .before .before .before .before .before .before .finish .last .1 .1 .1 .1 .1 .1 .1 .1 .1 .1 .1 .0) (c .before .before .before .before .before .before .before .before .before .before .before .before .before .before .before .before .finish .last .1 .1 .1 .1 .1 .1 .1 .1 .1 .1 .1 .0) (c .before .before .before .before .before .before .before .before .before .before .before .before .before .before .before .before .finish .result)) (sym m) (refl, refl) in
+    (settled (a .args .s .now) q (a .args .p) (a .args .graph .now) (a .args .terms .now) (a .args .runs .now) (a .pre .1) (a .args .out .now) (c .before .before .before .before .before .before .before .before .before .before .before .before .before .before .before .before .finish .last .1 .1 .1 .1 .1 .1 .1 .1 .1 .1 .1 .0) (c .before .before .before .before .before .before .before .before .before .before .before .before .before .before .before .before .finish .last .1 .1 .1 .1 .1 .1 .1 .1 .1 .1 .1 .0) (c .before .before .before .before .before .before .before .before .before .before .before .before .before .before .before .before .finish .result) (c .before .before .before .before .before .before .before .before .before .before .before .before .before .before .before .before .finish .result) F Z, c .before .before .before .before .before .before .before .before .before .before .before .before .before .before .before .before .finish .ensures .1)
 
 pub conclude-spec : {M : Type 1} → statement M
 conclude-spec =
     tie.close
     (tie.spec
-    enum-known-p
-    clear-all-requires
-    enum-known-p-2
-    wide-requires
-    wide-requires-2
+    small-requires
     finish-requires
-    enum-known-p-3
-    wide-requires-3
-    wide-requires-4
-    finish-again-requires
+    met-limit-requires
+    run-again-requires
     same-length
     same-length-2
     same-length-3
     same-length-4
     same-length-5
     same-length-6
-    returns
     same-length-7
+    returns
     same-length-8
     same-length-9
     same-length-10
     same-length-11
     same-length-12
     same-length-13
-    returns-2
     same-length-14
-    same-length-15
-    same-length-16
-    same-length-17
-    same-length-18
-    same-length-19
-    same-length-20
-    returns-3)
+    returns-2)

@@ -1,9 +1,9 @@
-use borrow.Author.Needs.{needs}
-use mathlib.Core.Path.{_≡_, ap, sym, _∙_}
-use Prim.Native.Nat.{ℕ}
 use Rattle.exact_fixed.specs.declared.Begun.{Begun}
 use Rattle.exact_fixed.specs.declared.Begun.the-variants.{All}
-use Rattle.au.specs.Prepared.{countedAs}
+use Rattle.au.specs.Engine.{countedAs}
+use Prim.Native.Nat.{ℕ, _-_}
+use mathlib.Core.Path.{ap, sym, _∙_}
+use borrow.Author.Needs.{needs}
 use Rattle.au.proofs.counted.Statement.{statement}
 use Rattle.au.proofs.counted.Tie as tie
 
@@ -19,9 +19,6 @@ enum-known-b-2 c = search needs
 enum-known-b-3 : tie.Need-enum-known-b-3
 enum-known-b-3 c = search needs
 
-enum-told : tie.Need-enum-told
-enum-told c = search needs
-
 returns : tie.Need-returns
 returns c = sym (ap (λ (z : Begun). countedAs z (c .before .before .before .before .args .c .pairs)) (c .before .b .given .1))
 
@@ -33,8 +30,14 @@ returns-3 c =
     let x = c .before .b3 .given in
     ap (λ (n : ℕ). All (x .0 .0) n (x .0 .1 .1 .0)) (c .before .before .before .pairs-in .ensures) ∙ sym (ap (λ (z : Begun). countedAs z (c .before .before .before .before .args .c .pairs)) (x .1))
 
-returns-4 : tie.Need-returns-4
-returns-4 c = search needs
-
 pub counted-spec : {M : Type 1} → statement M
-counted-spec = tie.close (tie.spec pairs-in-requires enum-known-b enum-known-b-2 enum-known-b-3 enum-told returns returns-2 returns-3 returns-4)
+counted-spec =
+    tie.close
+    (tie.spec
+    pairs-in-requires
+    enum-known-b
+    enum-known-b-2
+    enum-known-b-3
+    returns
+    returns-2
+    returns-3)

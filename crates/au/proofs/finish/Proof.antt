@@ -1,28 +1,44 @@
+use mathlib.Core.Path.{subst}
+use Rattle.query.specs.Settings.{limitsOf}
+use Rattle.au.specs.declared.Answer.the-variants.{Refused}
+use Rattle.au.specs.declared.Prepared.{Prepared}
+use Rattle.au.specs.Engine.{Prepares, Runs, pairsBegun, pairsOf}
+use Rattle.au.specs.Counts.{counted-same}
+use Rattle.au.specs.PreparedLaws.{finish-asks, lists-none, lists-run, cleared-of}
+use Prim.Native.Nat.{_-_}
+use mathlib.Core.Path.{_≡_, refl, ap, sym, _∙_}
+use lib.ListN.{length}
 use borrow.Author.Needs.{needs}
-use mathlib.Core.Path.{sym, _∙_}
-use Rattle.au.specs.PreparedLaws.{merges-finish, cleared-finish}
-use Rattle.au.specs.TableCounts.{goes-counted}
-use Rattle.au.specs.Tiers.{finished-long, finished-short, short-cleared, as-long, cleared-large, merges-from}
 use Rattle.au.proofs.finish.Statement.{statement}
 use Rattle.au.proofs.finish.Tie as tie
+
+enum-known-p : tie.Need-enum-known-p
+enum-known-p c = search needs
+
+clear-all-requires : tie.Need-clear-all-requires
+clear-all-requires c κs = search needs
+
+enum-known-p-2 : tie.Need-enum-known-p-2
+enum-known-p-2 c = search needs
+
+clear-all-requires-2 : tie.Need-clear-all-requires-2
+clear-all-requires-2 c κs = search needs
+
+enum-known-p-3 : tie.Need-enum-known-p-3
+enum-known-p-3 c = search needs
 
 counted-requires : tie.Need-counted-requires
 counted-requires c κs = search needs
 
-finish-small-requires : tie.Need-finish-small-requires
-finish-small-requires c κs =
-    let a = c .before .before .before .before .before .before .before .before .before .before .before .before .before .before .before .before in
-    (a .pre .0, a .pre .1, goes-counted (a .args .c .pairs) (a .pre .2) (a .pre .3) (c .before .before .before .before .before .before .before .counted .ensures))
+finish-requires : tie.Need-finish-requires
+finish-requires c κs =
+    let a = c .before .before .before .before .before .before .before .before .before .before .before .before .before .before .before .before .before .before .before in
+    let R = subst (λ (z : Prepared). Prepares (limitsOf (a .args .lim)) (a .args .s .now) (a .args .q) z (a .args .graph .now) (a .args .terms .now) (a .args .runs .now)) (c .before .before .before .before .before .before .before .before .before .p3 .given .1) (a .pre .0) in
+    let n : a .args .c .pairs ≡ pairsBegun (c .before .before .before .before .before .before .before .before .before .p3 .given .0 .1 .0) = a .pre .2 ∙ ap pairsOf (c .before .before .before .before .before .before .before .before .before .p3 .given .1) in
+    finish-asks (limitsOf (a .args .lim)) (a .args .s .now) (a .args .q) (c .before .before .before .before .before .before .before .before .before .p3 .given .0 .0) (c .before .before .before .before .before .before .before .before .before .p3 .given .0 .1 .0) _ (c .before .before .before .before .before .before .before .counted .ensures ∙ counted-same (c .before .before .before .before .before .before .before .before .before .p3 .given .0 .1 .0) (a .args .c .pairs) n) _ _ _ _ _ _ R (a .pre .1)
 
-answered-short-requires : tie.Need-answered-short-requires
-answered-short-requires c κs = search needs
-
-run-large-requires : tie.Need-run-large-requires
-run-large-requires c κs =
-    let a = c .before .before .before .before .before .before .before .before .before .before .before .before .before .before .before .before .before .before .before .before .before .before .before .before .before .before .before .before .before .before .before .before .before .before .before .before .before in
-    let x = c .before .before .before .before .before .before .before .before .before .before .before .before .before .before .before .before .before .before .before .before .finish-small in
-    let g = a .pre .2 in
-    (g .loaded, g .read, g .left, g .right, as-long 4096 (a .pre .0 .lefts) (x .kept .1 .1 .1 .1 .1 .1 .0), as-long 4096 (a .pre .0 .rights) (x .kept .1 .1 .1 .1 .1 .1 .1 .0), as-long 24576 (a .pre .1) (x .kept .1 .1 .1 .1 .1 .1 .1 .1 .1 .0), a .pre .3)
+answer-of-requires : tie.Need-answer-of-requires
+answer-of-requires c κs = search needs
 
 same-length : tie.Need-same-length
 same-length c = search needs
@@ -42,18 +58,13 @@ same-length-5 c = search needs
 same-length-6 : tie.Need-same-length-6
 same-length-6 c = search needs
 
-same-length-7 : tie.Need-same-length-7
-same-length-7 c = search needs
-
 returns : tie.Need-returns
 returns c =
-    let f = c .before .before .before .before .before .before .before .before .run-large .ensures in
-    let x = c .before .before .before .before .before .before .before .before .before .before .before .before .before .before .before .before .before .before .before .before .before .before .before .before .before .before .before .before .before .finish-small in
-    let S = finished-short (x .result) _ (sym (c .before .before .before .before .before .before .before .before .before .before .before .before .before .before .answered-short .ensures) ∙ c .before .before .before .before .before .before .before .before .before .before .before .before .before .if1 .taken) (x .ensures) in
-    (merges-from (S .output) (f .0), cleared-large (short-cleared _ _ _ _ _ _ _ _ _ _ _ _ _ _ _ S) (f .1) (f .2) (f .3))
+    let a = c .before .before .before .before .before .before .before .before .before .before .before .before .before .before .before .before .before .before .before .before .before .before .before .before .before .before .before .before .before .before in
+    (subst (λ (z : Prepared). Runs (limitsOf (a .args .lim)) (a .args .s .now) (a .args .q) z (length (a .args .graph .now)) (a .args .out .now) (a .args .out .now) (c .before .before .before .before .before .before .before .before .before .before .before .before .before .before .before .before .before .before .before .before .p .given .0 .0)) (sym (c .before .before .before .before .before .before .before .before .before .before .before .before .before .before .before .before .before .before .before .before .p .given .1)) (refl, refl), c .before .before .before .before .before .before .before .before .before .before .before .before .clear-all .ensures)
 
-answer-of-requires : tie.Need-answer-of-requires
-answer-of-requires c κs = search needs
+same-length-7 : tie.Need-same-length-7
+same-length-7 c = search needs
 
 same-length-8 : tie.Need-same-length-8
 same-length-8 c = search needs
@@ -70,41 +81,71 @@ same-length-11 c = search needs
 same-length-12 : tie.Need-same-length-12
 same-length-12 c = search needs
 
+returns-2 : tie.Need-returns-2
+returns-2 c =
+    let a = c .before .before .before .before .before .before .before .before .before .before .before .before .before .before .before .before .before .before .before .before .before .before .before .before .before .before .before .before .before .before in
+    let R = subst (λ (z : Prepared). Prepares (limitsOf (a .args .lim)) (a .args .s .now) (a .args .q) z (a .args .graph .now) (a .args .terms .now) (a .args .runs .now)) (c .before .before .before .before .before .before .before .before .before .before .before .before .before .before .before .before .before .before .before .before .p2 .given .1) (a .pre .0) in
+    (subst (λ (z : Prepared). Runs (limitsOf (a .args .lim)) (a .args .s .now) (a .args .q) z (length (a .args .graph .now)) (a .args .out .now) (a .args .out .now) (Refused 12)) (sym (c .before .before .before .before .before .before .before .before .before .before .before .before .before .before .before .before .before .before .before .before .p2 .given .1)) (lists-none (limitsOf (a .args .lim)) (a .args .s .now) (a .args .q) (c .before .before .before .before .before .before .before .before .before .before .before .before .before .before .before .before .before .before .before .before .p2 .given .0 .0) (length (a .args .graph .now)) (a .args .out .now) (R .1)), c .before .before .before .before .before .before .before .before .before .before .before .before .clear-all2 .ensures)
+
 same-length-13 : tie.Need-same-length-13
 same-length-13 c = search needs
 
 same-length-14 : tie.Need-same-length-14
 same-length-14 c = search needs
 
-returns-2 : tie.Need-returns-2
-returns-2 c =
-    let a = c .before .before .before .before .before .before .before .before .before .before .before .before .before .before .before .before .before .before .before .before .before .before .before .before .before .before .before .before .before .before .before .before .before .before in
-    let x = c .before .before .before .before .before .before .before .before .before .before .before .before .before .before .before .before .before .finish-small in
-    let f = finished-long (x .result) _ (sym (c .before .before .answered-short .ensures) ∙ c .before .if1 .left) (x .ensures) in
-    (rw (c .answer-of .ensures) (merges-finish _ _ _ _ _ _ _ _ _ _ _ _ _ _ _ _ _ _ _ _ _ (a .pre .2) f (x .kept .1 .1 .1 .1 .1 .1 .1 .1 .1 .1 .1 .1 .0)), cleared-finish _ _ _ _ _ _ _ _ _ _ _ _ _ _ _ _ _ _ f)
+same-length-15 : tie.Need-same-length-15
+same-length-15 c = search needs
+
+same-length-16 : tie.Need-same-length-16
+same-length-16 c = search needs
+
+same-length-17 : tie.Need-same-length-17
+same-length-17 c = search needs
+
+same-length-18 : tie.Need-same-length-18
+same-length-18 c = search needs
+
+same-length-19 : tie.Need-same-length-19
+same-length-19 c = search needs
+
+returns-3 : tie.Need-returns-3
+returns-3 c =
+    let a = c .before .before .before .before .before .before .before .before .before .before .before .before .before .before .before .before .before .before .before .before .before .before .before .before .before .before .before .before .before .before .before .before .before .before .before in
+    let R = subst (λ (z : Prepared). Prepares (limitsOf (a .args .lim)) (a .args .s .now) (a .args .q) z (a .args .graph .now) (a .args .terms .now) (a .args .runs .now)) (c .before .before .before .before .before .before .before .before .before .before .before .before .before .before .before .before .before .before .before .before .before .before .before .before .before .p3 .given .1) (a .pre .0) in
+    let F = lists-run (limitsOf (a .args .lim)) (a .args .s .now) (a .args .q) (c .before .before .before .before .before .before .before .before .before .before .before .before .before .before .before .before .before .before .before .before .before .before .before .before .before .p3 .given .0 .0) (length (a .args .graph .now)) (a .args .out .now) (R .1) (c .before .before .before .before .before .before .before .before .before .before .before .before .before .before .before .finish .last .1 .1 .1 .1 .1 .1 .1 .1 .1 .1 .1 .0) (c .before .before .before .before .before .before .before .before .before .before .before .before .before .before .before .finish .result) (c .before .before .before .before .before .before .before .before .before .before .before .before .before .before .before .finish .ensures .0) (c .before .before .before .before .before .before .before .before .before .before .before .before .before .before .before .finish .kept .1 .1 .1 .1 .1 .1 .1 .1 .1 .1 .1 .0) in
+    (subst (λ (z : Prepared). Runs (limitsOf (a .args .lim)) (a .args .s .now) (a .args .q) z (length (a .args .graph .now)) (a .args .out .now) (c .before .before .before .before .before .before .before .before .before .before .before .before .before .before .before .finish .last .1 .1 .1 .1 .1 .1 .1 .1 .1 .1 .1 .0) (c .answer-of .result)) (sym (c .before .before .before .before .before .before .before .before .before .before .before .before .before .before .before .before .before .before .before .before .before .before .before .before .before .p3 .given .1)) (rw (c .answer-of .ensures) F), cleared-of (c .before .before .before .before .before .before .before .before .before .before .before .before .before .before .before .finish .ensures .1))
 
 pub finish-spec : {M : Type 1} → statement M
 finish-spec =
     tie.close
     (tie.spec
+    enum-known-p
+    clear-all-requires
+    enum-known-p-2
+    clear-all-requires-2
+    enum-known-p-3
     counted-requires
-    finish-small-requires
-    answered-short-requires
-    run-large-requires
+    finish-requires
+    answer-of-requires
     same-length
     same-length-2
     same-length-3
     same-length-4
     same-length-5
     same-length-6
-    same-length-7
     returns
-    answer-of-requires
+    same-length-7
     same-length-8
     same-length-9
     same-length-10
     same-length-11
     same-length-12
+    returns-2
     same-length-13
     same-length-14
-    returns-2)
+    same-length-15
+    same-length-16
+    same-length-17
+    same-length-18
+    same-length-19
+    returns-3)

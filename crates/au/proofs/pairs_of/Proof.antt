@@ -1,6 +1,7 @@
-use borrow.Author.Needs.{needs}
+use Rattle.au.specs.Engine.{pairsOf}
+use Prim.Native.Nat.{_-_}
 use mathlib.Core.Path.{ap, sym, _∙_}
-use Rattle.au.specs.Prepared.{pairsOf}
+use borrow.Author.Needs.{needs}
 use Rattle.au.proofs.pairs_of.Statement.{statement}
 use Rattle.au.proofs.pairs_of.Tie as tie
 
@@ -16,19 +17,14 @@ pairs-begun-requires c κs = search needs
 enum-known-p-3 : tie.Need-enum-known-p-3
 enum-known-p-3 c = search needs
 
-pairs-built-requires : tie.Need-pairs-built-requires
-pairs-built-requires c κs = search needs
-
 returns : tie.Need-returns
 returns c = search needs
 
 returns-2 : tie.Need-returns-2
-returns-2 c =
-    sym (ap pairsOf (c .before .before .p2 .given .1) ∙ sym (c .pairs-begun .ensures))
+returns-2 c = sym (ap pairsOf (c .before .before .p2 .given .1) ∙ sym (c .pairs-begun .ensures))
 
 returns-3 : tie.Need-returns-3
-returns-3 c =
-    sym (ap pairsOf (c .before .before .p3 .given .1) ∙ sym (c .pairs-built .ensures))
+returns-3 c = search needs
 
 pub pairs-of-spec : {M : Type 1} → statement M
 pairs-of-spec =
@@ -38,7 +34,6 @@ pairs-of-spec =
     enum-known-p-2
     pairs-begun-requires
     enum-known-p-3
-    pairs-built-requires
     returns
     returns-2
     returns-3)

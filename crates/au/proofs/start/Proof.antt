@@ -1,36 +1,41 @@
-use borrow.Author.Needs.{needs}
+use Rattle.spec.specs.Image.{tablesOf}
+use Rattle.laws.specs.Accepted as A
+use borrow.Author.Tests.{leb-true}
+use Rattle.query.specs.Settings.{limitsOf}
+use Rattle.au.specs.Prepared.{Goes}
+use Rattle.au.specs.Engine.{roomFor}
+use Rattle.au.specs.PreparedLaws.{stop-left, stop-right, few-classes, begins-ready}
+use Prim.Native.Nat.{ℕ, _-_}
 use native.Mathlib.Omega.{arith}
-use mathlib.Core.Path.{sym, _∙_}
-use Rattle.au.specs.PreparedLaws.{is-valid, stop-left, stop-right, begins-goes}
-use Rattle.au.specs.Tiers.{begun-long, as-long}
+use mathlib.Core.Path.{ap, sym, _∙_}
+use borrow.Author.Needs.{needs}
 use Rattle.au.proofs.start.Statement.{statement}
 use Rattle.au.proofs.start.Tie as tie
 
+size-u16-requires : tie.Need-size-u16-requires
+size-u16-requires c κs = search needs
+
 returns : tie.Need-returns
 returns c =
-    let a = c .before .before .before .before .before .before .before .before in
-    stop-left (a .args .s .now) (a .args .left) (a .args .right) (a .args .budget) (a .args .im) (a .pre .0) (a .pre .1) (omega (arith, c .if1 .taken))
+    let a = c .before .before .before .before .before .before .before in
+    stop-left (a .args .s .now) (a .args .q) (a .args .im) (a .pre .0) (a .pre .1) (omega (arith, c .before .before .size-u16 .ensures .0, c .if1 .taken))
+
+size-u16-requires-2 : tie.Need-size-u16-requires-2
+size-u16-requires-2 c κs = search needs
 
 returns-2 : tie.Need-returns-2
 returns-2 c =
     let a = c .before .before .before .before .before .before .before .before .before .before in
-    stop-right (a .args .s .now) (a .args .left) (a .args .right) (a .args .budget) (a .args .im) (a .pre .0) (a .pre .1) (omega (arith, c .before .before .if1 .left)) (omega (arith, c .if2 .taken))
+    stop-right (a .args .s .now) (a .args .q) (a .args .im) (a .pre .0) (a .pre .1) (omega (arith, c .before .before .before .before .before .size-u16 .ensures .0, c .before .before .before .if1 .left)) (omega (arith, c .before .before .size-u162 .ensures .0, c .if2 .taken))
+
+has-room-requires : tie.Need-has-room-requires
+has-room-requires c κs = let a = c .before .before .before .before .before .before .before .before .before .before in (few-classes (a .args .s .now) (a .args .im) (a .pre .0) (a .pre .1), a .pre .2)
 
 begin-requires : tie.Need-begin-requires
 begin-requires c κs =
     let a = c .before .before .before .before .before .before .before .before .before .before .before .before .before .before .before in
-    let w = a .pre .2 in
-    (a .pre .0, is-valid (a .args .s .now) (a .pre .1), omega (arith, c .before .before .before .before .before .before .before .if1 .left), omega (arith, c .before .before .before .before .before .if2 .left), w .lefts, w .rights, omega (arith, w .terms))
-
-begun-short-requires : tie.Need-begun-short-requires
-begun-short-requires c κs = search needs
-
-build-again-requires : tie.Need-build-again-requires
-build-again-requires c κs =
-    let a = c .before .before .before .before .before .before .before .before .before .before .before .before .before .before .before .before .before .before .before .before .before .before .before .before .before .before .before .before .before .before in
-    let x = c .before .before .before .before .before .before .before .before .before .before .before .before .before .before .begin in
-    let w = a .pre .2 in
-    (a .pre .0, a .pre .1, omega (arith, c .before .before .before .before .before .before .before .before .before .before .before .before .before .before .before .before .before .before .before .before .before .before .if1 .left), omega (arith, c .before .before .before .before .before .before .before .before .before .before .before .before .before .before .before .before .before .before .before .before .if2 .left), as-long 4096 (w .lefts) (x .kept .1 .1 .1 .1 .1 .0), as-long 4096 (w .rights) (x .kept .1 .1 .1 .1 .1 .1 .0))
+    let e = sym (c .before .before .before .before .has-room .ensures) ∙ c .before .before .before .if3 .taken in
+    (a .pre .0, A.valid (a .args .s .now) (tablesOf (a .args .s .now)) (a .pre .1), omega (arith, c .before .before .before .before .before .before .before .before .before .before .size-u16 .ensures .0, c .before .before .before .before .before .before .before .before .if1 .left), omega (arith, c .before .before .before .before .before .before .before .size-u162 .ensures .0, c .before .before .before .before .before .if2 .left), a .pre .3, leb-true _ _ e, a .pre .2)
 
 same-length : tie.Need-same-length
 same-length c = search needs
@@ -41,55 +46,32 @@ same-length-2 c = search needs
 same-length-3 : tie.Need-same-length-3
 same-length-3 c = search needs
 
-same-length-4 : tie.Need-same-length-4
-same-length-4 c = search needs
-
-same-length-5 : tie.Need-same-length-5
-same-length-5 c = search needs
-
 returns-3 : tie.Need-returns-3
-returns-3 c = search needs
-
-same-length-6 : tie.Need-same-length-6
-same-length-6 c = search needs
-
-same-length-7 : tie.Need-same-length-7
-same-length-7 c = search needs
-
-same-length-8 : tie.Need-same-length-8
-same-length-8 c = search needs
-
-same-length-9 : tie.Need-same-length-9
-same-length-9 c = search needs
-
-same-length-10 : tie.Need-same-length-10
-same-length-10 c = search needs
+returns-3 c =
+    let a = c .before .before .before .before .before .before .before .before .before .before .before .before .before .before .before .before .before .before .before .before .before .before in
+    let e = sym (c .before .before .before .before .before .before .before .before .before .before .before .has-room .ensures) ∙ c .before .before .before .before .before .before .before .before .before .before .if3 .taken in
+    let G : Goes (a .args .s .now) (a .args .q) (a .args .im) = record { read = a .pre .1; loaded = a .pre .0; left = omega (arith, c .before .before .before .before .before .before .before .before .before .before .before .before .before .before .before .before .before .size-u16 .ensures .0, c .before .before .before .before .before .before .before .before .before .before .before .before .before .before .before .if1 .left); right = omega (arith, c .before .before .before .before .before .before .before .before .before .before .before .before .before .before .size-u162 .ensures .0, c .before .before .before .before .before .before .before .before .before .before .before .before .if2 .left) } in
+    (G, ap (λ (m : ℕ). roomFor (limitsOf (a .args .lim)) (a .args .im) m) (c .before .before .before .before .before .before .begin .kept .1 .1 .1 .1 .0) ∙ e, begins-ready _ _ _ _ _ _ _ _ _ _ _ (c .before .before .before .before .before .before .begin .ensures))
 
 returns-4 : tie.Need-returns-4
 returns-4 c =
-    let a = c .before .before .before .before .before .before .before .before .before .before .before .before .before .before .before .before .before .before .before .before .before .before .before .before .before .before .before .before in
-    let x = c .before .before .before .before .before .before .before .before .before .before .before .before .begin in
-    let B = begun-long (x .result) _ (sym (c .before .begun-short .ensures) ∙ c .if3 .left) (x .ensures) in
-    begins-goes _ _ _ _ _ _ _ _ _ _ _ _ _ _ _ _ (a .pre .1) (a .pre .0) (omega (arith, c .before .before .before .before .before .before .before .before .before .before .before .before .before .before .before .before .before .before .before .before .if1 .left)) (omega (arith, c .before .before .before .before .before .before .before .before .before .before .before .before .before .before .before .before .before .before .if2 .left)) B (x .kept .1 .1 .1 .1 .1 .1 .1 .0)
+    let a = c .before .before .before .before .before .before .before .before .before .before .before .before in
+    let e = sym (c .before .has-room .ensures) ∙ c .if3 .left in
+    let G : Goes (a .args .s .now) (a .args .q) (a .args .im) = record { read = a .pre .1; loaded = a .pre .0; left = omega (arith, c .before .before .before .before .before .before .before .size-u16 .ensures .0, c .before .before .before .before .before .if1 .left); right = omega (arith, c .before .before .before .before .size-u162 .ensures .0, c .before .before .if2 .left) } in
+    (G, e)
 
 pub start-spec : {M : Type 1} → statement M
 start-spec =
     tie.close
     (tie.spec
+    size-u16-requires
     returns
+    size-u16-requires-2
     returns-2
+    has-room-requires
     begin-requires
-    begun-short-requires
-    build-again-requires
     same-length
     same-length-2
     same-length-3
-    same-length-4
-    same-length-5
     returns-3
-    same-length-6
-    same-length-7
-    same-length-8
-    same-length-9
-    same-length-10
     returns-4)

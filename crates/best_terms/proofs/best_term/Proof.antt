@@ -1,24 +1,19 @@
 use Rattle.spec.specs.Image.{tablesOf}
 use Rattle.image.specs.Loaded.{classes-many}
 use Rattle.best_terms.specs.Building.{walk-kept}
-use borrow.Author.Tests.{lt-ltb, le-ltb, le-leb, lt-leb, eq-eqb, ne-eqb}
-use Prim.Native.Nat.{ℕ, zero, suc, _≤_, _<_, _-_, _+_, _*_, _^_}
+use Rattle.query.specs.Settings.{limitsOf}
 use native.Mathlib.Omega.{arith}
-use native.Mathlib.Numerals.{add-one}
-use mathlib.Core.Path.{_≡_, refl, ap, sym, _∙_}
-use mathlib.Core.Logic.{⊎-elim}
-use mathlib.Core.List.{List, [], _∷_, _++_, append-nil}
-use lib.ListN.{length, take, drop, getD, set, length-set, length-take, length-drop, length-append, drop-of-length-le}
+use mathlib.Core.Path.{sym, _∙_}
 use borrow.Author.Needs.{needs}
 use Rattle.best_terms.proofs.best_term.Statement.{statement}
 use Rattle.best_terms.proofs.best_term.Tie as tie
 use Rattle.best_terms.proofs.best_term.Reads as reads
 use Rattle.best_terms.proofs.best_term.Lts as lts
 use Rattle.best_terms.proofs.build_best_term.Reads as build-best-term-reads
-use Rattle.best_terms.proofs.kept.Reads as kept-reads
+use Rattle.numbers.proofs.at_u16.Reads as at-u16-reads
 
-kept-requires : tie.Need-kept-requires
-kept-requires c κs =
+at-u16-requires : tie.Need-at-u16-requires
+at-u16-requires c κs =
     let b = c .before .before .before .before .before in
     let a = b .args in
     omega (arith, b .pre .3, b .pre .4, classes-many (a .s .now) (a .im) (b .pre .1), b .pre .2 .counts .fewClasses)
@@ -27,7 +22,7 @@ build-best-term-requires : tie.Need-build-best-term-requires
 build-best-term-requires c κs =
     let b = c .before .before .before .before .before .before .before .before .before .before in
     let a = b .args in
-    (b .pre .0, b .pre .1, b .pre .2, b .pre .3, b .pre .4, b .pre .5, sym (c .before .before .before .before .kept .ensures .0) ∙ c .before .before .before .if1 .taken)
+    (b .pre .0, b .pre .1, b .pre .2, b .pre .3, b .pre .4, b .pre .5, sym (c .before .before .before .before .at-u16 .ensures .0) ∙ c .before .before .before .if1 .taken, b .pre .6)
 
 same-length : tie.Need-same-length
 same-length c = search needs
@@ -41,8 +36,8 @@ same-length-3 c = search needs
 returns : tie.Need-returns
 returns c = search needs
 
-sub-t17 : tie.Need-sub-t17
-sub-t17 c = search needs
+sub-t18 : tie.Need-sub-t18
+sub-t18 c = search needs
 
 same-length-4 : tie.Need-same-length-4
 same-length-4 c = search needs
@@ -51,18 +46,18 @@ returns-2 : tie.Need-returns-2
 returns-2 c =
     let b = c .before .before .before .before .before .before .before in
     let a = b .args in
-    walk-kept (tablesOf (a .s .now)) (a .terms .now) (a .runs .now) (a .best .now) (a .class) (b .pre .0) (b .pre .5) (omega (arith, b .pre .3, classes-many (a .s .now) (a .im) (b .pre .1))) (omega (arith, c .before .kept .ensures .0, c .if1 .left)) (c .before .kept .result) (c .before .kept .ensures .0) (b .pre .2)
+    walk-kept (limitsOf (a .lim)) (tablesOf (a .s .now)) (a .terms .now) (a .runs .now) (a .best .now) (a .class) (b .pre .0) (b .pre .5) (omega (arith, b .pre .3, classes-many (a .s .now) (a .im) (b .pre .1))) (omega (arith, c .before .at-u16 .ensures .0, c .if1 .left)) (c .before .at-u16 .result) (c .before .at-u16 .ensures .0) (b .pre .2)
 
 pub best-term-spec : {M : Type 1} → statement M
 best-term-spec =
     tie.close
     (tie.spec
-    kept-requires
+    at-u16-requires
     build-best-term-requires
     same-length
     same-length-2
     same-length-3
     returns
-    sub-t17
+    sub-t18
     same-length-4
     returns-2)

@@ -1,5 +1,6 @@
 use Rattle.spec.specs.Image.{tablesOf}
-use Rattle.best_terms.specs.Starting.{starts-made, starts-cleared, starts-full}
+use Rattle.best_terms.specs.Starting.{starts-made, starts-full}
+use Rattle.query.specs.Settings.{limitsOf}
 use native.Mathlib.Omega.{arith}
 use borrow.Author.Needs.{needs}
 use Rattle.best_terms.proofs.evaluate_generalize_action.Statement.{statement}
@@ -31,16 +32,13 @@ returns : tie.Need-returns
 returns c =
     let a = c .before .before .before .before .before .before .before .before .before .before .before .before .before .before .before .before .before .before .before .before .before .before .before .before .before .before .args in
     let k = c .before .before .before .before .before .before .before .before .before .before .before .before .before .before .before .before .before .before .starting-term in
-    let x = k .last .1 .1 .0 in
-    let y = k .last .1 .1 .1 .0 in
-    let z = k .last .1 .1 .1 .1 .0 in
-    starts-full (tablesOf (a .s .now)) (a .l, a .r) (a .terms .now) (a .runs .now) (a .best .now) x y z (omega (arith, k .kept)) (omega (arith, k .kept)) (omega (arith, k .kept)) (rw (c .before .before .before .before .before .before .before .before .before .before .enum-told .given .1) at (k .ensures)) _ _ _ (c .before .before .before .before .before .before .clear .ensures)
+    let x = k .last .1 .1 .1 .0 in
+    let y = k .last .1 .1 .1 .1 .0 in
+    let z = k .last .1 .1 .1 .1 .1 .0 in
+    starts-full (limitsOf (a .lim)) (tablesOf (a .s .now)) (a .l, a .r) (a .terms .now) (a .runs .now) (a .best .now) x y z (omega (arith, k .kept)) (omega (arith, k .kept)) (omega (arith, k .kept)) (rw (c .before .before .before .before .before .before .before .before .before .before .enum-told .given .1) at (k .ensures)) _ _ _ (c .before .before .before .before .before .before .clear .ensures)
 
-enum-told-2 : tie.Need-enum-told-2
-enum-told-2 c = search needs
-
-clear-requires-2 : tie.Need-clear-requires-2
-clear-requires-2 c κs = search needs
+enum-known-e : tie.Need-enum-known-e
+enum-known-e c = search needs
 
 same-length-4 : tie.Need-same-length-4
 same-length-4 c = search needs
@@ -53,34 +51,12 @@ same-length-6 c = search needs
 
 returns-2 : tie.Need-returns-2
 returns-2 c =
-    let a = c .before .before .before .before .before .before .before .before .before .before .before .before .before .before .before .before .before .before .before .before .before .before .before .before .before .before .args in
-    let k = c .before .before .before .before .before .before .before .before .before .before .before .before .before .before .before .before .before .before .starting-term in
-    let x = k .last .1 .1 .0 in
-    let y = k .last .1 .1 .1 .0 in
-    let z = k .last .1 .1 .1 .1 .0 in
-    let u = rw (c .before .before .before .before .before .before .before .before .before .before .enum-told2 .given .1) at (k .ensures) in
-    (u .0, starts-cleared (a .terms .now) (a .runs .now) (a .best .now) x y z (omega (arith, k .kept)) (omega (arith, k .kept)) (omega (arith, k .kept)) _ _ _ (c .before .before .before .before .before .before .clear2 .ensures))
-
-enum-known-e : tie.Need-enum-known-e
-enum-known-e c = search needs
-
-same-length-7 : tie.Need-same-length-7
-same-length-7 c = search needs
-
-same-length-8 : tie.Need-same-length-8
-same-length-8 c = search needs
-
-same-length-9 : tie.Need-same-length-9
-same-length-9 c = search needs
-
-returns-3 : tie.Need-returns-3
-returns-3 c =
     let a = c .before .before .before .before .before .before .before .before .before .before .before .before .before .before .before .before .before .args in
     let k = c .before .before .before .before .before .before .before .before .before .starting-term in
-    let x = k .last .1 .1 .0 in
-    let y = k .last .1 .1 .1 .0 in
-    let z = k .last .1 .1 .1 .1 .0 in
-    starts-made (tablesOf (a .s .now)) (a .l, a .r) (a .terms .now) (a .runs .now) (a .best .now) x y z _ (omega (arith, k .kept)) (rw (c .before .e .given .1) at (k .ensures))
+    let x = k .last .1 .1 .1 .0 in
+    let y = k .last .1 .1 .1 .1 .0 in
+    let z = k .last .1 .1 .1 .1 .1 .0 in
+    starts-made (limitsOf (a .lim)) (tablesOf (a .s .now)) (a .l, a .r) (a .terms .now) (a .runs .now) (a .best .now) x y z _ (omega (arith, k .kept)) (rw (c .before .e .given .1) at (k .ensures))
 
 pub evaluate-generalize-action-spec : {M : Type 1} → statement M
 evaluate-generalize-action-spec =
@@ -93,14 +69,8 @@ evaluate-generalize-action-spec =
     same-length-2
     same-length-3
     returns
-    enum-told-2
-    clear-requires-2
+    enum-known-e
     same-length-4
     same-length-5
     same-length-6
-    returns-2
-    enum-known-e
-    same-length-7
-    same-length-8
-    same-length-9
-    returns-3)
+    returns-2)

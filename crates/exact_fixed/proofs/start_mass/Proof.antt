@@ -5,10 +5,6 @@ use Rattle.exact_fixed.specs.StartSizes.{mass-same, mass-two, sizes-fit}
 use borrow.Author.Needs.{needs}
 use Rattle.exact_fixed.proofs.start_mass.Statement.{statement}
 use Rattle.exact_fixed.proofs.start_mass.Tie as tie
-use Rattle.exact_fixed.proofs.start_mass.Reads as reads
-use Rattle.exact_fixed.proofs.start_mass.Lts as lts
-use Rattle.exact_fixed.proofs.narrow.Reads as narrow-reads
-use Rattle.image.proofs.best_size.Reads as best-size-reads
 
 returns : tie.Need-returns
 returns c =
@@ -21,11 +17,11 @@ best-size-requires c κs = search needs
 best-size-requires-2 : tie.Need-best-size-requires-2
 best-size-requires-2 c κs = search needs
 
-add-narrow : tie.Need-add-narrow
-add-narrow c = search needs
+add-short-u64 : tie.Need-add-short-u64
+add-short-u64 c = search needs
 
-narrow-requires : tie.Need-narrow-requires
-narrow-requires c κs =
+short-u64-requires : tie.Need-short-u64-requires
+short-u64-requires c κs =
     let b = c .before .before .before .before in
     let a = b .args in
     let n = classes-many (a .s .now) (a .im) (b .pre .0) in
@@ -39,4 +35,4 @@ returns-2 c =
 pub start-mass-spec : {M : Type 1} → statement M
 start-mass-spec =
     tie.close
-    (tie.spec returns best-size-requires best-size-requires-2 add-narrow narrow-requires returns-2)
+    (tie.spec returns best-size-requires best-size-requires-2 add-short-u64 short-u64-requires returns-2)

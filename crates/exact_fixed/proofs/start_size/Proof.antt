@@ -5,16 +5,12 @@ use Rattle.exact_fixed.specs.StartSizes.{size-same, size-two, sizes-fit}
 use borrow.Author.Needs.{needs}
 use Rattle.exact_fixed.proofs.start_size.Statement.{statement}
 use Rattle.exact_fixed.proofs.start_size.Tie as tie
-use Rattle.exact_fixed.proofs.start_size.Reads as reads
-use Rattle.exact_fixed.proofs.start_size.Lts as lts
-use Rattle.exact_fixed.proofs.narrow.Reads as narrow-reads
-use Rattle.image.proofs.best_size.Reads as best-size-reads
 
 best-size-requires : tie.Need-best-size-requires
 best-size-requires c κs = search needs
 
-narrow-requires : tie.Need-narrow-requires
-narrow-requires c κs = search needs
+short-u64-requires : tie.Need-short-u64-requires
+short-u64-requires c κs = search needs
 
 returns : tie.Need-returns
 returns c =
@@ -24,11 +20,11 @@ returns c =
 best-size-requires-2 : tie.Need-best-size-requires-2
 best-size-requires-2 c κs = search needs
 
-add-narrow : tie.Need-add-narrow
-add-narrow c = search needs
+add-short-u64 : tie.Need-add-short-u64
+add-short-u64 c = search needs
 
-narrow-requires-2 : tie.Need-narrow-requires-2
-narrow-requires-2 c κs =
+short-u64-requires-2 : tie.Need-short-u64-requires-2
+short-u64-requires-2 c κs =
     let b = c .before .before .before .before in
     let a = b .args in
     let n = classes-many (a .s .now) (a .im) (b .pre .0) in
@@ -44,9 +40,9 @@ start-size-spec =
     tie.close
     (tie.spec
     best-size-requires
-    narrow-requires
+    short-u64-requires
     returns
     best-size-requires-2
-    add-narrow
-    narrow-requires-2
+    add-short-u64
+    short-u64-requires-2
     returns-2)

@@ -1,10 +1,9 @@
-use Rattle.spec.specs.Action.{structural, transports, joins}
-use Rattle.graph.specs.JoinLaws.{pairsOf, cellsOf, joins-small, joins-are}
+use Rattle.graph.specs.GrowLaws.{going-full, going-last, going-on, going-start}
+use Rattle.graph.specs.JoinLaws.{cellsOf, joins-are, joins-small, pairsOf}
 use Rattle.image.specs.Loaded.{classes-many}
+use Rattle.spec.specs.Action.{joins, structural, transports}
 use Rattle.spec.specs.Image.{tablesOf}
-use Rattle.graph.specs.GrowLaws.{going-start, going-on, going-full, going-last}
 use native.Mathlib.Omega.{arith}
-use lib.ListN.{length}
 use borrow.Author.Needs.{needs}
 use Rattle.graph.proofs.enter_joins.Statement.{statement}
 use Rattle.graph.proofs.enter_joins.Tie as tie
@@ -20,48 +19,39 @@ enum-known-m c = search needs
 
 enter-transports-requires : tie.Need-enter-transports-requires
 enter-transports-requires c κs =
-    let b = c .before .before .before .before .before .before .before .before .before .before .before .before .before .before .before .before .before .before .before .before in
+    let b = c .before .before .before .before .before .before .before .before .before .before in
     let t = tablesOf (b .args .s .now) in
     let l = b .args .l in
     let r = b .args .r in
-    let d = going-start (joins t (l, r)) (b .pre .4) (joins-small t (b .pre .1) l r (omega (arith, b .pre .2, classes-many (b .args .s .now) (b .args .im) (b .pre .0))) (omega (arith, b .pre .3, classes-many (b .args .s .now) (b .args .im) (b .pre .0))) (length (b .args .index .now)) (omega (arith, b .pre .5, classes-many (b .args .s .now) (b .args .im) (b .pre .0)))) in
-    (b .pre .0, b .pre .1, b .pre .2, b .pre .3, going-on d (pairsOf (structural t l r)) (cellsOf (transports t l r)) (joins-are t l r) (c .before .before .before .before .before .before .before .before .before .before .before .before .enter-actions .result) (c .before .before .before .before .before .before .before .before .before .before .before .before .enter-actions .ensures) (c .before .before .before .before .m .given .1) (omega (arith, c .before .before .before .before .before .before .before .before .before .before .before .before .enter-actions .kept)) .graph, omega (arith, b .pre .5, c .before .before .before .before .before .before .before .before .before .before .before .before .enter-actions .kept))
+    let many = classes-many (b .args .s .now) (b .args .im) (b .pre .0) in
+    let d = going-start (joins t (l, r)) (b .pre .4) (joins-small t (b .pre .1) l r (omega (arith, b .pre .2, many)) (omega (arith, b .pre .3, many)) (b .args .im .classes) many) in
+    (b .pre .0, b .pre .1, b .pre .2, b .pre .3, going-on d (pairsOf (structural t l r)) (cellsOf (transports t l r)) (joins-are t l r) (c .before .before .before .before .before .before .enter-actions .result) (c .before .before .before .before .before .before .enter-actions .ensures) (c .before .before .m .given .1) .holds)
 
 same-length : tie.Need-same-length
 same-length c = search needs
 
+returns : tie.Need-returns
+returns c =
+    let b = c .before .before .before .before .before .before .before .before in
+    let t = tablesOf (b .args .s .now) in
+    let l = b .args .l in
+    let r = b .args .r in
+    let many = classes-many (b .args .s .now) (b .args .im) (b .pre .0) in
+    let d = going-start (joins t (l, r)) (b .pre .4) (joins-small t (b .pre .1) l r (omega (arith, b .pre .2, many)) (omega (arith, b .pre .3, many)) (b .args .im .classes) many) in
+    going-full d (pairsOf (structural t l r)) (cellsOf (transports t l r)) (joins-are t l r) (c .before .before .before .before .enter-actions .result) (c .before .before .before .before .enter-actions .ensures) (c .enum-told .given .1)
+
 same-length-2 : tie.Need-same-length-2
 same-length-2 c = search needs
 
-same-length-3 : tie.Need-same-length-3
-same-length-3 c = search needs
-
-returns : tie.Need-returns
-returns c =
-    let b = c .before .before .before .before .before .before .before .before .before .before .before .before .before .before .before .before in
-    let t = tablesOf (b .args .s .now) in
-    let l = b .args .l in
-    let r = b .args .r in
-    let d = going-start (joins t (l, r)) (b .pre .4) (joins-small t (b .pre .1) l r (omega (arith, b .pre .2, classes-many (b .args .s .now) (b .args .im) (b .pre .0))) (omega (arith, b .pre .3, classes-many (b .args .s .now) (b .args .im) (b .pre .0))) (length (b .args .index .now)) (omega (arith, b .pre .5, classes-many (b .args .s .now) (b .args .im) (b .pre .0)))) in
-    going-full d (pairsOf (structural t l r)) (cellsOf (transports t l r)) (joins-are t l r) (c .before .before .before .before .before .before .before .before .enter-actions .result) (c .before .before .before .before .before .before .before .before .enter-actions .ensures) (c .enum-told .given .1)
-
-same-length-4 : tie.Need-same-length-4
-same-length-4 c = search needs
-
-same-length-5 : tie.Need-same-length-5
-same-length-5 c = search needs
-
-same-length-6 : tie.Need-same-length-6
-same-length-6 c = search needs
-
 returns-2 : tie.Need-returns-2
 returns-2 c =
-    let b = c .before .before .before .before .before .before .before .before .before .before .before .before .before .before .before .before .before .before .before .before .before .before .before .before .before .before .before in
+    let b = c .before .before .before .before .before .before .before .before .before .before .before .before .before in
     let t = tablesOf (b .args .s .now) in
     let l = b .args .l in
     let r = b .args .r in
-    let d = going-start (joins t (l, r)) (b .pre .4) (joins-small t (b .pre .1) l r (omega (arith, b .pre .2, classes-many (b .args .s .now) (b .args .im) (b .pre .0))) (omega (arith, b .pre .3, classes-many (b .args .s .now) (b .args .im) (b .pre .0))) (length (b .args .index .now)) (omega (arith, b .pre .5, classes-many (b .args .s .now) (b .args .im) (b .pre .0)))) in
-    going-last (going-on d (pairsOf (structural t l r)) (cellsOf (transports t l r)) (joins-are t l r) (c .before .before .before .before .before .before .before .before .before .before .before .before .before .before .before .before .before .before .before .enter-actions .result) (c .before .before .before .before .before .before .before .before .before .before .before .before .before .before .before .before .before .before .before .enter-actions .ensures) (c .before .before .before .before .before .before .before .before .before .before .before .m .given .1) (omega (arith, c .before .before .before .before .before .before .before .before .before .before .before .before .before .before .before .before .before .before .before .enter-actions .kept))) (c .before .before .before .before .before .before .enter-transports .result) (c .before .before .before .before .before .before .enter-transports .ensures) (omega (arith, c .before .before .before .before .before .before .enter-transports .kept))
+    let many = classes-many (b .args .s .now) (b .args .im) (b .pre .0) in
+    let d = going-start (joins t (l, r)) (b .pre .4) (joins-small t (b .pre .1) l r (omega (arith, b .pre .2, many)) (omega (arith, b .pre .3, many)) (b .args .im .classes) many) in
+    going-last (going-on d (pairsOf (structural t l r)) (cellsOf (transports t l r)) (joins-are t l r) (c .before .before .before .before .before .before .before .before .before .enter-actions .result) (c .before .before .before .before .before .before .before .before .before .enter-actions .ensures) (c .before .before .before .before .before .m .given .1)) (c .before .before .enter-transports .result) (c .before .before .enter-transports .ensures)
 
 pub enter-joins-spec : {M : Type 1} → statement M
 enter-joins-spec =
@@ -72,10 +62,6 @@ enter-joins-spec =
     enum-known-m
     enter-transports-requires
     same-length
-    same-length-2
-    same-length-3
     returns
-    same-length-4
-    same-length-5
-    same-length-6
+    same-length-2
     returns-2)

@@ -1,54 +1,42 @@
-use Rattle.graph.specs.GrowLaws.{stays, fills, appends}
-use Prim.Native.Nat.{_-_}
-use mathlib.Core.Path.{sym, _∙_}
+use Rattle.graph.specs.GrowLaws.{appends, fills, stays}
+use Rattle.query.specs.Settings.{limitsOf}
+use mathlib.Core.Path.{_∙_, sym}
+use native.Mathlib.Omega.{arith}
 use borrow.Author.Needs.{needs}
 use Rattle.graph.proofs.enter_pair.Statement.{statement}
 use Rattle.graph.proofs.enter_pair.Tie as tie
 
 known-requires : tie.Need-known-requires
-known-requires c κs = search needs
+known-requires c κs = (c .before .before .pre .0 .keys, c .before .before .pre .1)
 
 same-length : tie.Need-same-length
 same-length c = search needs
 
+returns : tie.Need-returns
+returns c =
+    stays (limitsOf (c .before .before .before .before .args .lim)) (c .before .before .before .before .pre .0) (c .before .before .before .before .args .l) (c .before .before .before .before .args .r) (sym (c .if1 .taken) ∙ c .before .known .ensures)
+
 same-length-2 : tie.Need-same-length-2
 same-length-2 c = search needs
+
+returns-2 : tie.Need-returns-2
+returns-2 c =
+    fills (limitsOf (c .before .before .before .before .before .before .args .lim)) (c .before .before .before .before .before .before .pre .0) (c .before .before .before .before .before .before .args .l) (c .before .before .before .before .before .before .args .r) (sym (c .before .before .if1 .left) ∙ c .before .before .before .known .ensures) (omega (arith, c .if2 .taken))
+
+append-requires : tie.Need-append-requires
+append-requires c κs =
+    let g = c .before .before .before .before .before .before .before .pre .0 in
+    (g .keys .wide, omega (arith, c .before .if2 .left, g .most), omega (arith, c .before .if2 .left, g .room), c .before .before .before .before .before .before .before .pre .1)
+
+add-t14 : tie.Need-add-t14
+add-t14 c = search needs
 
 same-length-3 : tie.Need-same-length-3
 same-length-3 c = search needs
 
-returns : tie.Need-returns
-returns c = let b = c .before .before .before .before .before .before .before .before in stays (b .pre .0) (b .args .l) (b .args .r) (sym (c .if1 .taken) ∙ c .before .known .ensures)
-
-same-length-4 : tie.Need-same-length-4
-same-length-4 c = search needs
-
-same-length-5 : tie.Need-same-length-5
-same-length-5 c = search needs
-
-same-length-6 : tie.Need-same-length-6
-same-length-6 c = search needs
-
-returns-2 : tie.Need-returns-2
-returns-2 c = let b = c .before .before .before .before .before .before .before .before .before in fills (b .pre .0) (b .args .l) (b .args .r) (sym (c .before .if1 .left) ∙ c .before .before .known .ensures) (c .if2 .taken)
-
-append-requires : tie.Need-append-requires
-append-requires c κs = let b = c .before .before .before .before .before .before .before .before .before .before .before .before in (c .before .before .before .if2 .left, b .pre .0 .roomLeft, b .pre .0 .roomRight, b .pre .1)
-
-add-t22 : tie.Need-add-t22
-add-t22 c = search needs
-
-same-length-7 : tie.Need-same-length-7
-same-length-7 c = search needs
-
-same-length-8 : tie.Need-same-length-8
-same-length-8 c = search needs
-
-same-length-9 : tie.Need-same-length-9
-same-length-9 c = search needs
-
 returns-3 : tie.Need-returns-3
-returns-3 c = let b = c .before .before .before .before .before .before .before .before .before .before .before .before .before .before .before .before .before .before .before in appends (b .pre .0) (b .args .l) (b .args .r) (b .pre .1) (c .before .before .before .before .before .before .before .before .before .before .if2 .left) (sym (c .before .before .before .before .before .before .before .before .before .before .before .if1 .left) ∙ c .before .before .before .before .before .before .before .before .before .before .before .before .known .ensures) (c .before .before .before .before .before .before .append .ensures .0) (c .before .before .before .before .before .before .append .ensures .1) (c .before .before .before .before .before .before .append .ensures .2)
+returns-3 c =
+    appends (limitsOf (c .before .before .before .before .before .before .before .before .before .before .args .lim)) (c .before .before .before .before .before .before .before .before .before .before .pre .0) (c .before .before .before .before .before .before .before .before .before .before .args .l) (c .before .before .before .before .before .before .before .before .before .before .args .r) (c .before .before .before .before .before .before .before .before .before .before .pre .1) (omega (arith, c .before .before .before .before .if2 .left)) (sym (c .before .before .before .before .before .before .if1 .left) ∙ c .before .before .before .before .before .before .before .known .ensures) (c .before .before .append .ensures)
 
 pub enter-pair-spec : {M : Type 1} → statement M
 enter-pair-spec =
@@ -56,16 +44,10 @@ enter-pair-spec =
     (tie.spec
     known-requires
     same-length
-    same-length-2
-    same-length-3
     returns
-    same-length-4
-    same-length-5
-    same-length-6
+    same-length-2
     returns-2
     append-requires
-    add-t22
-    same-length-7
-    same-length-8
-    same-length-9
+    add-t14
+    same-length-3
     returns-3)

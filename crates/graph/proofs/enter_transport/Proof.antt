@@ -1,11 +1,9 @@
 use Rattle.ac_repr.specs.Walk.{actionsAt}
-use Rattle.graph.specs.JoinLaws.{cellsOf, transport-none, transport-one, transport-few}
+use Rattle.graph.specs.GrowLaws.{going-end, going-last, going-same, going-small, going-start}
+use Rattle.graph.specs.JoinLaws.{cellsOf, transport-few, transport-none, transport-one}
 use Rattle.spec.specs.Image.{tablesOf}
-use Rattle.graph.specs.GrowLaws.{going-start, going-same, going-small, going-end, going-last}
-use Prim.Native.Nat.{_-_}
-use mathlib.Core.Path.{_∙_}
 use mathlib.Core.List.{[], append-nil}
-use native.Mathlib.Omega.{arith}
+use mathlib.Core.Path.{_∙_}
 use borrow.Author.Needs.{needs}
 use Rattle.graph.proofs.enter_transport.Statement.{statement}
 use Rattle.graph.proofs.enter_transport.Tie as tie
@@ -33,43 +31,39 @@ slice-aggregate-enter-cells-2 c = search needs
 
 enter-cells-requires : tie.Need-enter-cells-requires
 enter-cells-requires c κs =
-    let b = c .before .before .before .before .before .before .before .before .before .before .before .before .before .before .before .before .before in
+    let b = c .before .before .before .before .before .before .before .before .before .before .before .before .before in
     let t = tablesOf (b .args .s .now) in
     let l = b .args .l in
     let r = b .args .r in
     let w = b .args .w in
     let d = going-start (cellsOf (actionsAt t l r w)) (b .pre .5) (b .pre .6) in
-    let f = transport-few t l r w (c .before .before .before .before .before .before .before .before .before .before .monomials .result) (c .before .before .before .before .before .before .before .before .before .before .monomials .ensures) (c .before .before .before .before .before .before .rows .given .0 .0) (c .before .before .before .before .before .before .rows .given .0 .1 .0) (c .before .before .before .before .before .before .rows .given .1) in
-    (c .before .before .before .before .before .before .before .before .before .before .monomials .kept .1 .1 .1 .1 .1 .0, f .0, c .before .before .before .before .before .before .before .before .before .before .monomials .kept .1 .1 .1 .1 .1 .1 .0, f .1, b .pre .5, going-small d _ [] (transport-one t l r w (c .before .before .before .before .before .before .before .before .before .before .monomials .result) (c .before .before .before .before .before .before .before .before .before .before .monomials .ensures) (c .before .before .before .before .before .before .rows .given .0 .0) (c .before .before .before .before .before .before .rows .given .0 .1 .0) (c .before .before .before .before .before .before .rows .given .1)))
+    let x = c .before .before .before .before .before .before .before .before .monomials .result in
+    let n = c .before .before .before .before .rows .given .0 .0 in
+    let m = c .before .before .before .before .rows .given .0 .1 .0 in
+    let f = transport-few t l r w x (c .before .before .before .before .before .before .before .before .monomials .ensures) n m (c .before .before .before .before .rows .given .1) in
+    (c .before .before .before .before .before .before .before .before .monomials .kept .1 .1 .1 .1 .1 .0, f .0, c .before .before .before .before .before .before .before .before .monomials .kept .1 .1 .1 .1 .1 .1 .0, f .1, b .pre .5, going-small d _ [] (transport-one t l r w x (c .before .before .before .before .before .before .before .before .monomials .ensures) n m (c .before .before .before .before .rows .given .1)))
 
 returns : tie.Need-returns
 returns c =
-    let b = c .before .before .before .before .before .before .before .before .before .before .before in
+    let b = c .before .before .before .before .before .before .before .before .before in
     let t = tablesOf (b .args .s .now) in
     let l = b .args .l in
     let r = b .args .r in
     let w = b .args .w in
-    let d = going-start (cellsOf (actionsAt t l r w)) (b .pre .5) (b .pre .6) in
-    going-end d (transport-none t l r w (c .before .before .before .before .monomials .result) (c .before .before .before .before .monomials .ensures) (c .enum-told .given .1))
+    going-end (going-start (cellsOf (actionsAt t l r w)) (b .pre .5) (b .pre .6)) (transport-none t l r w (c .before .before .before .before .monomials .result) (c .before .before .before .before .monomials .ensures) (c .enum-told .given .1))
 
 same-length : tie.Need-same-length
 same-length c = search needs
 
-same-length-2 : tie.Need-same-length-2
-same-length-2 c = search needs
-
-same-length-3 : tie.Need-same-length-3
-same-length-3 c = search needs
-
 returns-2 : tie.Need-returns-2
 returns-2 c =
-    let b = c .before .before .before .before .before .before .before .before .before .before .before .before .before .before .before .before .before .before .before .before .before .before .before .before in
+    let b = c .before .before .before .before .before .before .before .before .before .before .before .before .before .before .before .before in
     let t = tablesOf (b .args .s .now) in
     let l = b .args .l in
     let r = b .args .r in
     let w = b .args .w in
     let d = going-start (cellsOf (actionsAt t l r w)) (b .pre .5) (b .pre .6) in
-    going-last (going-same d _ ((transport-one t l r w (c .before .before .before .before .before .before .before .before .before .before .before .before .before .before .before .before .before .monomials .result) (c .before .before .before .before .before .before .before .before .before .before .before .before .before .before .before .before .before .monomials .ensures) (c .before .before .before .before .before .before .before .before .before .before .before .before .before .rows .given .0 .0) (c .before .before .before .before .before .before .before .before .before .before .before .before .before .rows .given .0 .1 .0) (c .before .before .before .before .before .before .before .before .before .before .before .before .before .rows .given .1)) ∙ append-nil _)) (c .before .before .before .before .before .before .enter-cells .result) (c .before .before .before .before .before .before .enter-cells .ensures) (omega (arith, c .before .before .before .before .before .before .enter-cells .kept))
+    going-last (going-same d _ (transport-one t l r w (c .before .before .before .before .before .before .before .before .before .before .before .monomials .result) (c .before .before .before .before .before .before .before .before .before .before .before .monomials .ensures) (c .before .before .before .before .before .before .before .rows .given .0 .0) (c .before .before .before .before .before .before .before .rows .given .0 .1 .0) (c .before .before .before .before .before .before .before .rows .given .1) ∙ append-nil _)) (c .before .before .enter-cells .result) (c .before .before .enter-cells .ensures)
 
 pub enter-transport-spec : {M : Type 1} → statement M
 enter-transport-spec =
@@ -85,6 +79,4 @@ enter-transport-spec =
     enter-cells-requires
     returns
     same-length
-    same-length-2
-    same-length-3
     returns-2)

@@ -1,43 +1,51 @@
-use Rattle.graph.specs.GrowLaws.{known-past, known-left, known-right}
-use Prim.Native.Nat.{_-_}
+use Prim.Native.Nat.{_+_, ℕ}
+use Rattle.graph.specs.GrowLaws.{known-key, known-past}
+use lib.ListN.{getD}
+use mathlib.Core.Path.{_∙_, ap}
 use native.Mathlib.Omega.{arith}
 use borrow.Author.Needs.{needs}
 use Rattle.graph.proofs.known.Statement.{statement}
 use Rattle.graph.proofs.known.Tie as tie
 
-mul-number : tie.Need-mul-number
-mul-number c = search needs
+place-requires : tie.Need-place-requires
+place-requires c κs =
+    let s = c .before .pre .1 in
+    (c .before .pre .0 .wide, omega (arith, s .0, s .1), omega (arith, s .0, s .1))
 
-add-number : tie.Need-add-number
-add-number c = search needs
-
-number-requires : tie.Need-number-requires
-number-requires c κs = let b = c .before .before .before in omega (arith, b .pre .1 .0, b .pre .1 .2)
+at-u16-requires : tie.Need-at-u16-requires
+at-u16-requires c κs = omega (arith, c .place .ensures .1, c .before .before .pre .0 .room)
 
 returns : tie.Need-returns
-returns c = let b = c .before .before .before .before .before in known-past (b .pre .0) (b .args .l) (b .args .r) (b .pre .1) (c .before .number .result) (c .before .number .ensures .0) (c .if1 .taken)
+returns c =
+    known-past (c .before .before .before .before .pre .0) (c .before .before .before .before .args .l) (c .before .before .before .before .args .r) (c .before .before .before .before .pre .1) (c .before .at-u16 .result) (c .before .at-u16 .ensures .0 ∙ ap (λ (i : ℕ). getD (c .before .before .before .before .args .graph .now) i 0) (c .before .before .place .ensures .0)) (c .if1 .taken)
 
-number-requires-2 : tie.Need-number-requires-2
-number-requires-2 c κs = let b = c .before .before .before .before .before in omega (arith, b .pre .0 .roomLeft, b .pre .0 .few, c .if1 .left)
+keys-requires : tie.Need-keys-requires
+keys-requires c κs = search needs
+
+add-at-u16 : tie.Need-add-at-u16
+add-at-u16 c = search needs
+
+at-u16-requires-2 : tie.Need-at-u16-requires-2
+at-u16-requires-2 c κs = omega (arith, c .keys .ensures .0, c .before .if1 .left, c .before .before .before .before .before .pre .0 .room)
+
+key-requires : tie.Need-key-requires
+key-requires c κs =
+    (omega (arith, c .before .before .before .before .before .before .pre .1 .0, c .before .before .before .before .before .before .pre .0 .wide), omega (arith, c .before .before .before .before .before .before .pre .1 .1, c .before .before .before .before .before .before .pre .0 .wide))
 
 returns-2 : tie.Need-returns-2
-returns-2 c = let b = c .before .before .before .before .before .before .before in known-left (b .pre .0) (b .args .l) (b .args .r) (b .pre .1) (c .before .before .before .number .result) (c .before .before .before .number .ensures .0) (c .before .number2 .result) (c .before .number2 .ensures .0) (c .if2 .taken)
-
-number-requires-3 : tie.Need-number-requires-3
-number-requires-3 c κs = let b = c .before .before .before .before .before .before .before in omega (arith, b .pre .0 .roomRight, b .pre .0 .few, c .before .before .if1 .left)
-
-returns-3 : tie.Need-returns-3
-returns-3 c = let b = c .before .before .before .before .before .before .before .before in known-right (b .pre .0) (b .args .l) (b .args .r) (b .pre .1) (c .before .before .before .before .number .result) (c .before .before .before .before .number .ensures .0) (c .before .before .number2 .result) (c .number3 .result) (c .before .before .before .if1 .left) (c .before .before .number2 .ensures .0) (c .before .if2 .left) (c .number3 .ensures .0)
+returns-2 c =
+    let g = c .before .before .before .before .before .before .before .args .graph .now in
+    known-key (c .before .before .before .before .before .before .before .pre .0) (c .before .before .before .before .before .before .before .args .l) (c .before .before .before .before .before .before .before .args .r) (c .before .before .before .before .before .before .before .pre .1) (c .before .before .before .before .at-u16 .result) (c .before .before .before .before .at-u16 .ensures .0 ∙ ap (λ (i : ℕ). getD g i 0) (c .before .before .before .before .before .place .ensures .0)) (c .before .at-u162 .result) (c .key .result) (c .before .before .before .if1 .left) (c .before .at-u162 .ensures .0 ∙ ap (λ (k : ℕ). getD g (k + c .before .before .before .before .at-u16 .result) 0) (c .before .before .keys .ensures .0)) (c .key .ensures .0)
 
 pub known-spec : {M : Type 1} → statement M
 known-spec =
     tie.close
     (tie.spec
-    mul-number
-    add-number
-    number-requires
+    place-requires
+    at-u16-requires
     returns
-    number-requires-2
-    returns-2
-    number-requires-3
-    returns-3)
+    keys-requires
+    add-at-u16
+    at-u16-requires-2
+    key-requires
+    returns-2)

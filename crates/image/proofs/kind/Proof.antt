@@ -5,22 +5,22 @@ use borrow.Author.Needs.{needs}
 use Rattle.image.proofs.kind.Statement.{statement}
 use Rattle.image.proofs.kind.Tie as tie
 
-mul-byte : tie.Need-mul-byte
-mul-byte c = search needs
+mul-size-u8 : tie.Need-mul-size-u8
+mul-size-u8 c = search needs
 
-add-byte : tie.Need-add-byte
-add-byte c = search needs
+add-size-u8 : tie.Need-add-size-u8
+add-size-u8 c = search needs
 
-shared-slice-read-byte : tie.Need-shared-slice-read-byte
-shared-slice-read-byte c = search needs
+shared-slice-read-size-u8 : tie.Need-shared-slice-read-size-u8
+shared-slice-read-size-u8 c = search needs
 
-byte-requires : tie.Need-byte-requires
-byte-requires c κs = search needs
+size-u8-requires : tie.Need-size-u8-requires
+size-u8-requires c κs = search needs
 
 returns : tie.Need-returns
 returns c =
     let b = c .before .before .before in
-    (c .byte .ensures .0 ∙ sym (ap (λ (x : Operation). x .kind) (operation-is (b .args .s .now) (b .args .im) (b .pre .0) (b .args .o) (b .pre .1))), c .byte .ensures .1)
+    (c .size-u8 .ensures .0 ∙ sym (ap (λ (x : Operation). x .kind) (operation-is (b .args .s .now) (b .args .im) (b .pre .0) (b .args .o) (b .pre .1))), c .size-u8 .ensures .1)
 
 pub kind-spec : {M : Type 1} → statement M
-kind-spec = tie.close (tie.spec mul-byte add-byte shared-slice-read-byte byte-requires returns)
+kind-spec = tie.close (tie.spec mul-size-u8 add-size-u8 shared-slice-read-size-u8 size-u8-requires returns)

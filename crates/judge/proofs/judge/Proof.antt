@@ -1,13 +1,19 @@
 use Rattle.judge.proofs.VerdictLaws.{short-refused, length-refused, version-refused, counts-refused, counts-are, end-refused, end-is, end-small, header-loaded, members-few, tables-left}
+use Rattle.judge.specs.Verdict.{headerOf, verdictAs}
+use Rattle.image.specs.declared.Image.{Image}
+use Rattle.spec.specs.Image.{imageOf, tablesOf, tablesRules}
 use Rattle.laws.specs.AcceptedTurns.{failed, passed}
 use native.Mathlib.Omega.{arith}
-use mathlib.Core.Path.{sym, _∙_}
+use mathlib.Core.Path.{_≡_, refl, sym, ap, _∙_}
 use borrow.Author.Needs.{needs}
 use Rattle.judge.proofs.judge.Statement.{statement}
 use Rattle.judge.proofs.judge.Tie as tie
 
 returns : tie.Need-returns
-returns c = (short-refused (c .before .before .args .s .now) (c .if1 .taken), omega arith)
+returns c =
+    let s = c .before .before .args .s .now in
+    let z = short-refused s (c .if1 .taken) in
+    (z, omega arith, ap (verdictAs (headerOf s) s) z)
 
 be4-requires : tie.Need-be4-requires
 be4-requires c κs = search needs
@@ -15,16 +21,15 @@ be4-requires c κs = search needs
 add-if2 : tie.Need-add-if2
 add-if2 c = search needs
 
-long-requires : tie.Need-long-requires
-long-requires c κs = search needs
+long-size-requires : tie.Need-long-size-requires
+long-size-requires c κs = search needs
 
 returns-2 : tie.Need-returns-2
 returns-2 c =
     let d = c .before .before .before in
-    let s = d .before .before .args .s .now in (
-      length-refused s (d .if1 .left) (λ e. c .if2 .taken (omega (arith, e, c .before .before .be4 .ensures .0, c .before .long .ensures))),
-      omega arith,
-    )
+    let s = d .before .before .args .s .now in
+    let z = length-refused s (d .if1 .left) (λ e. c .if2 .taken (omega (arith, e, c .before .before .be4 .ensures .0, c .before .long-size .ensures))) in
+    (z, omega arith, ap (verdictAs (headerOf s) s) z)
 
 shared-slice-read-if3 : tie.Need-shared-slice-read-if3
 shared-slice-read-if3 c = search needs
@@ -35,7 +40,8 @@ returns-3 c =
     let e = v .before .before in
     let d = e .before .before .before in
     let s = d .before .before .args .s .now in
-    (version-refused s (d .if1 .left) (omega (arith, e .if2 .left, e .before .before .be4 .ensures .0, e .before .long .ensures)) (c .if3 .taken), omega arith)
+    let z = version-refused s (d .if1 .left) (omega (arith, e .if2 .left, e .before .before .be4 .ensures .0, e .before .long-size .ensures)) (c .if3 .taken) in
+    (z, omega arith, ap (verdictAs (headerOf s) s) z)
 
 header-requires : tie.Need-header-requires
 header-requires c κs = search needs
@@ -49,7 +55,8 @@ returns-4 c =
     let e = v .before .before in
     let d = e .before .before .before in
     let s = d .before .before .args .s .now in
-    (counts-refused s (d .if1 .left) (omega (arith, e .if2 .left, e .before .before .be4 .ensures .0, e .before .long .ensures)) (v .if3 .left) (failed (counts-are s (c .before .before .header .ensures) (c .before .counts-within .ensures)) (c .if4 .taken)), omega arith)
+    let z = counts-refused s (d .if1 .left) (omega (arith, e .if2 .left, e .before .before .be4 .ensures .0, e .before .long-size .ensures)) (v .if3 .left) (failed (counts-are s (c .before .before .header .ensures) (c .before .counts-within .ensures)) (c .if4 .taken)) in
+    (z, omega arith, ap (verdictAs (headerOf s) s) z)
 
 end-requires : tie.Need-end-requires
 end-requires c κs =
@@ -63,10 +70,9 @@ returns-5 c =
     let v = c .before .before .before .before .before in
     let e = v .before .before in
     let d = e .before .before .before in
-    let s = d .before .before .args .s .now in (
-      end-refused s (d .if1 .left) (omega (arith, e .if2 .left, e .before .before .be4 .ensures .0, e .before .long .ensures)) (v .if3 .left) (passed (counts-are s (k .before .before .header .ensures) (k .before .counts-within .ensures)) (k .if4 .left)) (λ q. c .if5 .taken (c .before .end .ensures ∙ end-is s (k .before .before .header .ensures) ∙ q)),
-      omega arith,
-    )
+    let s = d .before .before .args .s .now in
+    let z = end-refused s (d .if1 .left) (omega (arith, e .if2 .left, e .before .before .be4 .ensures .0, e .before .long-size .ensures)) (v .if3 .left) (passed (counts-are s (k .before .before .header .ensures) (k .before .counts-within .ensures)) (k .if4 .left)) (λ q. c .if5 .taken (c .before .end .ensures ∙ end-is s (k .before .before .header .ensures) ∙ q)) in
+    (z, omega arith, ap (verdictAs (headerOf s) s) z)
 
 tables-requires : tie.Need-tables-requires
 tables-requires c κs =
@@ -84,10 +90,13 @@ returns-6 c =
     let v = c .before .before .before .before .before .before in
     let e = v .before .before in
     let d = e .before .before .before in
-    let s = d .before .before .args .s .now in (
-      tables-left s (d .if1 .left) (omega (arith, e .if2 .left, e .before .before .be4 .ensures .0, e .before .long .ensures)) (v .if3 .left) (passed (counts-are s (k .before .before .header .ensures) (k .before .counts-within .ensures)) (k .if4 .left))
-          (sym (end-is s (k .before .before .header .ensures)) ∙ sym (q .before .end .ensures) ∙ q .if5 .left) (c .tables .ensures .0),
+    let s = d .before .before .args .s .now in
+    let z : tablesRules (tablesOf s) ≡ imageOf s =
+    tables-left s (d .if1 .left) (omega (arith, e .if2 .left, e .before .before .be4 .ensures .0, e .before .long-size .ensures)) (v .if3 .left) (passed (counts-are s (k .before .before .header .ensures) (k .before .counts-within .ensures)) (k .if4 .left))
+    (sym (end-is s (k .before .before .header .ensures)) ∙ sym (q .before .end .ensures) ∙ q .if5 .left) refl in (
+      c .tables .ensures .0 ∙ z,
       c .tables .ensures .1,
+      c .tables .ensures .2 ∙ ap (λ (x : Image). verdictAs x s (tablesRules (tablesOf s))) (k .before .before .header .ensures) ∙ ap (verdictAs (headerOf s) s) z,
     )
 
 pub judge-spec : {M : Type 1} → statement M
@@ -97,7 +106,7 @@ judge-spec =
     returns
     be4-requires
     add-if2
-    long-requires
+    long-size-requires
     returns-2
     shared-slice-read-if3
     returns-3

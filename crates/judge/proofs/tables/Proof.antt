@@ -1,9 +1,12 @@
 use Rattle.judge.proofs.VerdictLaws.{operations-refused, spans-refused, children-refused, bests-refused, literals-refused, tables-accepted, doubled-told, doubled-nowhere}
+use Rattle.judge.specs.Verdict.{verdictAs}
+use Rattle.judge.specs.declared.Verdict.the-variants.{Doubled}
 use Rattle.image.specs.Loaded.{classes-many}
 use Rattle.laws.specs.AcceptedTurns.{failed, passed}
 use Rattle.laws.specs.AcceptedRules.{spans-rule, children-rule}
 use Rattle.spec.specs.Image.{tablesOf}
 use native.Mathlib.Omega.{arith}
+use mathlib.Core.Path.{ap, _∙_}
 use borrow.Author.Needs.{needs}
 use Rattle.judge.proofs.tables.Statement.{statement}
 use Rattle.judge.proofs.tables.Tie as tie
@@ -13,7 +16,9 @@ operations-right-requires c κs = search needs
 
 returns : tie.Need-returns
 returns c =
-    let a = c .before .before .before in (operations-refused (tablesOf (a .args .s .now)) (failed (c .before .operations-right .ensures) (c .if1 .taken)), omega arith)
+    let a = c .before .before .before in
+    let e = operations-refused (tablesOf (a .args .s .now)) (failed (c .before .operations-right .ensures) (c .if1 .taken)) in
+    (e, omega arith, ap (verdictAs (a .args .im) (a .args .s .now)) e)
 
 spans-right-requires : tie.Need-spans-right-requires
 spans-right-requires c κs = search needs
@@ -22,7 +27,8 @@ returns-2 : tie.Need-returns-2
 returns-2 c =
     let d = c .before .before in
     let a = d .before .before .before in
-    (spans-refused (tablesOf (a .args .s .now)) (passed (d .before .operations-right .ensures) (d .if1 .left)) (failed (c .before .spans-right .ensures) (c .if2 .taken)), omega arith)
+    let z = spans-refused (tablesOf (a .args .s .now)) (passed (d .before .operations-right .ensures) (d .if1 .left)) (failed (c .before .spans-right .ensures) (c .if2 .taken)) in
+    (z, omega arith, ap (verdictAs (a .args .im) (a .args .s .now)) z)
 
 children-right-requires : tie.Need-children-right-requires
 children-right-requires c κs =
@@ -34,7 +40,8 @@ returns-3 c =
     let e = c .before .before in
     let d = e .before .before in
     let a = d .before .before .before in
-    (children-refused (tablesOf (a .args .s .now)) (passed (d .before .operations-right .ensures) (d .if1 .left)) (passed (e .before .spans-right .ensures) (e .if2 .left)) (failed (c .before .children-right .ensures) (c .if3 .taken)), omega arith)
+    let z = children-refused (tablesOf (a .args .s .now)) (passed (d .before .operations-right .ensures) (d .if1 .left)) (passed (e .before .spans-right .ensures) (e .if2 .left)) (failed (c .before .children-right .ensures) (c .if3 .taken)) in
+    (z, omega arith, ap (verdictAs (a .args .im) (a .args .s .now)) z)
 
 bests-right-requires : tie.Need-bests-right-requires
 bests-right-requires c κs =
@@ -48,7 +55,8 @@ returns-4 c =
     let e = f .before .before in
     let d = e .before .before in
     let a = d .before .before .before in
-    (bests-refused (tablesOf (a .args .s .now)) (passed (d .before .operations-right .ensures) (d .if1 .left)) (passed (e .before .spans-right .ensures) (e .if2 .left)) (passed (f .before .children-right .ensures) (f .if3 .left)) (failed (c .before .bests-right .ensures) (c .if4 .taken)), omega arith)
+    let z = bests-refused (tablesOf (a .args .s .now)) (passed (d .before .operations-right .ensures) (d .if1 .left)) (passed (e .before .spans-right .ensures) (e .if2 .left)) (passed (f .before .children-right .ensures) (f .if3 .left)) (failed (c .before .bests-right .ensures) (c .if4 .taken)) in
+    (z, omega arith, ap (verdictAs (a .args .im) (a .args .s .now)) z)
 
 doubled-requires : tie.Need-doubled-requires
 doubled-requires c κs =
@@ -63,7 +71,8 @@ returns-5 c =
     let d = e .before .before in
     let a = d .before .before .before in
     let (p, q) = doubled-told (tablesOf (a .args .s .now)) (c .before .before .doubled .ensures) (omega (arith, c .if5 .taken, classes-many (a .args .s .now) (a .args .im) (a .pre .0))) in
-    (literals-refused (tablesOf (a .args .s .now)) (passed (d .before .operations-right .ensures) (d .if1 .left)) (passed (e .before .spans-right .ensures) (e .if2 .left)) (passed (f .before .children-right .ensures) (f .if3 .left)) (passed (g .before .bests-right .ensures) (g .if4 .left)) p, q)
+    let z = literals-refused (tablesOf (a .args .s .now)) (passed (d .before .operations-right .ensures) (d .if1 .left)) (passed (e .before .spans-right .ensures) (e .if2 .left)) (passed (f .before .children-right .ensures) (f .if3 .left)) (passed (g .before .bests-right .ensures) (g .if4 .left)) p in
+    (z, q, ap Doubled (c .before .before .doubled .ensures) ∙ ap (verdictAs (a .args .im) (a .args .s .now)) z)
 
 returns-6 : tie.Need-returns-6
 returns-6 c =
@@ -71,11 +80,11 @@ returns-6 c =
     let f = g .before .before in
     let e = f .before .before in
     let d = e .before .before in
-    let a = d .before .before .before in (
-      tables-accepted (tablesOf (a .args .s .now)) (passed (d .before .operations-right .ensures) (d .if1 .left)) (passed (e .before .spans-right .ensures) (e .if2 .left)) (passed (f .before .children-right .ensures) (f .if3 .left)) (passed (g .before .bests-right .ensures) (g .if4 .left))
-          (doubled-nowhere (tablesOf (a .args .s .now)) (c .before .before .doubled .ensures) (omega (arith, c .if5 .left, classes-many (a .args .s .now) (a .args .im) (a .pre .0)))),
-      a .pre .0,
-    )
+    let a = d .before .before .before in
+    let z =
+    tables-accepted (tablesOf (a .args .s .now)) (passed (d .before .operations-right .ensures) (d .if1 .left)) (passed (e .before .spans-right .ensures) (e .if2 .left)) (passed (f .before .children-right .ensures) (f .if3 .left)) (passed (g .before .bests-right .ensures) (g .if4 .left))
+    (doubled-nowhere (tablesOf (a .args .s .now)) (c .before .before .doubled .ensures) (omega (arith, c .if5 .left, classes-many (a .args .s .now) (a .args .im) (a .pre .0)))) in
+    (z, a .pre .0, ap (verdictAs (a .args .im) (a .args .s .now)) z)
 
 pub tables-spec : {M : Type 1} → statement M
 tables-spec =

@@ -9,6 +9,7 @@ use Rattle.listing.proofs.digits.Reads as digits-reads
 use Rattle.listing.proofs.head_width.Reads as head-width-reads
 use Rattle.listing.proofs.runs_width.Reads as runs-width-reads
 use Rattle.listing.proofs.term_at.Reads as term-at-reads
+use Rattle.numbers.proofs.long_size.Reads as long-size-reads
 use Rattle.terms.proofs.first.Reads as first-reads
 use Rattle.terms.proofs.head.Reads as head-reads
 use Rattle.terms.proofs.value.Reads as value-reads
@@ -31,18 +32,21 @@ first-requires-2 c κs =
     let s = c .before .before .before .before .before in
     omega (arith, s .pre .0 .long, line-term (s .args .terms .now) (s .args .runs .now) (s .args .marks .now) (s .args .n) (s .args .k) (s .pre .0) (s .pre .1) (s .pre .2) (c .before .term-at .ensures))
 
+long-size-requires : tie.Need-long-size-requires
+long-size-requires c κs = search needs
+
 digits-requires : tie.Need-digits-requires
 digits-requires c κs = search needs
 
 head-requires : tie.Need-head-requires
 head-requires c κs =
-    let s = c .before .before .before .before .before .before .before in
-    omega (arith, s .pre .0 .long, line-term (s .args .terms .now) (s .args .runs .now) (s .args .marks .now) (s .args .n) (s .args .k) (s .pre .0) (s .pre .1) (s .pre .2) (c .before .before .before .term-at .ensures))
+    let s = c .before .before .before .before .before .before .before .before in
+    omega (arith, s .pre .0 .long, line-term (s .args .terms .now) (s .args .runs .now) (s .args .marks .now) (s .args .n) (s .args .k) (s .pre .0) (s .pre .1) (s .pre .2) (c .before .before .before .before .term-at .ensures))
 
 value-requires : tie.Need-value-requires
 value-requires c κs =
-    let s = c .before .before .before .before .before .before .before .before in
-    omega (arith, s .pre .0 .long, line-term (s .args .terms .now) (s .args .runs .now) (s .args .marks .now) (s .args .n) (s .args .k) (s .pre .0) (s .pre .1) (s .pre .2) (c .before .before .before .before .term-at .ensures))
+    let s = c .before .before .before .before .before .before .before .before .before in
+    omega (arith, s .pre .0 .long, line-term (s .args .terms .now) (s .args .runs .now) (s .args .marks .now) (s .args .n) (s .args .k) (s .pre .0) (s .pre .1) (s .pre .2) (c .before .before .before .before .before .term-at .ensures))
 
 head-width-requires : tie.Need-head-width-requires
 head-width-requires c κs = search needs
@@ -52,8 +56,8 @@ add-result c = search needs
 
 runs-width-requires : tie.Need-runs-width-requires
 runs-width-requires c κs =
-    let s = c .before .before .before .before .before .before .before .before .before .before in
-    (line-rises (s .args .terms .now) (s .args .runs .now) (s .args .marks .now) (s .args .n) (s .args .k) (s .pre .0) (s .pre .1) (s .pre .2) (c .before .before .before .before .before .before .term-at .ensures) (c .before .before .before .before .before .first .ensures .0) (c .before .before .before .before .first2 .ensures .0), line-ends (s .args .terms .now) (s .args .runs .now) (s .args .marks .now) (s .args .n) (s .args .k) (s .pre .0) (s .pre .1) (s .pre .2) (c .before .before .before .before .before .before .term-at .ensures) (c .before .before .before .before .before .first .ensures .0) (c .before .before .before .before .first2 .ensures .0), line-within (s .args .terms .now) (s .args .runs .now) (s .args .marks .now) (s .args .n) (s .args .k) (s .pre .0) (s .pre .1) (s .pre .2) (c .before .before .before .before .before .before .term-at .ensures) (c .before .before .before .before .before .first .ensures .0) (c .before .before .before .before .first2 .ensures .0), line-named (s .args .terms .now) (s .args .runs .now) (s .args .marks .now) (s .args .n) (s .args .k) (s .pre .0) (s .pre .1) (s .pre .2) (c .before .before .before .before .before .before .term-at .ensures) (c .before .before .before .before .before .first .ensures .0) (c .before .before .before .before .first2 .ensures .0))
+    let s = c .before .before .before .before .before .before .before .before .before .before .before in
+    (line-rises (s .args .terms .now) (s .args .runs .now) (s .args .marks .now) (s .args .n) (s .args .k) (s .pre .0) (s .pre .1) (s .pre .2) (c .before .before .before .before .before .before .before .term-at .ensures) (c .before .before .before .before .before .before .first .ensures .0) (c .before .before .before .before .before .first2 .ensures .0), line-ends (s .args .terms .now) (s .args .runs .now) (s .args .marks .now) (s .args .n) (s .args .k) (s .pre .0) (s .pre .1) (s .pre .2) (c .before .before .before .before .before .before .before .term-at .ensures) (c .before .before .before .before .before .before .first .ensures .0) (c .before .before .before .before .before .first2 .ensures .0), line-within (s .args .terms .now) (s .args .runs .now) (s .args .marks .now) (s .args .n) (s .args .k) (s .pre .0) (s .pre .1) (s .pre .2) (c .before .before .before .before .before .before .before .term-at .ensures) (c .before .before .before .before .before .before .first .ensures .0) (c .before .before .before .before .before .first2 .ensures .0), line-named (s .args .terms .now) (s .args .runs .now) (s .args .marks .now) (s .args .n) (s .args .k) (s .pre .0) (s .pre .1) (s .pre .2) (c .before .before .before .before .before .before .before .term-at .ensures) (c .before .before .before .before .before .before .first .ensures .0) (c .before .before .before .before .before .first2 .ensures .0))
 
 add-result-2 : tie.Need-add-result-2
 add-result-2 c = search needs
@@ -63,8 +67,8 @@ add-result-3 c = search needs
 
 returns : tie.Need-returns
 returns c =
-    let s = c .before .before .before .before .before .before .before .before .before .before .before in
-    omega (arith, line-length (s .args .terms .now) (s .args .runs .now) (s .args .marks .now) (s .args .n) (s .args .k) (s .pre .0) (s .pre .1) (s .pre .2) (c .before .before .before .before .before .before .before .term-at .ensures) (c .before .before .before .before .before .before .first .ensures .0) (c .before .before .before .before .before .first2 .ensures .0) (c .before .before .before .head .ensures) (c .before .before .value .ensures), c .before .before .before .before .digits .ensures, c .before .head-width .ensures, c .runs-width .ensures)
+    let s = c .before .before .before .before .before .before .before .before .before .before .before .before in
+    omega (arith, line-length (s .args .terms .now) (s .args .runs .now) (s .args .marks .now) (s .args .n) (s .args .k) (s .pre .0) (s .pre .1) (s .pre .2) (c .before .before .before .before .before .before .before .before .term-at .ensures) (c .before .before .before .before .before .before .before .first .ensures .0) (c .before .before .before .before .before .before .first2 .ensures .0) (c .before .before .before .head .ensures) (c .before .before .value .ensures), rw (c .before .before .before .before .before .long-size .ensures) at (c .before .before .before .before .digits .ensures), c .before .head-width .ensures, c .runs-width .ensures)
 
 pub line-width-spec : {M : Type 1} → statement M
 line-width-spec =
@@ -74,6 +78,7 @@ line-width-spec =
     first-requires
     add-first
     first-requires-2
+    long-size-requires
     digits-requires
     head-requires
     value-requires

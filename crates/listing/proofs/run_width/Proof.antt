@@ -5,9 +5,10 @@ use Rattle.listing.proofs.run_width.Statement.{statement}
 use Rattle.listing.proofs.run_width.Tie as tie
 use Rattle.listing.proofs.run_width.Reads as reads
 use Rattle.listing.proofs.run_width.Lts as lts
-use Rattle.listing.proofs.child.Reads as child-reads
 use Rattle.listing.proofs.digits.Reads as digits-reads
 use Rattle.listing.proofs.number_of.Reads as number-of-reads
+use Rattle.terms.proofs.child.Reads as child-reads
+use Rattle.terms.proofs.times.Reads as times-reads
 
 child-requires : tie.Need-child-requires
 child-requires c κs = search needs
@@ -26,6 +27,9 @@ add-result c = search needs
 add-result-2 : tie.Need-add-result-2
 add-result-2 c = search needs
 
+times-requires : tie.Need-times-requires
+times-requires c κs = search needs
+
 digits-requires-2 : tie.Need-digits-requires-2
 digits-requires-2 c κs = search needs
 
@@ -34,8 +38,8 @@ add-result-3 c = search needs
 
 returns : tie.Need-returns
 returns c =
-    let s = c .before .before .before .before .before in
-    omega (arith, run-length (s .args .marks .now) (s .args .r) (c .before .before .before .child .ensures .0) (c .before .before .number-of .ensures), c .before .digits .ensures, c .digits2 .ensures)
+    let s = c .before .before .before .before .before .before in
+    omega (arith, run-length (s .args .marks .now) (s .args .r) (c .before .before .before .before .child .ensures .0) (c .before .before .before .number-of .ensures), c .before .before .digits .ensures, rw (c .before .times .ensures) at (c .digits2 .ensures))
 
 pub run-width-spec : {M : Type 1} → statement M
 run-width-spec =
@@ -46,6 +50,7 @@ run-width-spec =
     digits-requires
     add-result
     add-result-2
+    times-requires
     digits-requires-2
     add-result-3
     returns)

@@ -7,27 +7,31 @@ use Rattle.listing.proofs.write_head.Reads as reads
 use Rattle.listing.proofs.write_head.Lts as lts
 use Rattle.listing.proofs.labelled.Reads as labelled-reads
 use Rattle.listing.proofs.text.Reads as text-reads
+use Rattle.numbers.proofs.long_u32.Reads as long-u32-reads
 
 slice-aggregate-labelled : tie.Need-slice-aggregate-labelled
 slice-aggregate-labelled c = search needs
 
-cast-labelled : tie.Need-cast-labelled
-cast-labelled c = search needs
+long-u32-requires : tie.Need-long-u32-requires
+long-u32-requires c κs = search needs
 
 labelled-requires : tie.Need-labelled-requires
 unfolding text
 labelled-requires c κs =
-    let s = c .before .before .before .before in
-    lit-first (s .args .h) (s .args .v) (s .args .out .now) (s .args .at) (s .pre) (c .before .before .if1 .taken)
+    let s = c .before .before .before .before .before in
+    rw (c .long-u32 .ensures .0) (lit-first (s .args .h) (s .args .v) (s .args .out .now) (s .args .at) (s .pre) (c .before .before .before .if1 .taken))
 
 slice-aggregate-labelled-2 : tie.Need-slice-aggregate-labelled-2
 slice-aggregate-labelled-2 c = search needs
 
+long-u32-requires-2 : tie.Need-long-u32-requires-2
+long-u32-requires-2 c κs = search needs
+
 labelled-requires-2 : tie.Need-labelled-requires-2
 unfolding text
 labelled-requires-2 c κs =
-    let s = c .before .before .before .before .before .before .before .before .before in
-    lit-second (s .args .h) (s .args .v) (s .args .out .now) (s .args .at) (s .pre) (c .before .before .before .before .before .before .before .if1 .taken) (c .before .before .before .before .labelled .ensures)
+    let s = c .before .before .before .before .before .before .before .before .before .before .before in
+    rw (c .long-u322 .ensures .0) (lit-second (s .args .h) (s .args .v) (s .args .out .now) (s .args .at) (s .pre) (c .before .before .before .before .before .before .before .before .before .if1 .taken) (rw (c .before .before .before .before .before .before .long-u32 .ensures .0) at (c .before .before .before .before .before .labelled .ensures)))
 
 same-length : tie.Need-same-length
 same-length c = search needs
@@ -35,8 +39,8 @@ same-length c = search needs
 returns : tie.Need-returns
 unfolding text
 returns c =
-    let s = c .before .before .before .before .before .before .before .before .before .before .before .before in
-    lit-wrote (s .args .h) (s .args .v) (s .args .out .now) (s .args .at) (s .pre) (c .before .before .before .before .before .before .before .before .before .before .if1 .taken) (c .before .before .before .before .before .before .before .labelled .ensures) (c .before .before .labelled2 .ensures)
+    let s = c .before .before .before .before .before .before .before .before .before .before .before .before .before .before in
+    lit-wrote (s .args .h) (s .args .v) (s .args .out .now) (s .args .at) (s .pre) (c .before .before .before .before .before .before .before .before .before .before .before .before .if1 .taken) (rw (c .before .before .before .before .before .before .before .before .before .long-u32 .ensures .0) at (c .before .before .before .before .before .before .before .before .labelled .ensures)) (rw (c .before .before .before .long-u322 .ensures .0) at (c .before .before .labelled2 .ensures))
 
 slice-aggregate-text : tie.Need-slice-aggregate-text
 slice-aggregate-text c = search needs
@@ -59,14 +63,14 @@ returns-2 c =
 slice-aggregate-labelled-3 : tie.Need-slice-aggregate-labelled-3
 slice-aggregate-labelled-3 c = search needs
 
-cast-labelled-2 : tie.Need-cast-labelled-2
-cast-labelled-2 c = search needs
+long-u32-requires-3 : tie.Need-long-u32-requires-3
+long-u32-requires-3 c κs = search needs
 
 labelled-requires-3 : tie.Need-labelled-requires-3
 unfolding text
 labelled-requires-3 c κs =
-    let s = c .before .before .before .before .before in
-    op-room (s .args .h) (s .args .v) (s .args .out .now) (s .args .at) (s .pre) (c .before .before .before .if1 .left) (c .before .before .if2 .left)
+    let s = c .before .before .before .before .before .before in
+    rw (c .long-u323 .ensures .0) (op-room (s .args .h) (s .args .v) (s .args .out .now) (s .args .at) (s .pre) (c .before .before .before .before .if1 .left) (c .before .before .before .if2 .left))
 
 same-length-3 : tie.Need-same-length-3
 same-length-3 c = search needs
@@ -74,17 +78,18 @@ same-length-3 c = search needs
 returns-3 : tie.Need-returns-3
 unfolding text
 returns-3 c =
-    let s = c .before .before .before .before .before .before .before .before in
-    op-wrote (s .args .h) (s .args .v) (s .args .out .now) (s .args .at) (s .pre) (c .before .before .before .before .before .before .if1 .left) (c .before .before .before .before .before .if2 .left) (c .before .before .labelled3 .ensures)
+    let s = c .before .before .before .before .before .before .before .before .before in
+    op-wrote (s .args .h) (s .args .v) (s .args .out .now) (s .args .at) (s .pre) (c .before .before .before .before .before .before .before .if1 .left) (c .before .before .before .before .before .before .if2 .left) (rw (c .before .before .before .long-u323 .ensures .0) at (c .before .before .labelled3 .ensures))
 
 pub write-head-spec : {M : Type 1} → statement M
 write-head-spec =
     tie.close
     (tie.spec
     slice-aggregate-labelled
-    cast-labelled
+    long-u32-requires
     labelled-requires
     slice-aggregate-labelled-2
+    long-u32-requires-2
     labelled-requires-2
     same-length
     returns
@@ -93,7 +98,7 @@ write-head-spec =
     same-length-2
     returns-2
     slice-aggregate-labelled-3
-    cast-labelled-2
+    long-u32-requires-3
     labelled-requires-3
     same-length-3
     returns-3)

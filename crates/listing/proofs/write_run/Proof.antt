@@ -5,9 +5,10 @@ use Rattle.listing.proofs.write_run.Statement.{statement}
 use Rattle.listing.proofs.write_run.Tie as tie
 use Rattle.listing.proofs.write_run.Reads as reads
 use Rattle.listing.proofs.write_run.Lts as lts
-use Rattle.listing.proofs.child.Reads as child-reads
 use Rattle.listing.proofs.labelled.Reads as labelled-reads
 use Rattle.listing.proofs.number_of.Reads as number-of-reads
+use Rattle.terms.proofs.child.Reads as child-reads
+use Rattle.terms.proofs.times.Reads as times-reads
 
 slice-aggregate-labelled : tie.Need-slice-aggregate-labelled
 slice-aggregate-labelled c = search needs
@@ -29,11 +30,14 @@ labelled-requires c κs =
 slice-aggregate-labelled-2 : tie.Need-slice-aggregate-labelled-2
 slice-aggregate-labelled-2 c = search needs
 
+times-requires : tie.Need-times-requires
+times-requires c κs = search needs
+
 labelled-requires-2 : tie.Need-labelled-requires-2
 unfolding text
 labelled-requires-2 c κs =
-    let s = c .before .before .before .before .before .before .before .before .before .before .before in
-    run-second (s .args .marks .now) (s .args .r) (c .before .before .before .before .before .before .child .ensures .0) (c .before .before .before .before .before .number-of .ensures) (s .args .out .now) (s .args .at) (s .pre .1) (c .before .before .before .before .labelled .ensures)
+    let s = c .before .before .before .before .before .before .before .before .before .before .before .before in
+    rw (c .times .ensures) (run-second (s .args .marks .now) (s .args .r) (c .before .before .before .before .before .before .before .child .ensures .0) (c .before .before .before .before .before .before .number-of .ensures) (s .args .out .now) (s .args .at) (s .pre .1) (c .before .before .before .before .before .labelled .ensures))
 
 same-length : tie.Need-same-length
 same-length c = search needs
@@ -41,8 +45,8 @@ same-length c = search needs
 returns : tie.Need-returns
 unfolding text
 returns c =
-    let s = c .before .before .before .before .before .before .before .before .before .before .before .before .before .before in
-    run-wrote (s .args .marks .now) (s .args .r) (c .before .before .before .before .before .before .before .before .before .child .ensures .0) (c .before .before .before .before .before .before .before .before .number-of .ensures) (s .args .out .now) (s .args .at) (s .pre .1) (c .before .before .before .before .before .before .before .labelled .ensures) (c .before .before .labelled2 .ensures)
+    let s = c .before .before .before .before .before .before .before .before .before .before .before .before .before .before .before in
+    run-wrote (s .args .marks .now) (s .args .r) (c .before .before .before .before .before .before .before .before .before .before .child .ensures .0) (c .before .before .before .before .before .before .before .before .before .number-of .ensures) (s .args .out .now) (s .args .at) (s .pre .1) (c .before .before .before .before .before .before .before .before .labelled .ensures) (rw (c .before .before .before .times .ensures) at (c .before .before .labelled2 .ensures))
 
 pub write-run-spec : {M : Type 1} → statement M
 write-run-spec =
@@ -53,6 +57,7 @@ write-run-spec =
     number-of-requires
     labelled-requires
     slice-aggregate-labelled-2
+    times-requires
     labelled-requires-2
     same-length
     returns)

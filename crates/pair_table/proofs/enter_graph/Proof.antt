@@ -1,4 +1,4 @@
--- `pair_table::enter_graph` meets its contract: a walk of its MIR, by hand, with no branch: three calls. `enter_all` has the table for a lifetime of the call, and the plain slices for good; `find` has the table as a `&`; `count_from` is covered.
+-- `pair_table::enter_graph` meets its contract: a walk of its MIR, by hand, with no branch: three calls. `enter_all` has the table for a lifetime of the call, and the plain slice for good; `find` has the table as a `&`; `count_from` is covered.
 -- Assumes nothing.
 use Rattle.pair_table.proofs.Walk.{_≡_, refl, sym, _∙_, ap, subst, ℕ, _<_, _^_, List, [], _∷_, length, URA, fullShare, named, w16, w64, tyInt, Val, vint, SProp, ent, sep, emp, fst∗, id⊢, via, snd∗, exE, Lft, GName, Share, Fml, ftrue, fsep, fat, flft}
 use Rattle.pair_table.proofs.Walk.{Memory, Routine, Heap, Calls, Loops, WpFn, Tables, Atoms, sem, Fun, fact, givenOf, tables, tablesOf, Given, ‵, raw, some, later, _⊛_, ⋆, _$_, _∵_, !, qed, by, move, drop, use0, use1, use2, use3, split, join, group, pick, await, rewrite, fsplit, fjoin, feqL, suffices, frame, done}
@@ -39,14 +39,14 @@ abbrev R : RattleType
 R = P.the-row
 
 abbrev Arg : Type 0
-Arg = RefT (List Pair) × (RefT (List ℕ) × (RefT (List ℕ) × (ℕ × (ℕ × (ℕ × Unit {0})))))
+Arg = RefT (List Pair) × (RefT (List ℕ) × (ℕ × (ℕ × (ℕ × (ℕ × Unit {0})))))
 
 -- what is said of the last values of `enter_all`'s parameters
 abbrev Last : Type 0
 Last = List Pair × (Unit {0} × (Unit {0} × (Unit {0} × Unit {0})))
 
 abbrev stayed : Stays (f.ended .signature .params) (f.ended .kept)
-stayed = (stay-slice (0 ∷ []) tt (plain (λ _. R)), (stay-dropped (shrSliceOf (1 ∷ []) tt (plain (λ _. u16))) yes, (stay-dropped (shrSliceOf (2 ∷ []) tt (plain (λ _. u16))) yes, (stay-dropped (plain (λ _. usize)) yes, (stay-dropped (plain (λ _. u16)) yes, (stay-dropped (plain (λ _. u16)) yes, tt))))))
+stayed = (stay-slice (0 ∷ []) tt (plain (λ _. R)), (stay-dropped (shrSliceOf (1 ∷ []) tt (plain (λ _. u16))) yes, (stay-dropped (plain (λ _. usize)) yes, (stay-dropped (plain (λ _. usize)) yes, (stay-dropped (plain (λ _. u16)) yes, (stay-dropped (plain (λ _. u16)) yes, tt))))))
 
 module _ {M : Type 1} (𝓤 : URA M) (H : Heap 𝓤) (A : Atoms 𝓤) (mem : Memory → SProp 𝓤) (run : Routine → Fun 𝓤) where
   -- the contracts that the proof cites
@@ -65,79 +65,71 @@ module _ {M : Type 1} (𝓤 : URA M) (H : Heap 𝓤) (A : Atoms 𝓤) (mem : Mem
   counted-of : (m h : ℕ) (c : Count) → ent 𝓤 (ensured 𝓤 H A count′.ended (count′.clauses 𝓤 H A mem run) tt (m, (h, tt)) tt c) (fact 𝓤 (c ≡ record { pairs = h - m }))
   counted-of m h c = exE 𝓤 _ (λ ws. snd∗ 𝓤 (sem 𝓤 H A (lasts count′.ended tt (m, (h, tt)) ws)) (fact 𝓤 (c ≡ record { pairs = h - m })))
 
-module _ {M : Type 1} (𝓤 : URA M) (H : Heap 𝓤) (A : Atoms 𝓤) (W : Given 𝓤 H A) (mem : Memory → SProp 𝓤) (run : Routine → Fun 𝓤) (κ κ₂ κ₃ : Lft) (q q₂ q₃ : Share) (b o : ℕ) (γ : GName) (ys : List Pair)
-    (b₂ o₂ : ℕ) (γ₂ : GName) (ls : List ℕ) (b₃ o₃ : ℕ) (γ₃ : GName) (rs : List ℕ) (n l r : ℕ)
-    (gn : Room R (length ys)) (gl : Room u16 (length ls)) (gr : Room u16 (length rs)) (fn : n < 2 ^ 64) (fl : l < 2 ^ 16) (fr : r < 2 ^ 16) where
-  -- the table under the name δ at the list zs, and the plain slices
+module _ {M : Type 1} (𝓤 : URA M) (H : Heap 𝓤) (A : Atoms 𝓤) (W : Given 𝓤 H A) (mem : Memory → SProp 𝓤) (run : Routine → Fun 𝓤) (κ κ₂ : Lft) (q q₂ : Share) (b o : ℕ) (γ : GName) (ys : List Pair)
+    (b₂ o₂ : ℕ) (γ₂ : GName) (gs : List ℕ) (i₀ n l r : ℕ)
+    (gn : Room R (length ys)) (gl : Room u16 (length gs)) (fi : i₀ < 2 ^ 64) (fn : n < 2 ^ 64) (fl : l < 2 ^ 16) (fr : r < 2 ^ 16) where
+  -- the table under the name δ at the list zs, and the plain slice, whose keys begin at i₀
   abbrev x : GName → List Pair → RefT (List Pair)
   x δ zs = record { ptr = (b, o); name = δ; now = zs }
 
   abbrev y₂ : RefT (List ℕ)
-  y₂ = record { ptr = (b₂, o₂); name = γ₂; now = ls }
-
-  abbrev y₃ : RefT (List ℕ)
-  y₃ = record { ptr = (b₃, o₃); name = γ₃; now = rs }
+  y₂ = record { ptr = (b₂, o₂); name = γ₂; now = gs }
 
   -- their machine values
   abbrev s : Val
   s = sliceVal (b, o) (length ys)
 
   abbrev s₂ : Val
-  s₂ = sliceVal (b₂, o₂) (length ls)
-
-  abbrev s₃ : Val
-  s₃ = sliceVal (b₃, o₃) (length rs)
+  s₂ = sliceVal (b₂, o₂) (length gs)
 
   abbrev a : Arg
-  a = (x γ ys, (y₂, (y₃, (n, (l, (r, tt))))))
+  a = (x γ ys, (y₂, (i₀, (n, (l, (r, tt))))))
 
-  abbrev at : Vals f.signature (κ, (κ₂, (κ₃, tt)))
-  at = (s ∷ [], (s₂ ∷ [], (s₃ ∷ [], (vint w64 n ∷ [], (vint w16 l ∷ [], (vint w16 r ∷ [], tt))))))
+  abbrev at : Vals f.signature (κ, (κ₂, tt))
+  at = (s ∷ [], (s₂ ∷ [], (vint w64 i₀ ∷ [], (vint w64 n ∷ [], (vint w16 l ∷ [], (vint w16 r ∷ [], tt))))))
 
   abbrev Post : Val → SProp 𝓤
-  Post = walkOf 𝓤 H A f.ended stayed (f.clauses 𝓤 H A mem run) .post (((κ, (κ₂, (κ₃, tt))), (q, (q₂, (q₃, tt))), tt, a, at), tt)
+  Post = walkOf 𝓤 H A f.ended stayed (f.clauses 𝓤 H A mem run) .post (((κ, (κ₂, tt)), (q, (q₂, tt)), tt, a, at), tt)
 
   -- what they own
   abbrev OwnT : List Pair → Fml
   OwnT zs = MutSlice (named 0) κ R .own (x γ zs) (s ∷ [])
 
-  abbrev OwnL : Fml
-  OwnL = ShrSlice (named 1) κ₂ u16 .own y₂ (s₂ ∷ [])
-
-  abbrev OwnR : Fml
-  OwnR = ShrSlice (named 2) κ₃ u16 .own y₃ (s₃ ∷ [])
+  abbrev OwnG : Fml
+  OwnG = ShrSlice (named 1) κ₂ u16 .own y₂ (s₂ ∷ [])
 
   abbrev Others : Fml
-  Others = fsep (usize .own n (vint w64 n ∷ [])) (fsep (u16 .own l (vint w16 l ∷ [])) (fsep (u16 .own r (vint w16 r ∷ [])) ftrue))
+  Others = fsep (usize .own i₀ (vint w64 i₀ ∷ [])) (fsep (usize .own n (vint w64 n ∷ [])) (fsep (u16 .own l (vint w16 l ∷ [])) (fsep (u16 .own r (vint w16 r ∷ [])) ftrue)))
 
   -- how many records are held, the table then, and where the queried pair is
   abbrev h : ℕ
-  h = enteredOf ls rs n 0 ys .0
+  h = enteredOf gs i₀ n 0 ys .0
 
   abbrev ts : List Pair
-  ts = enteredOf ls rs n 0 ys .1
+  ts = enteredOf gs i₀ n 0 ys .1
 
   abbrev k : ℕ
   k = findOf ts h (l, r)
 
-  exits : (c : Count) (w : Val) → length ts ≡ length ys → c ≡ record { pairs = h - k } → ent 𝓤 (⋆ 𝓤 H A (‵ (K.the-row .own c (w ∷ [])) ∷ ‵ (OwnT ts) ∷ ‵ (flft κ q) ∷ (‵ (flft κ₂ q₂) ⊛ (‵ (flft κ₃ q₃) ⊛ ‵ ftrue)) ∷ [])) (Post w)
+  exits : (c : Count) (w : Val) → length ts ≡ length ys → c ≡ record { pairs = h - k } → ent 𝓤 (⋆ 𝓤 H A (‵ (K.the-row .own c (w ∷ [])) ∷ ‵ (OwnT ts) ∷ ‵ (flft κ q) ∷ (‵ (flft κ₂ q₂) ⊛ ‵ ftrue) ∷ [])) (Post w)
   exits c w e g =
-      qed W (‵ (K.the-row .own c (w ∷ [])) ∷ ‵ (OwnT ts) ∷ ‵ (flft κ q) ∷ (‵ (flft κ₂ q₂) ⊛ (‵ (flft κ₃ q₃) ⊛ ‵ ftrue)) ∷ []) ∵
-      suffices ! _ (ends-at 𝓤 H A f.ended stayed (f.clauses 𝓤 H A mem run) W (((κ, (κ₂, (κ₃, tt))), (q, (q₂, (q₃, tt))), tt, a, at), tt) w c (ts, (tt, (tt, (tt, (tt, (tt, tt)))))) (e, (tt, (tt, (tt, (tt, (tt, tt))))))) $
+      qed W (‵ (K.the-row .own c (w ∷ [])) ∷ ‵ (OwnT ts) ∷ ‵ (flft κ q) ∷ (‵ (flft κ₂ q₂) ⊛ ‵ ftrue) ∷ []) ∵
+      suffices ! _ (ends-at 𝓤 H A f.ended stayed (f.clauses 𝓤 H A mem run) W (((κ, (κ₂, tt)), (q, (q₂, tt)), tt, a, at), tt) w c (ts, (tt, (tt, (tt, (tt, (tt, tt)))))) (e, (tt, (tt, (tt, (tt, (tt, tt))))))) $
       says ! (g, refl) $ move ! (2 ∷ 3 ∷ []) $ join ! $ frame ! $
       nothing ! $ nothing ! $ fjoin ! $ nothing ! $ fjoin ! $ nothing ! $ fjoin ! $ nothing ! $ fjoin ! $ nothing ! $ fjoin ! $ move ! (2 ∷ 0 ∷ []) $ fjoin ! $ frame ! $ done !
 
-  -- `enter_all` is handed the table for the lifetime ν, under the name δ, and the plain slices at their own
+  -- `enter_all` is handed the table for the lifetime ν, under the name δ, and the plain slice at its own
   abbrev to-all : ℕ → GName → EnterAll 𝓤 H A mem run .Ghost
-  to-all ν δ = (((ν ∷ [], (κ₂, (κ₃, tt))), (fullShare, (q₂, (q₃, tt))), tt, (x δ ys, (y₂, (y₃, (n, tt)))), (s ∷ [], (s₂ ∷ [], (s₃ ∷ [], (vint w64 n ∷ [], tt))))), tt)
+  to-all ν δ = (((ν ∷ [], (κ₂, tt)), (fullShare, (q₂, tt)), tt, (x δ ys, (y₂, (i₀, (n, tt)))), (s ∷ [], (s₂ ∷ [], (vint w64 i₀ ∷ [], (vint w64 n ∷ [], tt))))), tt)
 
-  goes-all : (ν : ℕ) (δ : GName) → ent 𝓤 (Kit.mean 𝓤 H A (‵ (flft (ν ∷ []) fullShare) ⊛ (‵ (MutSlice (named 0) (ν ∷ []) R .own (x δ ys) (s ∷ [])) ⊛ (‵ (flft κ₂ q₂) ⊛ (‵ (flft κ₃ q₃) ⊛ (‵ OwnL ⊛ ‵ OwnR)))))) (EnterAll 𝓤 H A mem run .pre (to-all ν δ))
+  goes-all : (ν : ℕ) (δ : GName) → ent 𝓤 (Kit.mean 𝓤 H A (‵ (flft (ν ∷ []) fullShare) ⊛ (‵ (MutSlice (named 0) (ν ∷ []) R .own (x δ ys) (s ∷ [])) ⊛ (‵ (flft κ₂ q₂) ⊛ ‵ OwnG)))) (EnterAll 𝓤 H A mem run .pre (to-all ν δ))
   goes-all ν δ =
-      qed W ((‵ (flft (ν ∷ []) fullShare) ⊛ (‵ (MutSlice (named 0) (ν ∷ []) R .own (x δ ys) (s ∷ [])) ⊛ (‵ (flft κ₂ q₂) ⊛ (‵ (flft κ₃ q₃) ⊛ (‵ OwnL ⊛ ‵ OwnR))))) ∷ []) ∵
-      split ! $ move ! (1 ∷ []) $ split ! $ move ! (1 ∷ []) $ split ! $ move ! (1 ∷ []) $ split ! $ move ! (1 ∷ []) $ split ! $
-      -- [the lefts; the rights; the third and the second token; the table; its token]
-      nothing ! $ move ! (3 ∷ 0 ∷ []) $ join ! $ move ! (3 ∷ 0 ∷ []) $ join ! $ move ! (4 ∷ 0 ∷ []) $ join ! $
-      nothing ! $ owned ! usize (Is usize) (uint-makes 𝓤 H A W w64) n _ (refl, fn) $ fjoin ! $ move ! (3 ∷ 0 ∷ []) $ fjoin ! $ move ! (2 ∷ 0 ∷ []) $ fjoin ! $ move ! (2 ∷ 0 ∷ []) $ fjoin ! $ move ! (1 ∷ 0 ∷ []) $ join ! $ frame ! $ done !
+      qed W ((‵ (flft (ν ∷ []) fullShare) ⊛ (‵ (MutSlice (named 0) (ν ∷ []) R .own (x δ ys) (s ∷ [])) ⊛ (‵ (flft κ₂ q₂) ⊛ ‵ OwnG))) ∷ []) ∵
+      split ! $ move ! (1 ∷ []) $ split ! $ move ! (1 ∷ []) $ split ! $
+      -- [the second token; the plain slice; the table; its token]
+      nothing ! $ move ! (1 ∷ 0 ∷ []) $ join ! $ move ! (3 ∷ 0 ∷ []) $ join ! $
+      nothing ! $ owned ! usize (Is usize) (uint-makes 𝓤 H A W w64) n _ (refl, fn) $ fjoin ! $ owned ! usize (Is usize) (uint-makes 𝓤 H A W w64) i₀ _ (refl, fi) $ fjoin ! $
+      move ! (2 ∷ 0 ∷ []) $ fjoin ! $ move ! (2 ∷ 0 ∷ []) $ fjoin ! $ move ! (1 ∷ 0 ∷ []) $ join ! $ frame ! $ done !
 
   -- `find` is handed the table as a `&`, for the lifetime ν, under the name δ
   abbrev to-find : ℕ → GName → Find 𝓤 H A mem run .Ghost
@@ -157,25 +149,25 @@ module _ {M : Type 1} (𝓤 : URA M) (H : Heap 𝓤) (A : Atoms 𝓤) (W : Given
       qed W [] ∵ nothing ! $ owned ! usize (Is usize) (uint-makes 𝓤 H A W w64) h _ (refl, fh) $ fjoin ! $ owned ! usize (Is usize) (uint-makes 𝓤 H A W w64) k _ (refl, fk) $ fjoin ! $ nothing ! $ join ! $ frame ! $ done !
 
   module _ (C : Calls 𝓤 H) (Λ : Loops 𝓤 H) (fm : FmC 𝓤 H (W .laws) C) (known-all : Triple 𝓤 (C #enter-all) (EnterAll 𝓤 H A mem run)) (known-find : Triple 𝓤 (C #find) (Find 𝓤 H A mem run)) (known-count : Triple 𝓤 (C #count-from) (CountFrom 𝓤 H A mem run)) where
-    walk : ent 𝓤 (onEntry 𝓤 H A f.signature (κ, (κ₂, (κ₃, tt))) (q, (q₂, (q₃, tt))) a at) (WpFn 𝓤 H C Λ code.function (s ∷ s₂ ∷ s₃ ∷ vint w64 n ∷ vint w16 l ∷ vint w16 r ∷ []) Post)
+    walk : ent 𝓤 (onEntry 𝓤 H A f.signature (κ, (κ₂, tt)) (q, (q₂, tt)) a at) (WpFn 𝓤 H C Λ code.function (s ∷ s₂ ∷ vint w64 i₀ ∷ vint w64 n ∷ vint w16 l ∷ vint w16 r ∷ []) Post)
     walk =
-        qed W ((‵ (flft κ q) ⊛ (‵ (flft κ₂ q₂) ⊛ (‵ (flft κ₃ q₃) ⊛ ‵ ftrue))) ∷ ‵ (fsep (OwnT ys) (fsep OwnL (fsep OwnR Others))) ∷ []) ∵ enter ! C Λ code.function (s ∷ s₂ ∷ s₃ ∷ vint w64 n ∷ vint w16 l ∷ vint w16 r ∷ []) _ $
+        qed W ((‵ (flft κ q) ⊛ (‵ (flft κ₂ q₂) ⊛ ‵ ftrue)) ∷ ‵ (fsep (OwnT ys) (fsep OwnG Others)) ∷ []) ∵ enter ! C Λ code.function (s ∷ s₂ ∷ vint w64 i₀ ∷ vint w64 n ∷ vint w16 l ∷ vint w16 r ∷ []) _ $
         alloc1 ! (λ l₀. alloc1 ! (λ l₁. alloc1 ! (λ l₂. alloc1 ! (λ l₃. alloc1 ! (λ l₄. alloc1 ! (λ l₅. alloc1 ! (λ l₆. alloc1 ! (λ l₇. alloc1 ! (λ l₈. alloc1 ! (λ l₉. alloc1 ! (λ l₁₀. alloc1 ! (λ l₁₁. alloc1 ! (λ l₁₂. alloc0 ! $ params1 ! $
-        pass1 ! (init ! 22 refl (tt, (tt, (record { fits = gn .0 }, tt)))) $ pass1 ! (init ! 20 refl (tt, (tt, (record { fits = gl .0 }, tt)))) $ pass1 ! (init ! 18 refl (tt, (tt, (record { fits = gr .0 }, tt)))) $
+        pass1 ! (init ! 22 refl (tt, (tt, (record { fits = gn .0 }, tt)))) $ pass1 ! (init ! 20 refl (tt, (tt, (record { fits = gl .0 }, tt)))) $ pass1 ! (init ! 18 refl (tt, record { fits = fi })) $
         pass1 ! (init ! 16 refl (tt, record { fits = fn })) $ pass1 ! (init ! 14 refl (tt, record { fits = fl })) $ pass1 ! (init ! 12 refl (tt, record { fits = fr })) $ pass0 ! $
         -- [0 _12; 2 _11; 4 _10; 6 _9; 8 _8; 10 _7; 12 _6; 14 _5; 16 _4; 18 _3; 20 _2; 22 _1; 24 _0; 26 the tokens; 27 what the parameters own]: _9 = &mut *table; _10 = the slice of it
         assigns ! (addr ! (from ! (fld ! refl (hop ! (look-in ! 22 (sub ! 0 refl (whole !))) (stop !))))) (from ! (stop !)) (init ! 6 refl (tt, tt)) $
         assigns ! (agg ! (and-then ! (load ! (from ! (stop !)) (look ! 6 refl)) (and-then ! (load ! (from ! (fld ! refl (stop !))) (look-in ! 22 (sub ! 1 refl (whole !)))) (no-more !)))) (from ! (stop !)) (init ! 4 refl (tt, (tt, (record { fits = gn .0 }, tt)))) $
-        move ! (27 ∷ []) $ fsplit ! $ move ! (1 ∷ []) $ fsplit ! $ move ! (1 ∷ []) $ fsplit ! $ move ! (1 ∷ []) $ drop ! $ move ! (29 ∷ []) $ split ! $ move ! (1 ∷ []) $ split ! $ move ! (1 ∷ []) $ split ! $ move ! (1 ∷ []) $ drop ! $
-        -- [the third, the second and the first token; the rights; the lefts; the table; 6 _12; …]
-        lft-new ! tt (λ ν. move ! (6 ∷ 3 ∷ []) $
+        move ! (27 ∷ []) $ fsplit ! $ move ! (1 ∷ []) $ fsplit ! $ move ! (1 ∷ []) $ drop ! $ move ! (28 ∷ []) $ split ! $ move ! (1 ∷ []) $ split ! $ move ! (1 ∷ []) $ drop ! $
+        -- [the second and the first token; the plain slice; the table; 4 _12; …]
+        lft-new ! tt (λ ν. move ! (4 ∷ 2 ∷ []) $
         use2 W (later (some (λ (δ : GName). ‵ (MutSlice (named 0) (ν ∷ []) R .own (x δ ys) (s ∷ [])) ⊛ ‵ (LentAgain R κ (ν ∷ []) q γ b o δ ys)))) (lends-again R κ (ν ∷ []) q γ b o 𝓤 H A W (named 0) (named 0) ys) $ await ! tt $ pick ! (λ δ. split ! $
-        -- [the table; what is kept; its token; the third and the second token; the rights; the lefts; 7 _12; …]
-        move ! (2 ∷ 0 ∷ 4 ∷ 3 ∷ 6 ∷ 5 ∷ []) $ group ! 6 $ use1 W (raw (EnterAll 𝓤 H A mem run .pre (to-all ν δ))) (goes-all ν δ) $
+        -- [the table; what is kept; its token; the second token; the plain slice; 5 _12; …]
+        move ! (2 ∷ 0 ∷ 3 ∷ 4 ∷ []) $ group ! 4 $ use1 W (raw (EnterAll 𝓤 H A mem run .pre (to-all ν δ))) (goes-all ν δ) $
         -- [`enter_all`'s pre; what is kept; 2 _12; 4 _11; 6 _10; 8 _9; 10 _8; 12 _7; 14 _6; 16 _5; 18 _4; 20 _3; 22 _2; 24 _1; 26 _0]
         calls-at ! fm (EnterAll 𝓤 H A mem run) known-all (to-all ν δ) (and-then ! (load ! (from ! (stop !)) (look ! 6 refl)) (and-then ! (load ! (from ! (stop !)) (look ! 22 refl)) (and-then ! (load ! (from ! (stop !)) (look ! 20 refl)) (and-then ! (load ! (from ! (stop !)) (look ! 18 refl)) (no-more !))))) (λ w.
-        use1 W (later (some (λ (j : ℕ). ((‵ (flft (ν ∷ []) fullShare) ⊛ (‵ (flft κ₂ q₂) ⊛ (‵ (flft κ₃ q₃) ⊛ ‵ ftrue))) ⊛ ‵ (usize .own j (w ∷ []))) ⊛ raw (ensured 𝓤 H A all′.ended (all′.clauses 𝓤 H A mem run) (ν ∷ [], (κ₂, (κ₃, tt))) (x δ ys, (y₂, (y₃, (n, tt)))) tt j)))) (id⊢ 𝓤 _) $ await ! tt $ pick ! (λ j.
-        split ! $ move ! (1 ∷ []) $ use1 W (some (λ (us : Last). ‵ (lasts all′.ended (ν ∷ [], (κ₂, (κ₃, tt))) (x δ ys, (y₂, (y₃, (n, tt)))) us) ⊛ raw (fact 𝓤 ((j ≡ h) × (us .0 ≡ ts))))) (id⊢ 𝓤 _) $ pick ! (λ us.
+        use1 W (later (some (λ (j : ℕ). ((‵ (flft (ν ∷ []) fullShare) ⊛ (‵ (flft κ₂ q₂) ⊛ ‵ ftrue)) ⊛ ‵ (usize .own j (w ∷ []))) ⊛ raw (ensured 𝓤 H A all′.ended (all′.clauses 𝓤 H A mem run) (ν ∷ [], (κ₂, tt)) (x δ ys, (y₂, (i₀, (n, tt)))) tt j)))) (id⊢ 𝓤 _) $ await ! tt $ pick ! (λ j.
+        split ! $ move ! (1 ∷ []) $ use1 W (some (λ (us : Last). ‵ (lasts all′.ended (ν ∷ [], (κ₂, tt)) (x δ ys, (y₂, (i₀, (n, tt)))) us) ⊛ raw (fact 𝓤 ((j ≡ h) × (us .0 ≡ ts))))) (id⊢ 𝓤 _) $ pick ! (λ us.
         split ! $ move ! (1 ∷ []) $ heard ! ((j ≡ h) × (us .0 ≡ ts)) (λ e. fsplit ! $ fsplit ! $ move ! (1 ∷ []) $ feqL ! (λ same.
         -- [the last list; …; the tokens and the result; what is kept; _12; …]
         move ! (2 ∷ []) $ split ! $ move ! (1 ∷ []) $ facts ! usize (Is usize) (shows 𝓤 H A usize) j (w ∷ []) (λ is.
@@ -222,22 +214,22 @@ module _ {M : Type 1} (𝓤 : URA M) (H : Heap 𝓤) (A : Atoms 𝓤) (W : Given
     (known-all : Triple 𝓤 (𝓣 .C #enter-all) (EnterAll 𝓤 H A mem run)) (known-find : Triple 𝓤 (𝓣 .C #find) (Find 𝓤 H A mem run)) (known-count : Triple 𝓤 (𝓣 .C #count-from) (CountFrom 𝓤 H A mem run)) where
   graph-walks : Walks 𝓤 H A f.ended stayed (WpFn 𝓤 H (𝓣 .C) (𝓣 .Λ) code.function) (f.clauses 𝓤 H A mem run)
   graph-walks = walked 𝓤 H A f.ended stayed (f.clauses 𝓤 H A mem run) (WpFn 𝓤 H (𝓣 .C) (𝓣 .Λ) code.function)
-      (λ κs. (slice-vals, (slice-vals, (slice-vals, (uint-vals w64, (uint-vals w16, (uint-vals w16, tt)))))))
-      (λ κs. (mut-slice-tells (named 0) (κs .0) R, (shr-slice-tells (named 1) (κs .1 .0) u16, (shr-slice-tells (named 2) (κs .1 .1 .0) u16, (uint-tells w64, (uint-tells w16, (uint-tells w16, tt)))))))
+      (λ κs. (slice-vals, (slice-vals, (uint-vals w64, (uint-vals w64, (uint-vals w16, (uint-vals w16, tt)))))))
+      (λ κs. (mut-slice-tells (named 0) (κs .0) R, (shr-slice-tells (named 1) (κs .1 .0) u16, (uint-tells w64, (uint-tells w64, (uint-tells w16, (uint-tells w16, tt)))))))
       (λ κs qs bounds a g are. via 𝓤 _ (fst∗ 𝓤 _ (emp 𝓤))
-      (walk 𝓤 H A W mem run (κs .0) (κs .1 .0) (κs .1 .1 .0) (qs .0) (qs .1 .0) (qs .1 .1 .0) (a .0 .ptr .0) (a .0 .ptr .1) (a .0 .name) (a .0 .now) (a .1 .0 .ptr .0) (a .1 .0 .ptr .1) (a .1 .0 .name) (a .1 .0 .now)
-      (a .1 .1 .0 .ptr .0) (a .1 .1 .0 .ptr .1) (a .1 .1 .0 .name) (a .1 .1 .0 .now) (a .1 .1 .1 .0) (a .1 .1 .1 .1 .0) (a .1 .1 .1 .1 .1 .0)
-      (are .0 .0 .1) (are .1 .0 .0 .1) (are .1 .1 .0 .0 .1) (are .1 .1 .1 .0 .1) (are .1 .1 .1 .1 .0 .1) (are .1 .1 .1 .1 .1 .0 .1) (𝓣 .C) (𝓣 .Λ) (fmOf 𝓤 H (W .laws) 𝓣) known-all known-find known-count))
+      (walk 𝓤 H A W mem run (κs .0) (κs .1 .0) (qs .0) (qs .1 .0) (a .0 .ptr .0) (a .0 .ptr .1) (a .0 .name) (a .0 .now) (a .1 .0 .ptr .0) (a .1 .0 .ptr .1) (a .1 .0 .name) (a .1 .0 .now)
+      (a .1 .1 .0) (a .1 .1 .1 .0) (a .1 .1 .1 .1 .0) (a .1 .1 .1 .1 .1 .0)
+      (are .0 .0 .1) (are .1 .0 .0 .1) (are .1 .1 .0 .1) (are .1 .1 .1 .0 .1) (are .1 .1 .1 .1 .0 .1) (are .1 .1 .1 .1 .1 .0 .1) (𝓣 .C) (𝓣 .Λ) (fmOf 𝓤 H (W .laws) 𝓣) known-all known-find known-count))
 
   graph-meets : Meets 𝓤 H A f.signature (WpFn 𝓤 H (𝓣 .C) (𝓣 .Λ) code.function) (f.spec 𝓤 H A mem run)
   graph-meets =
       walk-meets 𝓤 H A f.ended stayed W (
-        goes-slice 𝓤 H A W 3 0 tt (plain (λ _. R)),
+        goes-slice 𝓤 H A W 2 0 tt (plain (λ _. R)),
         (
-          goes-dropped 𝓤 H A W 3 (shrSliceOf (1 ∷ []) tt (plain (λ _. u16))) yes (λ κs x f. refl),
+          goes-dropped 𝓤 H A W 2 (shrSliceOf (1 ∷ []) tt (plain (λ _. u16))) yes (λ κs x f. refl),
           (
-            goes-dropped 𝓤 H A W 3 (shrSliceOf (2 ∷ []) tt (plain (λ _. u16))) yes (λ κs x f. refl),
-            (goes-dropped 𝓤 H A W 3 (plain (λ _. usize)) yes (λ κs x f. refl), (goes-dropped 𝓤 H A W 3 (plain (λ _. u16)) yes (λ κs x f. refl), (goes-dropped 𝓤 H A W 3 (plain (λ _. u16)) yes (λ κs x f. refl), tt))),
+            goes-dropped 𝓤 H A W 2 (plain (λ _. usize)) yes (λ κs x f. refl),
+            (goes-dropped 𝓤 H A W 2 (plain (λ _. usize)) yes (λ κs x f. refl), (goes-dropped 𝓤 H A W 2 (plain (λ _. u16)) yes (λ κs x f. refl), (goes-dropped 𝓤 H A W 2 (plain (λ _. u16)) yes (λ κs x f. refl), tt))),
           ),
         ),
       )

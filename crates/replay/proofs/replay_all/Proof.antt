@@ -8,11 +8,11 @@ use Rattle.replay.proofs.replay_all.Statement.{statement}
 use Rattle.replay.proofs.replay_all.Tie as tie
 
 abbrev Inv-loop : tie.InvT-loop
-Inv-loop input₀ expected₀ lefts₀ rights₀ index₀ pairs₀ terms₀ runs₀ out₀ t₀ input expected lefts rights index pairs terms runs out t =
-    (length input ≡ length input₀) × (length expected ≡ length expected₀) × (length lefts ≡ length lefts₀) × (length rights ≡ length rights₀) × (length index ≡ length index₀) × (length pairs ≡ length pairs₀) × (length terms ≡ length terms₀) × (length runs ≡ length runs₀) × (length out ≡ length out₀) × (t .same ≤ t .all) × (t .all + t .left ≤ 1000000)
+Inv-loop input₀ expected₀ lefts₀ rights₀ index₀ pairs₀ terms₀ runs₀ out₀ t₀ input expected graph pairs work flow terms runs out t =
+    (length input ≡ length input₀) × (length expected ≡ length expected₀) × (length graph ≡ length lefts₀) × (length pairs ≡ length rights₀) × (length work ≡ length index₀) × (length flow ≡ length pairs₀) × (length terms ≡ length terms₀) × (length runs ≡ length runs₀) × (length out ≡ length out₀) × (t .same ≤ t .all) × (t .all + t .left ≤ 1000000)
 
 abbrev μ-loop : tie.MeasureT-loop
-μ-loop input₀ expected₀ lefts₀ rights₀ index₀ pairs₀ terms₀ runs₀ out₀ t₀ input expected lefts rights index pairs terms runs out t =
+μ-loop input₀ expected₀ lefts₀ rights₀ index₀ pairs₀ terms₀ runs₀ out₀ t₀ input expected graph pairs work flow terms runs out t =
     t .left
 
 loop-holds : tie.Need-loop-holds Inv-loop μ-loop

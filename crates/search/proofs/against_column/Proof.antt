@@ -1,19 +1,17 @@
-use Rattle.search.proofs.Laws.{column-start}
-use Rattle.search.proofs.Laws.{column-first, column-next, column-cell}
-use Rattle.search.proofs.Laws.{column-turn, column-end}
+use Rattle.search.proofs.Laws.{column-start, column-first, column-next, column-cell, column-turn, column-end}
 use Rattle.wide.specs.declared.Wide.{Wide}
-use Rattle.search.specs.Net.{againstColumn}
 use borrow.Author.Needs.{needs}
 use Prim.Native.Nat.{ℕ, _≤_, _-_, _+_, _*_}
 use native.Mathlib.Omega.{arith}
 use mathlib.Core.Path.{_≡_, ap, sym, _∙_}
 use mathlib.Core.List.{List}
 use Rattle.search.proofs.against_column.Statement.{statement}
+use Rattle.search.specs.Edges.{againstColumn}
 use Rattle.search.proofs.against_column.Tie as tie
 use Rattle.search.proofs.against_column.Reads as reads
 use Rattle.search.proofs.against_column.Lts as lts
 use Rattle.search.proofs.against_cell.Reads as against-cell-reads
-use Rattle.search.proofs.label.Reads as label-reads
+use Rattle.labels.proofs.label.Reads as label-reads
 
 abbrev Inv-loop : tie.InvT-loop
 Inv-loop costs flow net₀ c n k u v d at₀ i₀ net at i = (i ≤ n) × (at ≡ k + i * c) × (againstColumn costs flow c u d (n - i) at (v + i) net ≡ againstColumn costs flow c u d n k v net₀)

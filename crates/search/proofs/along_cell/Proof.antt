@@ -1,16 +1,16 @@
 use Rattle.search.proofs.Laws.{cell-yes, cell-not}
 use Rattle.wide.specs.Wrap.{addWords}
 use Rattle.wide.specs.declared.Wide.{Wide}
-use Rattle.search.specs.Net.{relaxed}
 use Prim.Native.Nat.{_-_}
 use mathlib.Core.Path.{ap, _∙_}
 use borrow.Author.Needs.{needs}
 use Rattle.search.proofs.along_cell.Statement.{statement}
+use Rattle.labels.specs.Net.{relaxed}
 use Rattle.search.proofs.along_cell.Tie as tie
 use Rattle.search.proofs.along_cell.Reads as reads
 use Rattle.search.proofs.along_cell.Lts as lts
-use Rattle.search.proofs.cost.Reads as cost-reads
-use Rattle.search.proofs.relax.Reads as relax-reads
+use Rattle.cost_matrix.proofs.cost.Reads as cost-reads
+use Rattle.labels.proofs.relax.Reads as relax-reads
 use Rattle.wide.proofs.Wide.wrapping_add.Reads as wrapping-add-reads
 
 mul-if1 : tie.Need-mul-if1

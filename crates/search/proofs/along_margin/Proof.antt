@@ -7,7 +7,7 @@ use Rattle.search.proofs.along_margin.Statement.{statement}
 use Rattle.search.proofs.along_margin.Tie as tie
 use Rattle.search.proofs.along_margin.Reads as reads
 use Rattle.search.proofs.along_margin.Lts as lts
-use Rattle.search.proofs.relax.Reads as relax-reads
+use Rattle.labels.proofs.relax.Reads as relax-reads
 
 relax-requires : tie.Need-relax-requires
 relax-requires c κs = search needs

@@ -1,18 +1,17 @@
-use Rattle.search.proofs.Laws.{row-start}
-use Rattle.search.proofs.Laws.{row-turn, row-end}
+use Rattle.search.proofs.Laws.{row-start, row-turn, row-end}
 use Rattle.wide.specs.declared.Wide.{Wide}
-use Rattle.search.specs.Net.{alongRow}
 use borrow.Author.Needs.{needs}
 use Prim.Native.Nat.{ℕ, _≤_, _-_, _+_}
 use native.Mathlib.Omega.{arith}
 use mathlib.Core.Path.{_≡_, ap, sym, _∙_}
 use mathlib.Core.List.{List}
 use Rattle.search.proofs.along_row.Statement.{statement}
+use Rattle.search.specs.Edges.{alongRow}
 use Rattle.search.proofs.along_row.Tie as tie
 use Rattle.search.proofs.along_row.Reads as reads
 use Rattle.search.proofs.along_row.Lts as lts
 use Rattle.search.proofs.along_cell.Reads as along-cell-reads
-use Rattle.search.proofs.label.Reads as label-reads
+use Rattle.labels.proofs.label.Reads as label-reads
 
 abbrev Inv-loop : tie.InvT-loop
 Inv-loop costs flow net₀ n k u v d i₀ net i = (i ≤ n) × (alongRow costs flow u d (n - i) (k + i) (v + i) net ≡ alongRow costs flow u d n k v net₀)

@@ -1,16 +1,17 @@
 use Rattle.search.proofs.SearchLoop.{Searching, begins, turn, ends, not-reached, reached, Ran, ran-start, ran-turn, ran-end, searched-net, unseen-sink, seen-sink}
 use Rattle.search.specs.Fits.{none-left}
 use Rattle.search.specs.Holds.{Ready}
-use Rattle.search.specs.Net.{firstOf, visited, left, measure}
 use borrow.Author.Needs.{needs}
 use Prim.Native.Nat.{_-_, _+_}
 use mathlib.Core.Path.{_≡_, _∙_}
 use Rattle.search.proofs.search.Statement.{statement}
+use Rattle.labels.specs.Net.{firstOf, left}
+use Rattle.search.specs.Edges.{visited, measure}
 use Rattle.search.proofs.search.Tie as tie
 use Rattle.search.proofs.search.Reads as reads
 use Rattle.search.proofs.search.Lts as lts
-use Rattle.search.proofs.begin.Reads as begin-reads
-use Rattle.search.proofs.leave.Reads as leave-reads
+use Rattle.labels.proofs.begin.Reads as begin-reads
+use Rattle.labels.proofs.leave.Reads as leave-reads
 use Rattle.search.proofs.visit.Reads as visit-reads
 
 abbrev Inv-loop : tie.InvT-loop

@@ -1,18 +1,17 @@
-use Rattle.search.proofs.Laws.{spread-start}
-use Rattle.search.proofs.Laws.{spread-turn, spread-end}
+use Rattle.search.proofs.Laws.{spread-start, spread-turn, spread-end}
 use Rattle.wide.specs.declared.Wide.{Wide}
-use Rattle.search.specs.Net.{spreadTo}
 use borrow.Author.Needs.{needs}
 use Prim.Native.Nat.{ℕ, _≤_, _-_, _+_}
 use native.Mathlib.Omega.{arith}
 use mathlib.Core.Path.{_≡_, ap, sym, _∙_}
 use mathlib.Core.List.{List}
 use Rattle.search.proofs.spread.Statement.{statement}
+use Rattle.search.specs.Edges.{spreadTo}
 use Rattle.search.proofs.spread.Tie as tie
 use Rattle.search.proofs.spread.Reads as reads
 use Rattle.search.proofs.spread.Lts as lts
 use Rattle.search.proofs.along_margin.Reads as along-margin-reads
-use Rattle.search.proofs.label.Reads as label-reads
+use Rattle.labels.proofs.label.Reads as label-reads
 
 abbrev Inv-loop : tie.InvT-loop
 Inv-loop left net₀ n k u v d i₀ net i = (i ≤ n) × (spreadTo left u d (n - i) (k + i) (v + i) net ≡ spreadTo left u d n k v net₀)

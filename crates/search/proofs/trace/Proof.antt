@@ -1,5 +1,5 @@
 use Rattle.search.proofs.Walks.{Walking, walk-start, walk-facts, walk-turn, walk-end}
-use Rattle.search.specs.Walk.{walkedPath}
+use Rattle.search.specs.Walk.{walkedPath, LAST}
 use borrow.Author.Needs.{needs}
 use Prim.Native.Nat.{ℕ, _-_}
 use native.Mathlib.Omega.{arith}
@@ -49,7 +49,7 @@ returns c =
     let l = c .before .loop in
     let a = c .before .before .before .before .args in
     let e = walk-end (a .net .now) (a .t) (c .before .before .put-node .last .0) (l .path) (l .at) (l .v) (l .inv) (c .loop-test .left) in
-    (l .inv .low, l .inv .size, e .0, e .1, e .2 ∙ ap (λ (z : List ℕ). walkedPath (a .net .now) 131 (a .t) z) (c .before .before .put-node .ensures))
+    (l .inv .low, l .inv .size, e .0, e .1, e .2 ∙ ap (λ (z : List ℕ). walkedPath (a .net .now) LAST (a .t) z) (c .before .before .put-node .ensures))
 
 pub trace-spec : {M : Type 1} → statement M
 trace-spec =

@@ -1,7 +1,5 @@
-use Rattle.search.specs.Fits.{row-fits}
 use Rattle.search.proofs.Laws.{visited-source, visited-row, visited-column, visited-sink}
 use Rattle.wide.specs.declared.Wide.{Wide}
-use Rattle.search.specs.Net.{labelOf, alongMargin, againstColumn, left}
 use Prim.Native.Nat.{ℕ, _-_, _+_}
 use native.Mathlib.Omega.{arith}
 use mathlib.Core.Path.{_≡_, ap, _∙_}
@@ -9,13 +7,17 @@ use mathlib.Core.List.{List}
 use lib.ListN.{getD}
 use borrow.Author.Needs.{needs}
 use Rattle.search.proofs.visit.Statement.{statement}
+use Rattle.cost_matrix.specs.Places.{row-fits}
+use Rattle.labels.specs.Net.{labelOf, left}
+use Rattle.search.specs.Edges.{alongMargin, againstColumn}
+use Rattle.spec.specs.Transport.{WIDEST}
 use Rattle.search.proofs.visit.Tie as tie
 use Rattle.search.proofs.visit.Reads as reads
 use Rattle.search.proofs.visit.Lts as lts
 use Rattle.search.proofs.against_column.Reads as against-column-reads
 use Rattle.search.proofs.along_margin.Reads as along-margin-reads
 use Rattle.search.proofs.along_row.Reads as along-row-reads
-use Rattle.search.proofs.label.Reads as label-reads
+use Rattle.labels.proofs.label.Reads as label-reads
 use Rattle.search.proofs.spread.Reads as spread-reads
 
 spread-requires : tie.Need-spread-requires
@@ -80,8 +82,8 @@ against-column-requires c κs = search needs
 
 returns-3 : tie.Need-returns-3
 returns-3 c = let a = c .before .before .before .before .before .before .before .before .before .before .before .before .args in
-    let t = alongMargin (getD (a .left .now) (65 + (a .u - 1 - a .r)) 0) (a .net .now) (a .u) (1 + a .r + a .c) (labelOf (a .net .now) (a .u)) in
-    let e : c .before .before .along-margin .last .0 ≡ t = c .before .before .along-margin .ensures ∙ ap (λ (w : Wide). alongMargin (getD (a .left .now) (65 + (a .u - 1 - a .r)) 0) (a .net .now) (a .u) (1 + a .r + a .c) w) (c .before .before .before .before .before .label .ensures) in
+    let t = alongMargin (getD (a .left .now) (WIDEST + (a .u - 1 - a .r)) 0) (a .net .now) (a .u) (1 + a .r + a .c) (labelOf (a .net .now) (a .u)) in
+    let e : c .before .before .along-margin .last .0 ≡ t = c .before .before .along-margin .ensures ∙ ap (λ (w : Wide). alongMargin (getD (a .left .now) (WIDEST + (a .u - 1 - a .r)) 0) (a .net .now) (a .u) (1 + a .r + a .c) w) (c .before .before .before .before .before .label .ensures) in
     c .against-column .ensures
     ∙ ap (λ (m : List ℕ). againstColumn (a .costs .now) (a .flow .now) (a .c) (a .u) (labelOf m (a .u)) (a .r) (a .u - 1 - a .r) 1 m) e
     ∙ visited-column (a .costs .now) (a .flow .now) (a .left .now) (a .r) (a .c) (a .u) (a .net .now) (c .before .before .before .before .before .before .before .before .before .if1 .left) (omega arith) (omega arith)

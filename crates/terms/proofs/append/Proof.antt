@@ -12,10 +12,10 @@ use Rattle.terms.proofs.append.Statement.{statement}
 use Rattle.terms.proofs.append.Tie as tie
 use Rattle.terms.proofs.append.Reads as reads
 use Rattle.terms.proofs.append.Lts as lts
-use Rattle.terms.proofs.put8.Reads as put8-reads
+use Rattle.numbers.proofs.put_u64.Reads as put-u64-reads
 
-put8-requires : tie.Need-put8-requires
-put8-requires c κs = search needs
+put-u64-requires : tie.Need-put-u64-requires
+put-u64-requires c κs = search needs
 
 same-length : tie.Need-same-length
 same-length c = search needs
@@ -24,7 +24,7 @@ returns : tie.Need-returns
 returns c =
     let b = c .before .before .before .before .before .before in
     let a = b .args in
-    rw (c .before .before .put8 .ensures, c .before .before .before .before .if1 .taken) (append-none (a .list .now) (a .x) (omega (arith, b .pre .0)))
+    rw (c .before .before .put-u64 .ensures, c .before .before .before .before .if1 .taken) (append-none (a .list .now) (a .x) (omega (arith, b .pre .0)))
 
 sub-y : tie.Need-sub-y
 sub-y c = search needs
@@ -35,20 +35,20 @@ mul-y c = search needs
 slice-read-y : tie.Need-slice-read-y
 slice-read-y c = search needs
 
-sub-put8 : tie.Need-sub-put8
-sub-put8 c = search needs
+sub-put-u64 : tie.Need-sub-put-u64
+sub-put-u64 c = search needs
 
-mul-put8 : tie.Need-mul-put8
-mul-put8 c = search needs
+mul-put-u64 : tie.Need-mul-put-u64
+mul-put-u64 c = search needs
 
-add-put8 : tie.Need-add-put8
-add-put8 c =
+add-put-u64 : tie.Need-add-put-u64
+add-put-u64 c =
     let b = c .before .before .before .before .before in
     let a = b .args in
     omega (arith, append-fits (a .list .now) (a .x) (a .m) (omega (arith, c .before .before .before .if1 .left)) (b .pre .1))
 
-put8-requires-2 : tie.Need-put8-requires-2
-put8-requires-2 c κs = search needs
+put-u64-requires-2 : tie.Need-put-u64-requires-2
+put-u64-requires-2 c κs = search needs
 
 same-length-2 : tie.Need-same-length-2
 same-length-2 c = search needs
@@ -57,10 +57,10 @@ returns-2 : tie.Need-returns-2
 returns-2 c =
     let b = c .before .before .before .before .before .before .before .before in
     let a = b .args in
-    rw (c .before .before .put82 .ensures) (append-same (a .list .now) (a .x) (a .m) (omega (arith, c .before .before .before .before .before .before .if1 .left)) (omega (arith, b .pre .0)) (c .before .before .before .before .if2 .taken))
+    rw (c .before .before .put-u642 .ensures) (append-same (a .list .now) (a .x) (a .m) (omega (arith, c .before .before .before .before .before .before .if1 .left)) (omega (arith, b .pre .0)) (c .before .before .before .before .if2 .taken))
 
-put8-requires-3 : tie.Need-put8-requires-3
-put8-requires-3 c κs = search needs
+put-u64-requires-3 : tie.Need-put-u64-requires-3
+put-u64-requires-3 c κs = search needs
 
 add-result : tie.Need-add-result
 add-result c = search needs
@@ -72,25 +72,25 @@ returns-3 : tie.Need-returns-3
 returns-3 c =
     let b = c .before .before .before .before .before .before .before .before in
     let a = b .args in
-    rw (c .before .before .put83 .ensures) (append-other (a .list .now) (a .x) (a .m) (omega (arith, c .before .before .before .before .before .before .if1 .left)) (b .pre .0) (c .before .before .before .before .if2 .left))
+    rw (c .before .before .put-u643 .ensures) (append-other (a .list .now) (a .x) (a .m) (omega (arith, c .before .before .before .before .before .before .if1 .left)) (b .pre .0) (c .before .before .before .before .if2 .left))
 
 pub append-spec : {M : Type 1} → statement M
 append-spec =
     tie.close
     (tie.spec
-    put8-requires
+    put-u64-requires
     same-length
     returns
     sub-y
     mul-y
     slice-read-y
-    sub-put8
-    mul-put8
-    add-put8
-    put8-requires-2
+    sub-put-u64
+    mul-put-u64
+    add-put-u64
+    put-u64-requires-2
     same-length-2
     returns-2
-    put8-requires-3
+    put-u64-requires-3
     add-result
     same-length-3
     returns-3)

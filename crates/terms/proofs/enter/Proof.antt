@@ -18,7 +18,7 @@ use Rattle.terms.proofs.count.Reads as count-reads
 use Rattle.terms.proofs.first.Reads as first-reads
 use Rattle.terms.proofs.put_chain.Reads as put-chain-reads
 use Rattle.terms.proofs.put_term.Reads as put-term-reads
-use Rattle.terms.proofs.short.Reads as short-reads
+use Rattle.numbers.proofs.short_size.Reads as short-size-reads
 
 count-requires : tie.Need-count-requires
 count-requires c κs = search needs
@@ -32,11 +32,11 @@ copy-runs-requires c κs =
     let e = first-at (b .args .terms .now) (c .before .before .before .count .ensures .0) (c .before .first .ensures .0) in
     (omega (arith, b .pre .0 .roomy), omega arith)
 
-add-short : tie.Need-add-short
-add-short c = search needs
+add-short-size : tie.Need-add-short-size
+add-short-size c = search needs
 
-short-requires : tie.Need-short-requires
-short-requires c κs =
+short-size-requires : tie.Need-short-size-requires
+short-size-requires c κs =
     let b = c .before .before .before .before .before .before .before .before .before .before .before .before in
     let e = first-at (b .args .terms .now) (c .before .before .before .before .before .before .before .count .ensures .0) (c .before .before .before .before .before .first .ensures .0) in
     omega (arith, b .pre .2)
@@ -59,7 +59,7 @@ returns c =
     let b = c .before .before .before .before .before .before .before .before .before .before .before .before .before .before .before .before .before .before .before .before in
     let t = c .before .before .before .before .before .before .before .before .before .before .before .before .before .before .before .count .ensures .0 in
     let f = first-at (b .args .terms .now) t (c .before .before .before .before .before .before .before .before .before .before .before .before .before .first .ensures .0) in
-    (rw (c .before .before .put-chain .ensures, c .before .before .before .before .before .before .put-term .ensures, c .before .before .before .before .before .before .before .short .ensures, f, t) refl, rw (c .before .before .before .before .before .before .before .before .before .before .before .copy-runs .ensures, f) refl)
+    (rw (c .before .before .put-chain .ensures, c .before .before .before .before .before .before .put-term .ensures, c .before .before .before .before .before .before .before .short-size .ensures, f, t) refl, rw (c .before .before .before .before .before .before .before .before .before .before .before .copy-runs .ensures, f) refl)
 
 pub enter-spec : {M : Type 1} → statement M
 enter-spec =
@@ -68,8 +68,8 @@ enter-spec =
     count-requires
     first-requires
     copy-runs-requires
-    add-short
-    short-requires
+    add-short-size
+    short-size-requires
     put-term-requires
     put-chain-requires
     same-length

@@ -1,5 +1,6 @@
 use Rattle.terms.specs.InternLaws.{intern-found, intern-full-terms, intern-full-runs, intern-entered}
 use Rattle.terms.specs.PoolLaws.{first-at}
+use Rattle.query.specs.Settings.{limitsOf}
 use native.Mathlib.Omega.{arith}
 use mathlib.Core.Path.{_≡_}
 use borrow.Author.Needs.{needs}
@@ -19,8 +20,8 @@ key-requires c κs = search needs
 look-up-requires : tie.Need-look-up-requires
 look-up-requires c κs = search needs
 
-sub-t16 : tie.Need-sub-t16
-sub-t16 c = search needs
+sub-t17 : tie.Need-sub-t17
+sub-t17 c = search needs
 
 same-length : tie.Need-same-length
 same-length c = search needs
@@ -32,7 +33,7 @@ returns : tie.Need-returns
 returns c =
     let b = c .before .before .before .before .before .before .before .before in
     let a = b .args in
-    intern-found (a .terms .now) (a .runs .now) (a .list .now) (a .n) (a .h) (a .v) (b .pre .0) (c .before .look-up .result) (c .if1 .taken) (c .before .look-up .ensures)
+    intern-found (limitsOf (a .lim)) (a .terms .now) (a .runs .now) (a .list .now) (a .n) (a .h) (a .v) (b .pre .0) (c .before .look-up .result) (c .if1 .taken) (c .before .look-up .ensures)
 
 count-requires : tie.Need-count-requires
 count-requires c κs = search needs
@@ -45,20 +46,14 @@ same-length-4 c = search needs
 
 returns-2 : tie.Need-returns-2
 returns-2 c =
-    let b = c .before .before .before .before .before .before .before .before .before .before .before in
+    let b = c .before .before .before .before .before .before .before .before .before .before .before .before in
     let a = b .args in
-    let z : c .before .before .before .before .look-up .result ≡ 0 = omega (arith, c .before .before .before .if1 .left) in
-    let s = rw z at (c .before .before .before .before .look-up .ensures) in
-    intern-full-terms (a .terms .now) (a .runs .now) (a .list .now) (a .n) (a .h) (a .v) (b .pre .0) s (omega (arith, c .before .count .ensures .0, c .if2 .taken))
+    let z : c .before .before .before .before .before .look-up .result ≡ 0 = omega (arith, c .before .before .before .before .if1 .left) in
+    let s = rw z at (c .before .before .before .before .before .look-up .ensures) in
+    intern-full-terms (limitsOf (a .lim)) (a .terms .now) (a .runs .now) (a .list .now) (a .n) (a .h) (a .v) (b .pre .0) s (omega (arith, c .before .before .count .ensures .0, c .if2 .taken))
 
 first-requires : tie.Need-first-requires
 first-requires c κs = search needs
-
-sub-if3 : tie.Need-sub-if3
-sub-if3 c =
-    let b = c .before .before .before .before .before .before .before .before .before .before .before .before .before in
-    let e = first-at (b .args .terms .now) (c .before .before .before .count .ensures .0) (c .first .ensures .0) in
-    omega (arith, b .pre .0 .ends)
 
 same-length-5 : tie.Need-same-length-5
 same-length-5 c = search needs
@@ -68,22 +63,12 @@ same-length-6 c = search needs
 
 returns-3 : tie.Need-returns-3
 returns-3 c =
-    let f = c .before in
-    let b = f .before .before .before .before .before .before .before .before .before .before .before .before .before in
+    let b = c .before .before .before .before .before .before .before .before .before .before .before .before .before .before .before .before in
     let a = b .args in
-    let z : f .before .before .before .before .before .before .look-up .result ≡ 0 = omega (arith, f .before .before .before .before .before .if1 .left) in
-    let s = rw z at (f .before .before .before .before .before .before .look-up .ensures) in
-    let e = first-at (a .terms .now) (f .before .before .before .count .ensures .0) (f .first .ensures .0) in
-    intern-full-runs (a .terms .now) (a .runs .now) (a .list .now) (a .n) (a .h) (a .v) (b .pre .0) s (omega (arith, f .before .before .before .count .ensures .0, f .before .before .if2 .left)) (omega (arith, c .if3 .taken))
-
-add-if4 : tie.Need-add-if4
-add-if4 c = search needs
-
-mul-if4 : tie.Need-mul-if4
-mul-if4 c = search needs
-
-add-if4-2 : tie.Need-add-if4-2
-add-if4-2 c = search needs
+    let z : c .before .before .before .before .before .before .before .before .before .look-up .result ≡ 0 = omega (arith, c .before .before .before .before .before .before .before .before .if1 .left) in
+    let s = rw z at (c .before .before .before .before .before .before .before .before .before .look-up .ensures) in
+    let e = first-at (a .terms .now) (c .before .before .before .before .before .before .count .ensures .0) (c .before .before .first .ensures .0) in
+    intern-full-runs (limitsOf (a .lim)) (a .terms .now) (a .runs .now) (a .list .now) (a .n) (a .h) (a .v) (b .pre .0) s (omega (arith, c .before .before .before .before .before .before .count .ensures .0, c .before .before .before .before .if2 .left)) (omega (arith, c .if3 .taken))
 
 same-length-7 : tie.Need-same-length-7
 same-length-7 c = search needs
@@ -92,14 +77,24 @@ same-length-8 : tie.Need-same-length-8
 same-length-8 c = search needs
 
 returns-4 : tie.Need-returns-4
-returns-4 c = search needs
+returns-4 c =
+    let b = c .before .before .before .before .before .before .before .before .before .before .before .before .before .before .before .before .before .before in
+    let a = b .args in
+    let z : c .before .before .before .before .before .before .before .before .before .before .before .look-up .result ≡ 0 = omega (arith, c .before .before .before .before .before .before .before .before .before .before .if1 .left) in
+    let s = rw z at (c .before .before .before .before .before .before .before .before .before .before .before .look-up .ensures) in
+    let e = first-at (a .terms .now) (c .before .before .before .before .before .before .before .before .count .ensures .0) (c .before .before .before .before .first .ensures .0) in
+    intern-full-runs (limitsOf (a .lim)) (a .terms .now) (a .runs .now) (a .list .now) (a .n) (a .h) (a .v) (b .pre .0) s (omega (arith, c .before .before .before .before .before .before .before .before .count .ensures .0, c .before .before .before .before .before .before .if2 .left)) (omega (arith, c .before .before .if3 .left, c .if4 .taken))
 
-sub-if5 : tie.Need-sub-if5
-sub-if5 c =
-    let f = c .before .before in
-    let b = f .before .before .before .before .before .before .before .before .before .before .before .before .before in
-    let e = first-at (b .args .terms .now) (f .before .before .before .count .ensures .0) (f .first .ensures .0) in
-    omega (arith, b .pre .0 .roomy)
+enter-requires : tie.Need-enter-requires
+enter-requires c κs =
+    let b = c .before .before .before .before .before .before .before .before .before .before .before .before .before .before .before .before .before .before .before .before in
+    let t = c .before .before .before .before .before .before .before .before .before .before .count .ensures .0 in
+    let e = first-at (b .args .terms .now) t (c .before .before .before .before .before .before .first .ensures .0) in
+    let r = b .pre .4 in
+    let k = c .before .before .before .before .before .before .before .before .if2 .left in
+    let l = c .before .before .before .before .if3 .left in
+    let m = c .before .before .if4 .left in
+    (b .pre .0, omega (arith, r .few), omega (arith, r .ends), omega (arith, r .long), omega (arith, r .roomy), b .pre .2, c .before .before .before .before .before .before .before .before .before .before .before .before .before .before .before .before .key .ensures .1)
 
 same-length-9 : tie.Need-same-length-9
 same-length-9 c = search needs
@@ -108,33 +103,18 @@ same-length-10 : tie.Need-same-length-10
 same-length-10 c = search needs
 
 returns-5 : tie.Need-returns-5
-returns-5 c = search needs
-
-enter-requires : tie.Need-enter-requires
-enter-requires c κs =
-    let f = c .before .before .before .before .before in
-    let b = f .before .before .before .before .before .before .before .before .before .before .before .before .before in
-    let t = f .before .before .before .count .ensures .0 in
-    let e = first-at (b .args .terms .now) t (f .first .ensures .0) in
-    (b .pre .0, omega (arith, f .before .before .if2 .left), omega (arith, c .before .before .before .before .if3 .left, b .pre .0 .ends), omega (arith, c .before .before .before .if4 .left), omega (arith, c .before .before .if5 .left, b .pre .0 .roomy), b .pre .2, f .before .before .before .before .before .before .before .before .before .key .ensures .1)
-
-same-length-11 : tie.Need-same-length-11
-same-length-11 c = search needs
-
-same-length-12 : tie.Need-same-length-12
-same-length-12 c = search needs
-
-returns-6 : tie.Need-returns-6
-returns-6 c =
-    let f = c .before .before .before .before .before .before .before .before .before .before in
-    let b = f .before .before .before .before .before .before .before .before .before .before .before .before .before in
+returns-5 c =
+    let b = c .before .before .before .before .before .before .before .before .before .before .before .before .before .before .before .before .before .before .before .before .before .before .before .before .before in
     let a = b .args in
-    let z : f .before .before .before .before .before .before .look-up .result ≡ 0 = omega (arith, f .before .before .before .before .before .if1 .left) in
-    let s = rw z at (f .before .before .before .before .before .before .look-up .ensures) in
-    let t = f .before .before .before .count .ensures .0 in
-    let e = first-at (a .terms .now) t (f .first .ensures .0) in
+    let z : c .before .before .before .before .before .before .before .before .before .before .before .before .before .before .before .before .before .before .look-up .result ≡ 0 = omega (arith, c .before .before .before .before .before .before .before .before .before .before .before .before .before .before .before .before .before .if1 .left) in
+    let s = rw z at (c .before .before .before .before .before .before .before .before .before .before .before .before .before .before .before .before .before .before .look-up .ensures) in
+    let t = c .before .before .before .before .before .before .before .before .before .before .before .before .before .before .before .count .ensures .0 in
+    let e = first-at (a .terms .now) t (c .before .before .before .before .before .before .before .before .before .before .before .first .ensures .0) in
+    let k = c .before .before .before .before .before .before .before .before .before .before .before .before .before .if2 .left in
+    let l = c .before .before .before .before .before .before .before .before .before .if3 .left in
+    let m = c .before .before .before .before .before .before .before .if4 .left in
     rw (c .before .before .before .before .enter .ensures .0, c .before .before .before .before .enter .ensures .1, t)
-    (intern-entered (a .terms .now) (a .runs .now) (a .list .now) (a .n) (a .h) (a .v) (b .pre .0) s (omega (arith, f .before .before .if2 .left)) (omega (arith, c .before .before .before .before .before .before .before .before .before .if3 .left, b .pre .0 .ends)) (omega (arith, c .before .before .before .before .before .before .before .before .if4 .left)) (omega (arith, c .before .before .before .before .before .before .before .if5 .left, b .pre .0 .roomy)) (b .pre .3) (b .pre .1) (b .pre .2) (f .before .before .before .before .before .before .before .before .before .key .result) (f .before .before .before .before .before .before .before .before .before .key .ensures .0) (f .before .before .before .before .before .before .before .before .before .key .ensures .1))
+    (intern-entered (limitsOf (a .lim)) (a .terms .now) (a .runs .now) (a .list .now) (a .n) (a .h) (a .v) (b .pre .0) s (b .pre .4) (omega arith) (omega arith) (b .pre .3) (b .pre .1) (b .pre .2) (c .before .before .before .before .before .before .before .before .before .before .before .before .before .before .before .before .before .before .before .before .before .key .result) (c .before .before .before .before .before .before .before .before .before .before .before .before .before .before .before .before .before .before .before .before .before .key .ensures .0) (c .before .before .before .before .before .before .before .before .before .before .before .before .before .before .before .before .before .before .before .before .before .key .ensures .1))
 
 pub intern-spec : {M : Type 1} → statement M
 intern-spec =
@@ -142,7 +122,7 @@ intern-spec =
     (tie.spec
     key-requires
     look-up-requires
-    sub-t16
+    sub-t17
     same-length
     same-length-2
     returns
@@ -151,21 +131,13 @@ intern-spec =
     same-length-4
     returns-2
     first-requires
-    sub-if3
     same-length-5
     same-length-6
     returns-3
-    add-if4
-    mul-if4
-    add-if4-2
     same-length-7
     same-length-8
     returns-4
-    sub-if5
+    enter-requires
     same-length-9
     same-length-10
-    returns-5
-    enter-requires
-    same-length-11
-    same-length-12
-    returns-6)
+    returns-5)

@@ -16,7 +16,7 @@ use Rattle.terms.proofs.key.Reads as reads
 use Rattle.terms.proofs.key.Lts as lts
 use Rattle.terms.proofs.folded.Reads as folded-reads
 use Rattle.terms.proofs.mix.Reads as mix-reads
-use Rattle.terms.proofs.num8.Reads as num8-reads
+use Rattle.numbers.proofs.long_u32.Reads as long-u32-reads
 
 abbrev Inv-loop : tie.InvT-loop
 Inv-loop list n h v x₀ i₀ x i = (i ≤ n) × (x < 4294967296) × (fold (mixAll x (part list i (n - i))) ≡ keyOf h v (part list 0 n))
@@ -24,20 +24,20 @@ Inv-loop list n h v x₀ i₀ x i = (i ≤ n) × (x < 4294967296) × (fold (mixA
 abbrev μ-loop : tie.MeasureT-loop
 μ-loop list n h v x₀ i₀ x i = n - i
 
-num8-requires : tie.Need-num8-requires Inv-loop μ-loop
-num8-requires c κs = search needs
+long-u32-requires : tie.Need-long-u32-requires Inv-loop μ-loop
+long-u32-requires c κs = search needs
 
 mul-x : tie.Need-mul-x Inv-loop μ-loop
 mul-x c = search needs
 
-num8-requires-2 : tie.Need-num8-requires-2 Inv-loop μ-loop
-num8-requires-2 c κs = search needs
+long-u32-requires-2 : tie.Need-long-u32-requires-2 Inv-loop μ-loop
+long-u32-requires-2 c κs = search needs
 
 add-x : tie.Need-add-x Inv-loop μ-loop
 add-x c = search needs
 
 loop-holds : tie.Need-loop-holds Inv-loop μ-loop
-loop-holds c = let a = c .before .before .before .args in (omega arith, omega arith, key-start (a .list .now) (a .n) (c .before .num8 .ensures .0) (c .num82 .ensures .0))
+loop-holds c = let a = c .before .before .before .args in (omega arith, omega arith, key-start (a .list .now) (a .n) (c .before .long-u32 .ensures .0) (c .long-u322 .ensures .0))
 
 mul-mix : tie.Need-mul-mix Inv-loop μ-loop
 mul-mix c = search needs
@@ -75,9 +75,9 @@ key-spec =
     (tie.spec
     Inv-loop
     μ-loop
-    num8-requires
+    long-u32-requires
     mul-x
-    num8-requires-2
+    long-u32-requires-2
     add-x
     loop-holds
     mul-mix

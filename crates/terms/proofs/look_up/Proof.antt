@@ -14,7 +14,7 @@ use Rattle.terms.proofs.look_up.Tie as tie
 use Rattle.terms.proofs.look_up.Reads as reads
 use Rattle.terms.proofs.look_up.Lts as lts
 use Rattle.terms.proofs.is_term.Reads as is-term-reads
-use Rattle.terms.proofs.number.Reads as number-reads
+use Rattle.numbers.proofs.at_u32.Reads as at-u32-reads
 
 abbrev Inv-loop : tie.InvT-loop
 Inv-loop terms runs bucket list n h v t₀ t = Walking terms runs h v (part list 0 n) t
@@ -22,17 +22,17 @@ Inv-loop terms runs bucket list n h v t₀ t = Walking terms runs h v (part list
 abbrev μ-loop : tie.MeasureT-loop
 μ-loop terms runs bucket list n h v t₀ t = t
 
-add-number : tie.Need-add-number Inv-loop μ-loop
-add-number c = search needs
+add-at-u32 : tie.Need-add-at-u32 Inv-loop μ-loop
+add-at-u32 c = search needs
 
-number-requires : tie.Need-number-requires Inv-loop μ-loop
-number-requires c κs = search needs
+at-u32-requires : tie.Need-at-u32-requires Inv-loop μ-loop
+at-u32-requires c κs = search needs
 
 loop-holds : tie.Need-loop-holds Inv-loop μ-loop
 loop-holds c =
     let b = c .before .before .before .before in
     let a = b .args in
-    walk-start (a .terms .now) (a .runs .now) (a .h) (a .v) (part (a .list .now) 0 (a .n)) (b .pre .0) (a .bucket) (c .number .result) (b .pre .2) (b .pre .3) (c .number .ensures .0)
+    walk-start (a .terms .now) (a .runs .now) (a .h) (a .v) (part (a .list .now) 0 (a .n)) (b .pre .0) (a .bucket) (c .at-u32 .result) (b .pre .2) (b .pre .3) (c .at-u32 .ensures .0)
 
 sub-is-term : tie.Need-sub-is-term Inv-loop μ-loop
 sub-is-term c = search needs
@@ -47,31 +47,31 @@ returns c =
     let l = c .before .before .before in
     walk-found (a .terms .now) (a .runs .now) (a .h) (a .v) (part (a .list .now) 0 (a .n)) (b .pre .0) (l .loop .t) (omega arith) (l .loop .inv) (rw (c .if1 .taken) at (c .before .is-term .ensures))
 
-sub-number : tie.Need-sub-number Inv-loop μ-loop
-sub-number c = search needs
+sub-at-u32 : tie.Need-sub-at-u32 Inv-loop μ-loop
+sub-at-u32 c = search needs
 
-mul-number : tie.Need-mul-number Inv-loop μ-loop
-mul-number c = search needs
+mul-at-u32 : tie.Need-mul-at-u32 Inv-loop μ-loop
+mul-at-u32 c = search needs
 
-add-number-2 : tie.Need-add-number-2 Inv-loop μ-loop
-add-number-2 c = search needs
+add-at-u32-2 : tie.Need-add-at-u32-2 Inv-loop μ-loop
+add-at-u32-2 c = search needs
 
-number-requires-2 : tie.Need-number-requires-2 Inv-loop μ-loop
-number-requires-2 c κs = search needs
+at-u32-requires-2 : tie.Need-at-u32-requires-2 Inv-loop μ-loop
+at-u32-requires-2 c κs = search needs
 
 loop-less : tie.Need-loop-less Inv-loop μ-loop
 loop-less c =
     let b = c .before .before .before .before .before .before .before .before .before in
     let a = b .args in
     let l = c .before .before .before .before in
-    walk-falls (a .terms .now) (a .runs .now) (a .h) (a .v) (part (a .list .now) 0 (a .n)) (b .pre .0) (l .loop .t) (c .number2 .result) (omega arith) (l .loop .inv) (c .number2 .ensures .0)
+    walk-falls (a .terms .now) (a .runs .now) (a .h) (a .v) (part (a .list .now) 0 (a .n)) (b .pre .0) (l .loop .t) (c .at-u322 .result) (omega arith) (l .loop .inv) (c .at-u322 .ensures .0)
 
 loop-again : tie.Need-loop-again Inv-loop μ-loop
 loop-again c =
     let b = c .before .before .before .before .before .before .before .before .before in
     let a = b .args in
     let l = c .before .before .before .before in
-    walk-turn (a .terms .now) (a .runs .now) (a .h) (a .v) (part (a .list .now) 0 (a .n)) (b .pre .0) (l .loop .t) (c .number2 .result) (omega arith) (l .loop .inv) (rw (c .before .if1 .left) at (c .before .before .is-term .ensures)) (c .number2 .ensures .0)
+    walk-turn (a .terms .now) (a .runs .now) (a .h) (a .v) (part (a .list .now) 0 (a .n)) (b .pre .0) (l .loop .t) (c .at-u322 .result) (omega arith) (l .loop .inv) (rw (c .before .if1 .left) at (c .before .before .is-term .ensures)) (c .at-u322 .ensures .0)
 
 returns-2 : tie.Need-returns-2 Inv-loop μ-loop
 returns-2 c =
@@ -87,16 +87,16 @@ look-up-spec =
     (tie.spec
     Inv-loop
     μ-loop
-    add-number
-    number-requires
+    add-at-u32
+    at-u32-requires
     loop-holds
     sub-is-term
     is-term-requires
     returns
-    sub-number
-    mul-number
-    add-number-2
-    number-requires-2
+    sub-at-u32
+    mul-at-u32
+    add-at-u32-2
+    at-u32-requires-2
     loop-less
     loop-again
     returns-2)

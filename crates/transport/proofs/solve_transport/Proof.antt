@@ -14,11 +14,11 @@ returns-2 c = let a = c .before .before .before .before .before .before .before 
 solve-shaped-requires : tie.Need-solve-shaped-requires
 solve-shaped-requires c κs = search needs
 
-clear-requires : tie.Need-clear-requires
-clear-requires c κs = search needs
+clear-u64-requires : tie.Need-clear-u64-requires
+clear-u64-requires c κs = search needs
 
-clear-requires-2 : tie.Need-clear-requires-2
-clear-requires-2 c κs = search needs
+clear-u64-requires-2 : tie.Need-clear-u64-requires-2
+clear-u64-requires-2 c κs = search needs
 
 same-length : tie.Need-same-length
 same-length c = search needs
@@ -30,7 +30,7 @@ same-length-3 : tie.Need-same-length-3
 same-length-3 c = search needs
 
 returns-3 : tie.Need-returns-3
-returns-3 c = let a = c .before .before .before .before .before .before .before .before .before .before .before .before .before .before .before .before .before .before .before .before .before .before .before .before .before .before .before .before .args in gate-open (a .supply .now) (a .demand .now) (a .sizes .now) (a .masses .now) (a .allowed .now) (a .plan .now) (a .costs .now) (a .flow .now) (omega arith) (omega arith) (c .before .before .before .before .before .before .before .before .before .before .before .before .before .before .solve-shaped .last .1 .1 .1 .1 .1 .0) (c .before .before .before .before .before .before .before .before .before .before .before .before .before .before .solve-shaped .result) (c .before .before .before .before .before .before .before .before .before .before .before .before .before .before .solve-shaped .ensures) (c .before .before .before .before .before .before .clear .last .0) (c .before .before .clear2 .last .0) (length (c .before .before .before .before .before .before .before .before .before .before .before .before .before .before .solve-shaped .last .1 .1 .1 .1 .1 .1 .0)) (length (c .before .before .before .before .before .before .before .before .before .before .before .before .before .before .solve-shaped .last .1 .1 .1 .1 .1 .1 .1 .0)) (c .before .before .before .before .before .before .clear .ensures) (omega arith) (c .before .before .clear2 .ensures) (omega arith)
+returns-3 c = let a = c .before .before .before .before .before .before .before .before .before .before .before .before .before .before .before .before .before .before .before .before .before .before .before .before .before .before .before .before .args in gate-open (a .supply .now) (a .demand .now) (a .sizes .now) (a .masses .now) (a .allowed .now) (a .plan .now) (a .costs .now) (a .flow .now) (omega arith) (omega arith) (c .before .before .before .before .before .before .before .before .before .before .before .before .before .before .solve-shaped .last .1 .1 .1 .1 .1 .0) (c .before .before .before .before .before .before .before .before .before .before .before .before .before .before .solve-shaped .result) (c .before .before .before .before .before .before .before .before .before .before .before .before .before .before .solve-shaped .ensures) (c .before .before .before .before .before .before .clear-u64 .last .0) (c .before .before .clear-u642 .last .0) (length (c .before .before .before .before .before .before .before .before .before .before .before .before .before .before .solve-shaped .last .1 .1 .1 .1 .1 .1 .0)) (length (c .before .before .before .before .before .before .before .before .before .before .before .before .before .before .solve-shaped .last .1 .1 .1 .1 .1 .1 .1 .0)) (c .before .before .before .before .before .before .clear-u64 .ensures) (omega arith) (c .before .before .clear-u642 .ensures) (omega arith)
 
 pub solve-transport-spec : {M : Type 1} → statement M
-solve-transport-spec = tie.close (tie.spec returns returns-2 solve-shaped-requires clear-requires clear-requires-2 same-length same-length-2 same-length-3 returns-3)
+solve-transport-spec = tie.close (tie.spec returns returns-2 solve-shaped-requires clear-u64-requires clear-u64-requires-2 same-length same-length-2 same-length-3 returns-3)

@@ -1,11 +1,10 @@
+use Rattle.spec.specs.Image.{tablesOf}
+use Rattle.arrays.specs.Arrays.{qualityIn, termIn}
+use Rattle.ac_repr.specs.Walk.{actionsAt}
+use Rattle.offers.specs.Offers.{workOf}
+use Rattle.turns.specs.Walking.{offers-none, offers-one, found-none, found-one, found-sides, found-fits}
 use native.Mathlib.Omega.{arith}
 use borrow.Author.Needs.{needs}
-use Rattle.spec.specs.Image.{tablesOf}
-use Rattle.ac_repr.specs.Walk.{actionsAt}
-use Rattle.quality.specs.Known.{qualityIn, termIn}
-use Rattle.turns.specs.Room.{enough-map}
-use Rattle.turns.specs.Offers.{workOf}
-use Rattle.turns.specs.Walking.{offers-none, offers-one, one-joined, found-none, found-few, found-one, found-left, found-right}
 use Rattle.turns.proofs.offer_walk.Statement.{statement}
 use Rattle.turns.proofs.offer_walk.Tie as tie
 
@@ -32,18 +31,17 @@ slice-aggregate-offer-transport-2 c = search needs
 
 offer-transport-requires : tie.Need-offer-transport-requires
 offer-transport-requires c κs =
-    let b = c .before .before .before .before .before .before .before .before .before .before .before .before .before .before .before .before .before .before .before .before .before .before .before .before in
-    let a = b .args in
+    let b = c .before .before .before .before .before .before .before .before .before .before .before .before .before .before .before .before .before in let a = b .args in
     let t = tablesOf (a .s .now) in
-    (b .pre .5, omega (arith, c .before .before .before .before .before .before .before .before .before .before .before .before .monomials .kept), omega (arith, c .before .before .before .before .before .before .before .before .before .before .before .before .monomials .kept), found-few t (a .l) (a .r) (a .w) _ _ _ _ (c .before .before .before .before .before .before .before .before .before .before .before .before .monomials .result) (c .before .before .before .before .before .before .before .before .before .before .before .before .monomials .ensures) (c .before .before .before .before .before .before .before .before .p .given .0 .0) (c .before .before .before .before .before .before .before .before .p .given .0 .1 .0) (c .before .before .before .before .before .before .before .before .p .given .1) .0, found-few t (a .l) (a .r) (a .w) _ _ _ _ (c .before .before .before .before .before .before .before .before .before .before .before .before .monomials .result) (c .before .before .before .before .before .before .before .before .before .before .before .before .monomials .ensures) (c .before .before .before .before .before .before .before .before .p .given .0 .0) (c .before .before .before .before .before .before .before .before .p .given .0 .1 .0) (c .before .before .before .before .before .before .before .before .p .given .1) .1, one-joined (actionsAt t (a .l) (a .r) (a .w)) _ (b .pre .6) (found-one t (a .l) (a .r) (a .w) _ _ _ _ (c .before .before .before .before .before .before .before .before .before .before .before .before .monomials .result) (c .before .before .before .before .before .before .before .before .before .before .before .before .monomials .ensures) (c .before .before .before .before .before .before .before .before .p .given .0 .0) (c .before .before .before .before .before .before .before .before .p .given .0 .1 .0) (c .before .before .before .before .before .before .before .before .p .given .1)), found-left t (a .l) (a .r) (a .w) _ _ _ _ (c .before .before .before .before .before .before .before .before .before .before .before .before .monomials .result) (c .before .before .before .before .before .before .before .before .before .before .before .before .monomials .ensures) (c .before .before .before .before .before .before .before .before .p .given .0 .0) (c .before .before .before .before .before .before .before .before .p .given .0 .1 .0) (c .before .before .before .before .before .before .before .before .p .given .1), found-right t (a .l) (a .r) (a .w) _ _ _ _ (c .before .before .before .before .before .before .before .before .before .before .before .before .monomials .result) (c .before .before .before .before .before .before .before .before .before .before .before .before .monomials .ensures) (c .before .before .before .before .before .before .before .before .p .given .0 .0) (c .before .before .before .before .before .before .before .before .p .given .0 .1 .0) (c .before .before .before .before .before .before .before .before .p .given .1), b .pre .7)
+    let S = found-sides t (a .l) (a .r) (a .w) _ _ _ _ (c .before .before .before .before .before .before .before .before .before .monomials .result) (c .before .before .before .before .before .before .before .before .before .monomials .ensures) (c .before .before .before .before .before .p .given .0 .0) (c .before .before .before .before .before .p .given .0 .1 .0) (c .before .before .before .before .before .p .given .1) (omega (arith, c .before .before .before .before .before .before .before .before .before .monomials .kept)) (omega (arith, c .before .before .before .before .before .before .before .before .before .monomials .kept)) in
+    let F = found-fits t (a .l) (a .r) (a .w) _ _ _ _ (c .before .before .before .before .before .before .before .before .before .monomials .result) (c .before .before .before .before .before .before .before .before .before .monomials .ensures) (c .before .before .before .before .before .p .given .0 .0) (c .before .before .before .before .before .p .given .0 .1 .0) (c .before .before .before .before .before .p .given .1) (omega (arith, c .before .before .before .before .before .before .before .before .before .monomials .kept)) (omega (arith, c .before .before .before .before .before .before .before .before .before .monomials .kept)) (a .im .classes) (a .lim .pairs) (b .pre .6) in
+    (b .pre .5, S, F .0, F .1, b .pre .7)
 
 returns : tie.Need-returns
 returns c =
-    let b = c .before .before .before .before .before .before .before .before .before .before .before .before .before .before .before .before in
-    let a = b .args in
-    let the-monomials = c .before .before .before .before .monomials in
+    let a = c .before .before .before .before .before .before .before .before .before .before .before .before .args in
     let t = tablesOf (a .s .now) in
-    offers-none (qualityIn (a .index .now) (a .pairs .now)) (termIn (a .index .now) (a .pairs .now)) (actionsAt t (a .l) (a .r) (a .w)) (workOf (a .sizes .now) (a .masses .now) (a .costs .now) (a .flow .now) (a .list .now) (a .best)) (found-none t (a .l) (a .r) (a .w) _ _ _ _ (the-monomials .result) (the-monomials .ensures) (c .enum-told .given .1))
+    offers-none (a .lim .pairs) (qualityIn (a .im .classes) (a .graph .now) (a .pairs .now)) (termIn (a .im .classes) (a .graph .now) (a .pairs .now)) (actionsAt t (a .l) (a .r) (a .w)) (workOf (a .work .now) (a .flow .now) (a .best)) (found-none t (a .l) (a .r) (a .w) _ _ _ _ (c .before .before .before .before .monomials .result) (c .before .before .before .before .monomials .ensures) (c .enum-told .given .1))
 
 same-length : tie.Need-same-length
 same-length c = search needs
@@ -51,23 +49,11 @@ same-length c = search needs
 same-length-2 : tie.Need-same-length-2
 same-length-2 c = search needs
 
-same-length-3 : tie.Need-same-length-3
-same-length-3 c = search needs
-
-same-length-4 : tie.Need-same-length-4
-same-length-4 c = search needs
-
-same-length-5 : tie.Need-same-length-5
-same-length-5 c = search needs
-
 returns-2 : tie.Need-returns-2
 returns-2 c =
-    let b = c .before .before .before .before .before .before .before .before .before .before .before .before .before .before .before .before .before .before .before .before .before .before .before .before .before .before .before .before .before .before .before .before .before .before .before in
-    let a = b .args in
-    let the-monomials = c .before .before .before .before .before .before .before .before .before .before .before .before .before .before .before .before .before .before .before .before .before .before .before .monomials in
-    let the-p = c .before .before .before .before .before .before .before .before .before .before .before .before .before .before .before .before .before .before .before .p in
+    let a = c .before .before .before .before .before .before .before .before .before .before .before .before .before .before .before .before .before .before .before .before .before .before .args in
     let t = tablesOf (a .s .now) in
-    enough-map _ (c .before .before .before .before .before .before .before .before .before .before .offer-transport .result) (λ y e. offers-one (qualityIn (a .index .now) (a .pairs .now)) (termIn (a .index .now) (a .pairs .now)) (actionsAt t (a .l) (a .r) (a .w)) _ (workOf (a .sizes .now) (a .masses .now) (a .costs .now) (a .flow .now) (a .list .now) (a .best)) _ (found-one t (a .l) (a .r) (a .w) _ _ _ _ (the-monomials .result) (the-monomials .ensures) (the-p .given .0 .0) (the-p .given .0 .1 .0) (the-p .given .1)) e) (c .before .before .before .before .before .before .before .before .before .before .offer-transport .ensures)
+    offers-one (a .lim .pairs) (qualityIn (a .im .classes) (a .graph .now) (a .pairs .now)) (termIn (a .im .classes) (a .graph .now) (a .pairs .now)) (actionsAt t (a .l) (a .r) (a .w)) _ (workOf (a .work .now) (a .flow .now) (a .best)) _ (found-one t (a .l) (a .r) (a .w) _ _ _ _ (c .before .before .before .before .before .before .before .before .before .before .before .before .before .before .monomials .result) (c .before .before .before .before .before .before .before .before .before .before .before .before .before .before .monomials .ensures) (c .before .before .before .before .before .before .before .before .before .before .p .given .0 .0) (c .before .before .before .before .before .before .before .before .before .before .p .given .0 .1 .0) (c .before .before .before .before .before .before .before .before .before .before .p .given .1)) (c .before .before .before .before .offer-transport .ensures)
 
 pub offer-walk-spec : {M : Type 1} → statement M
 offer-walk-spec =
@@ -84,7 +70,4 @@ offer-walk-spec =
     returns
     same-length
     same-length-2
-    same-length-3
-    same-length-4
-    same-length-5
     returns-2)

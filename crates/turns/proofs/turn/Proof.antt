@@ -1,19 +1,20 @@
-use native.Mathlib.Omega.{arith}
-use borrow.Author.Needs.{needs}
 use Rattle.spec.specs.Image.{tablesOf}
-use Rattle.quality.specs.Within.{quality-low}
+use Rattle.query.specs.Settings.{limitsOf}
+use Rattle.image.specs.Loaded.{classes-many}
+use Rattle.arrays.specs.Arrays.{qualityIn, termIn}
+use Rattle.arrays.specs.ArrayLaws.{known-low}
 use Rattle.quality.specs.Offers.{best-aligns}
-use Rattle.quality.specs.Known.{qualityIn, termIn, numberIn}
-use Rattle.turns.specs.Room.{enough-map}
-use Rattle.turns.specs.Ending.{turn-done, turn-left, turn-fits}
+use Rattle.turns.specs.Ending.{joined-low, turn-done, turn-left, turn-fits}
+use mathlib.Core.Path.{sym}
+use borrow.Author.Needs.{needs}
 use Rattle.turns.proofs.turn.Statement.{statement}
 use Rattle.turns.proofs.turn.Tie as tie
 
 best-aligned-requires : tie.Need-best-aligned-requires
-best-aligned-requires c κs = let b = c .before .before .before .before .before .before .before .before .before in (b .pre .0, b .pre .1, b .pre .2, b .pre .3, b .pre .4, b .pre .6)
+best-aligned-requires c κs = search needs
 
 offer-transports-requires : tie.Need-offer-transports-requires
-offer-transports-requires c κs = let b = c .before .before .before .before .before .before .before .before .before .before .before .before .before .before .before in (b .pre .0, b .pre .1, b .pre .2, b .pre .3, b .pre .4, b .pre .5, b .pre .6)
+offer-transports-requires c κs = search needs
 
 same-length : tie.Need-same-length
 same-length c = search needs
@@ -21,41 +22,19 @@ same-length c = search needs
 same-length-2 : tie.Need-same-length-2
 same-length-2 c = search needs
 
-same-length-3 : tie.Need-same-length-3
-same-length-3 c = search needs
-
-same-length-4 : tie.Need-same-length-4
-same-length-4 c = search needs
-
-same-length-5 : tie.Need-same-length-5
-same-length-5 c = search needs
-
 returns : tie.Need-returns
 returns c =
-    let b = c .before .before .before .before .before .before .before .before .before .before .before .before .before .before .before .before .before .before .before .before .before .before .before .before .before .before in
-    let a = b .args in
-    let q = qualityIn (a .index .now) (a .pairs .now) in
-    let of = termIn (a .index .now) (a .pairs .now) in
+    let b = c .before .before .before .before .before .before .before .before .before .before .before .before .before in let a = b .args in
     let t = tablesOf (a .s .now) in
-    let f = c .before .before .before .before .before .before .before .before .before .before .before .before .before .before .before .before .before .before .before .before .before .before .before .shared-slice-known3 .given (numberIn (a .index .now) (a .l, a .r)) in
-    let x = c .before .before .before .before .before .before .before .before .before .before .before .before .before .before .before .before .best-aligned in
-    let A = best-aligns (b .pre .0) (b .pre .1) q (b .pre .2) (b .pre .3) (x .ensures) in
-    enough-map _ (c .before .before .before .before .before .before .before .before .before .before .offer-transports .result)
-    (λ y e.
-    let d = turn-done t q of (a .l, a .r) (a .sizes .now) (a .masses .now) (a .costs .now) (a .flow .now) (a .list .now) (x .result) _ e A in
-    let z = turn-fits t q of (a .l, a .r) _ y d (quality-low (b .pre .4)) (omega (arith, f .fits)) in
-    (d, turn-left t q of (a .l, a .r) (a .sizes .now) (a .masses .now) (a .costs .now) (a .flow .now) (a .list .now) (x .result) _ e (x .ensures), z .0, z .1))
-    (c .before .before .before .before .before .before .before .before .before .before .offer-transports .ensures)
+    let q = qualityIn (a .im .classes) (a .graph .now) (a .pairs .now) in
+    let of = termIn (a .im .classes) (a .graph .now) (a .pairs .now) in
+    let A = best-aligns (b .pre .0) (b .pre .1) q (b .pre .2) (b .pre .3) (c .before .before .before .before .before .before .before .best-aligned .ensures) in
+    let d = turn-done (limitsOf (a .lim)) t q of (a .l, a .r) (a .work .now) (a .flow .now) (c .before .before .before .before .before .before .before .best-aligned .result) _ (c .before .before .before .before .offer-transports .ensures) (b .pre .5) A in
+    let z = turn-fits (limitsOf (a .lim)) t q of (a .l, a .r) (a .lim .pairs) _ (c .before .before .before .before .offer-transports .result) d (known-low (a .im .classes) (a .graph .now) (a .pairs .now) (b .pre .4) (a .l) (a .r) (b .pre .2) (b .pre .3))
+    (joined-low t (b .pre .1) (a .im .classes) (sym (classes-many (a .s .now) (a .im) (b .pre .0))) (a .graph .now) (a .pairs .now) (a .l) (a .r) (b .pre .2) (b .pre .3) (b .pre .4)) (c .before .before .before .before .before .before .before .before .before .before .shared-slice-known3 .given _ .fits) in
+    (d, turn-left (limitsOf (a .lim)) t q of (a .l, a .r) (a .work .now) (a .flow .now) (c .before .before .before .before .before .before .before .best-aligned .result) _ (c .before .before .before .before .offer-transports .ensures) (c .before .before .before .before .before .before .before .best-aligned .ensures), z .0, z .1)
 
 pub turn-spec : {M : Type 1} → statement M
 turn-spec =
     tie.close
-    (tie.spec
-    best-aligned-requires
-    offer-transports-requires
-    same-length
-    same-length-2
-    same-length-3
-    same-length-4
-    same-length-5
-    returns)
+    (tie.spec best-aligned-requires offer-transports-requires same-length same-length-2 returns)

@@ -23,6 +23,9 @@ add-from c = search needs
 be4-requires : tie.Need-be4-requires Inv-loop μ-loop
 be4-requires c κs = search needs
 
+size-u64-requires : tie.Need-size-u64-requires Inv-loop μ-loop
+size-u64-requires c κs = search needs
+
 sub-if1 : tie.Need-sub-if1 Inv-loop μ-loop
 sub-if1 c = search needs
 
@@ -69,6 +72,7 @@ each-spec =
     add-loop
     add-from
     be4-requires
+    size-u64-requires
     sub-if1
     returns
     add-judge

@@ -4,8 +4,8 @@ use Rattle.spec.specs.Image.{tablesOf}
 use borrow.Author.Needs.{needs}
 use Prim.Native.Nat.{_≤_, _-_}
 use native.Mathlib.Omega.{arith}
-use mathlib.Core.Path.{_≡_}
-use lib.ListN.{length, length-set}
+use mathlib.Core.Path.{_≡_, _∙_}
+use lib.ListN.{length}
 use Rattle.judge.proofs.literals.mark.Statement.{statement}
 use Rattle.judge.proofs.literals.mark.Tie as tie
 
@@ -27,17 +27,11 @@ member-value-requires c κs = search needs
 slot-requires : tie.Need-slot-requires Inv-loop μ-loop
 slot-requires c κs = search needs
 
-add-narrow : tie.Need-add-narrow Inv-loop μ-loop
-add-narrow c = search needs
+add-put-u16 : tie.Need-add-put-u16 Inv-loop μ-loop
+add-put-u16 c = search needs
 
-narrow-requires : tie.Need-narrow-requires Inv-loop μ-loop
-narrow-requires c κs = search needs
-
-mul-last : tie.Need-mul-last Inv-loop μ-loop
-mul-last c = search needs
-
-element-write-last : tie.Need-element-write-last Inv-loop μ-loop
-element-write-last c = search needs
+put-u16-requires : tie.Need-put-u16-requires Inv-loop μ-loop
+put-u16-requires c κs = search needs
 
 add-m : tie.Need-add-m Inv-loop μ-loop
 add-m c = search needs
@@ -47,13 +41,12 @@ loop-less c = search needs
 
 loop-again : tie.Need-loop-again Inv-loop μ-loop
 loop-again c =
-    let d = c .before in
+    let d = c .before .before in
     let l = d .before .before .before .before .before in
-    let a = l .before .before in
-    let s = a .args .s .now in (
+    let s = l .before .before .args .s .now in (
       omega arith,
-      simp length-set (l .loop .inv .1),
-      rw (c .narrow .ensures)
+      c .put-u16 .kept .0 ∙ l .loop .inv .1,
+      rw (c .put-u16 .ensures)
           (mark-next (tablesOf s) (l .loop .last) (l .loop .m) (d .slot .result) (omega arith)
           (slot-is (d .slot .ensures .0) (d .before .before .member-op .ensures .0) (d .before .member-value .ensures .0)) (l .loop .inv .2)),
     )
@@ -74,10 +67,8 @@ mark-spec =
     member-op-requires
     member-value-requires
     slot-requires
-    add-narrow
-    narrow-requires
-    mul-last
-    element-write-last
+    add-put-u16
+    put-u16-requires
     add-m
     loop-less
     loop-again

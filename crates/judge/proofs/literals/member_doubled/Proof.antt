@@ -25,14 +25,14 @@ member-value-requires c κs = search needs
 slot-requires : tie.Need-slot-requires
 slot-requires c κs = search needs
 
-mul-wide : tie.Need-mul-wide
-mul-wide c = search needs
+mul-size-u16 : tie.Need-mul-size-u16
+mul-size-u16 c = search needs
 
-element-copy-out-wide : tie.Need-element-copy-out-wide
-element-copy-out-wide c = search needs
+element-copy-out-size-u16 : tie.Need-element-copy-out-size-u16
+element-copy-out-size-u16 c = search needs
 
-wide-requires : tie.Need-wide-requires
-wide-requires c κs = search needs
+size-u16-requires : tie.Need-size-u16-requires
+size-u16-requires c κs = search needs
 
 returns-2 : tie.Need-returns-2
 returns-2 c =
@@ -41,7 +41,7 @@ returns-2 c =
     let a = d .before .before .before .before in
     let s = a .args .s .now in
     a-literal (tablesOf s) (theMember (tablesOf s) (a .args .m)) (a .args .to) (d .before .before .member-op .ensures .0) (d .before .kind .ensures .0) (d .if1 .left) (e .member-value .ensures .0)
-    (sym (unmarked (tablesOf s) (a .args .last .now) (d .before .before .member-op .result) (e .member-value .result) (a .args .to) (a .pre .3) (slot-low (a .args .last .now) (d .before .before .member-op .result) (e .member-value .result) (c .before .before .before .slot .ensures .0) (c .before .wide .ensures) (c .if2 .taken))))
+    (sym (unmarked (tablesOf s) (a .args .last .now) (d .before .before .member-op .result) (e .member-value .result) (a .args .to) (a .pre .3) (slot-low (a .args .last .now) (d .before .before .member-op .result) (e .member-value .result) (c .before .before .before .slot .ensures .0) (c .before .size-u16 .ensures .0) (c .if2 .taken))))
 
 literal-from-requires : tie.Need-literal-from-requires
 literal-from-requires c κs =
@@ -65,9 +65,9 @@ member-doubled-spec =
     returns
     member-value-requires
     slot-requires
-    mul-wide
-    element-copy-out-wide
-    wide-requires
+    mul-size-u16
+    element-copy-out-size-u16
+    size-u16-requires
     returns-2
     literal-from-requires
     returns-3)

@@ -1,0 +1,4 @@
+pub mod Sorting
+pub mod SortLaws
+pub mod Results
+pub mod ResultLaws

@@ -1,0 +1,4 @@
+pub mod Balances
+pub mod Augments
+pub mod SendLoop
+pub mod Solves

@@ -1,0 +1,5 @@
+pub mod Balance
+pub mod Sending
+pub mod Solved
+pub mod SolvedLaws
+pub mod HasPlan

@@ -1,0 +1,5 @@
+pub mod Matrix
+pub mod Places
+pub mod Cells
+pub mod Open
+pub mod Laying

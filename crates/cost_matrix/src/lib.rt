@@ -1,0 +1,200 @@
+// The cost matrix of a transport (transport.rs): each cell's cost, size * W + mass, as a number of two words, and its capacity; three numbers a cell, row by row.
+ghost use mathlib.Core.Path.{_≡_};
+ghost use mathlib.Core.List.{List, map};
+ghost use Prim.Native.Nat.{ℕ, _+_, _*_, _^_, _≤_, _<_, min, max};
+ghost use lib.Dec.{eqb};
+ghost use lib.ListN.{length, getD};
+ghost use Rattle.spec.specs.Bytes.{sum, pick};
+ghost use Rattle.spec.specs.Transport.{cost, forbidden, largest, massOf, weight, Problem, WIDEST};
+ghost use Rattle.wide.specs.Value.{unsigned};
+ghost use Rattle.cost_matrix.specs.Matrix.{costOf, celled, wordsOf, laidCell, costsAfter};
+ghost use Rattle.cost_matrix.specs.Cells.{problemOf};
+use numbers::long_u32;
+use numbers::put_u64;
+use wide::Wide;
+
+// "At most 65 rows and 65 columns": so many cells, and so many numbers of the matrix.
+pub const WIDEST: usize = 65;
+
+pub const CELLS: usize = WIDEST * WIDEST;
+
+pub const COSTS: usize = 3 * CELLS;
+
+// ---- reads
+// What cell k costs.
+pub fn cost(costs: &[u64], k: usize) -> Wide
+    requires { ⌜ 3 * k + 2 < length (now costs) ⌝ }
+    ensures { λ r. ⌜ r ≡ costOf (now (costs .entry)) k ⌝ }
+{
+    Wide {
+        lo: costs[3 * k],
+        hi: costs[3 * k + 1],
+    }
+}
+
+// ---- F, V and W
+pub fn least(a: u64, b: u64) -> u64
+    ensures { λ r. ⌜ r ≡ min a b ⌝ }
+{
+    if a < b { a } else { b }
+}
+
+pub fn larger(a: u32, b: u32) -> u32
+    ensures { λ r. ⌜ r ≡ max a b ⌝ }
+{
+    if a < b { b } else { a }
+}
+
+// F: the sum of at most 65 numbers.
+pub fn total(s: &[u32]) -> u64
+    requires { ⌜ length (now s) ≤ WIDEST ⌝ }
+    ensures { λ r. ⌜ (r ≡ sum (now (s .entry))) × (r < 2 ^ 39) ⌝ }
+{
+    let mut t = 0u64;
+    let mut i = 0;
+    while i < s.len() {
+        t += long_u32(s[i]);
+        i += 1;
+    }
+    t
+}
+
+// x where the cell's flag is set, else 0.
+pub fn if_allowed(flag: u8, x: u32) -> u32
+    ensures { λ r. ⌜ r ≡ pick (eqb flag 0) 0 x ⌝ }
+{
+    if flag == 0 {
+        return 0;
+    }
+    x
+}
+
+// V: the largest mass in an allowed cell.
+fn largest_mass(masses: &[u32], allowed: &[u8]) -> u32
+    requires { ⌜ length (now allowed) ≡ length (now masses) ⌝ }
+    ensures { λ r. ⌜ ((supply demand sizes : List ℕ) → length sizes ≡ length (now (masses .entry)) → r ≡ largest (map massOf (problemOf supply demand sizes (now (masses .entry)) (now (allowed .entry)) .cells))) ⌝ }
+{
+    let mut v = 0u32;
+    let mut i = 0;
+    while i < masses.len() {
+        v = larger(v, if_allowed(allowed[i], masses[i]));
+        i += 1;
+    }
+    v
+}
+
+// W = F * V + 1
+pub fn weight(f: u64, v: u32) -> Wide
+    requires { ⌜ f < 2 ^ 39 ⌝ }
+    ensures { λ w. ⌜ (unsigned w ≡ f * v + 1) × (unsigned w < 2 ^ 71) ⌝ }
+{
+    Wide::weight(f, v)
+}
+
+// ---- one cell
+// What a cell costs: size * W + mass.
+pub fn cell_cost(size: u32, mass: u32, w: Wide) -> Wide
+    requires { ⌜ unsigned w < 2 ^ 71 ⌝ }
+    ensures { λ d. ⌜ d ≡ wordsOf (size * unsigned w + mass) ⌝ }
+{
+    Wide::weigh(size, mass, w)
+}
+
+// The cost d and the capacity of cell k.
+pub fn put_cell(costs: &mut [u64], k: usize, d: Wide, cap: u64)
+    requires { ⌜ 3 * k + 2 < length (now costs) ⌝ }
+    ensures { λ _. ⌜ now (costs .exit) ≡ celled (now (costs .entry)) k d cap ⌝ }
+{
+    let at = 3 * k;
+    put_u64(costs, at, d.lo);
+    put_u64(costs, at + 1, d.hi);
+    put_u64(costs, at + 2, cap);
+}
+
+// Cell k, allowed: its cost, and the smaller of the two margins as its capacity.
+pub fn lay_cell(
+    costs: &mut [u64],
+    k: usize,
+    w: Wide,
+    size: u32,
+    mass: u32,
+    supply: u32,
+    demand: u32,
+)
+    requires { ⌜ (3 * k + 2 < length (now costs)) × (unsigned w < 2 ^ 71) ⌝ }
+    ensures { λ _. ⌜ now (costs .exit) ≡ laidCell (unsigned w) (cost size mass) supply demand k (now (costs .entry)) ⌝ }
+{
+    let d = cell_cost(size, mass, w);
+    let cap = least(long_u32(supply), long_u32(demand));
+    put_cell(costs, k, d, cap);
+}
+
+// Cell k by its flag; where it is forbidden it costs nothing and takes nothing.
+fn lay_flagged(
+    costs: &mut [u64],
+    k: usize,
+    w: Wide,
+    flag: u8,
+    size: u32,
+    mass: u32,
+    supply: u32,
+    demand: u32,
+)
+    requires { ⌜ (3 * k + 2 < length (now costs)) × (unsigned w < 2 ^ 71) ⌝ }
+    ensures { λ _. ⌜ now (costs .exit) ≡ laidCell (unsigned w) (pick (eqb flag 0) forbidden (cost size mass)) supply demand k (now (costs .entry)) ⌝ }
+{
+    if flag == 0 {
+        put_cell(costs, k, Wide { lo: 0, hi: 0 }, 0);
+        return;
+    }
+    lay_cell(costs, k, w, size, mass, supply, demand);
+}
+
+// ---- all cells
+fn lay_cells(
+    supply: &[u32],
+    demand: &[u32],
+    sizes: &[u32],
+    masses: &[u32],
+    allowed: &[u8],
+    w: Wide,
+    costs: &mut [u64],
+)
+    requires { ⌜ (length (now supply) ≤ WIDEST) × (length (now demand) ≤ WIDEST) × (length (now sizes) ≡ length (now supply) * length (now demand)) × (length (now masses) ≡ length (now supply) * length (now demand))
+        × (length (now allowed) ≡ length (now supply) * length (now demand)) × (3 * (length (now supply) * length (now demand)) ≤ length (now costs)) × (unsigned w < 2 ^ 71)
+        × (unsigned w ≡ weight (problemOf (now supply) (now demand) (now sizes) (now masses) (now allowed))) ⌝ }
+    ensures { λ _. ⌜ now (costs .exit) ≡ costsAfter (problemOf (now (supply .entry)) (now (demand .entry)) (now (sizes .entry)) (now (masses .entry)) (now (allowed .entry))) (now (costs .entry)) ⌝ }
+{
+    let c = demand.len();
+    let mut k = 0;
+    while k < sizes.len() {
+        lay_flagged(
+            costs,
+            k,
+            w,
+            allowed[k],
+            sizes[k],
+            masses[k],
+            supply[k / c],
+            demand[k % c],
+        );
+        k += 1;
+    }
+}
+
+// The matrix of the problem that the slices give.
+pub fn lay(
+    supply: &[u32],
+    demand: &[u32],
+    sizes: &[u32],
+    masses: &[u32],
+    allowed: &[u8],
+    costs: &mut [u64],
+)
+    requires { ⌜ (length (now supply) ≤ WIDEST) × (length (now demand) ≤ WIDEST) × (length (now sizes) ≡ length (now supply) * length (now demand)) × (length (now masses) ≡ length (now supply) * length (now demand))
+        × (length (now allowed) ≡ length (now supply) * length (now demand)) × (3 * (length (now supply) * length (now demand)) ≤ length (now costs)) ⌝ }
+    ensures { λ _. ⌜ now (costs .exit) ≡ costsAfter (problemOf (now (supply .entry)) (now (demand .entry)) (now (sizes .entry)) (now (masses .entry)) (now (allowed .entry))) (now (costs .entry)) ⌝ }
+{
+    let w = weight(total(supply), largest_mass(masses, allowed));
+    lay_cells(supply, demand, sizes, masses, allowed, w, costs);
+}

@@ -1,0 +1,146 @@
+-- What a buffer holds while a member's children are added one by one.
+use mathlib.Core.Path.{_≡_, refl, sym, ap, _∙_}
+use mathlib.Core.Bool.{Bool, true, false}
+use mathlib.Core.List.{List, [], _∷_, _++_}
+use Prim.Native.Nat.{ℕ, suc, _+_, _*_, _-_, _≤_, _<_}
+use native.Mathlib.Numerals.{add-one}
+use native.Mathlib.Omega.{arith}
+use borrow.Author.Tests.{lt-ltb, le-ltb}
+use lib.Dec.{ltb, eqb}
+use lib.ListN.{length, take, drop, getD, set, take-append-drop}
+use lib.Seq.{take-at, take-add, drop-at, drop-append-add, drop-drop, slice, slice-cons, slice-empty, length-take-le, set-split}
+use Rattle.spec.specs.Bytes.{Two, sum}
+use Rattle.spec.specs.Image.{Tables, tablesOf, theClass, theMember, childrenOf}
+use Rattle.spec.specs.Monomial.{Monomial, insertAdd, addAll, monomial, total, itself}
+use Rattle.laws.specs.Monomials.{total-insert}
+use Rattle.laws.specs.Scans.{part-slice}
+use Rattle.laws.specs.Valid.{Valid}
+use Rattle.laws.specs.AcceptedUses.{childrenWithin, membersWithin}
+use Rattle.image.specs.Loaded.{Loaded, childSpan, memberSpan, members-many, children-many, classes-many}
+use Rattle.image.specs.declared.Image.{Image}
+use Rattle.image.specs.declared.Span.{Span}
+use Rattle.monomial.specs.Terms.{terms, held, front, Holds, Roomy}
+use Rattle.monomial.specs.Pad.{Made, monomialAt}
+use Rattle.monomial.specs.TermLaws.{terms-length, held-length, held-is, front-front}
+use Rattle.monomial.specs.PadLaws.{Grow, grow}
+
+-- nothing written
+pub held-same : (n : ℕ) (s : List ℕ) → length s ≡ 130 → n ≤ 65 → Holds (held n s) s s n
+held-same n s l b =
+    let e : length (held n s) ≡ n = held-length n s l b in
+    record { len = sym e; whole = rw e (sym (take-append-drop n (terms s))) }
+
+-- ---- the loop over the children
+pub record Upto (t : Tables) (first to : ℕ) (s₀ s : List ℕ) (n k : ℕ) : Type 0 where
+  pub from : first ≤ k
+  pub within : k ≤ to
+  pub numbers : length s ≡ 130
+  pub few : n + first ≤ k
+  pub whole : terms s ≡ front (held n s) (terms s₀)
+  pub rest : addAll (held n s) (slice k to (t .children)) ≡ monomial (slice first to (t .children))
+  pub small : total (held n s) ≤ (k - first) * 4294967295
+
+-- a member has at most 64 children, all in the table
+pub record Fewest (t : Tables) (first to : ℕ) : Type 0 where
+  pub few : to ≤ first + 64
+  pub in-table : to ≤ length (t .children)
+  pub rises : first ≤ to
+
+module _ (t : Tables) (first to : ℕ) (f : Fewest t first to) where
+  pub upto-none : (s : List ℕ) → length s ≡ 130 → Upto t first to s s 0 first
+  unfolding total sum
+  upto-none s l = record {
+    from = omega arith;
+    within = f .rises;
+    numbers = l;
+    few = omega arith;
+    whole = refl;
+    rest = refl;
+    small = omega arith;
+  }
+
+  pub upto-room : (s₀ s : List ℕ) (n k : ℕ) → Upto t first to s₀ s n k → k < to → Roomy n 4294967295 s
+  upto-room s₀ s n k u h = record {
+    numbers = u .numbers;
+    room = omega (arith, u .few, f .few);
+    fits = omega (arith, u .small, u .from, f .few);
+  }
+
+  pub upto-turn : (s₀ s s′ : List ℕ) (n k r : ℕ) → Upto t first to s₀ s n k → k < to → length s′ ≡ length s
+      → Holds (insertAdd (getD (t .children) k (0, 0) .0) (getD (t .children) k (0, 0) .1) (held n s)) s s′ r × (getD (t .children) k (0, 0) .1 < 4294967296)
+      → Upto t first to s₀ s′ r (k + 1)
+  unfolding addAll
+  upto-turn s₀ s s′ n k r u h l d =
+      let x : Two = getD (t .children) k (0, 0) in
+      let m : Monomial = insertAdd (x .0) (x .1) (held n s) in
+      let hm : held r s′ ≡ m = held-is m s s′ r (d .0) in
+      let g : Grow (x .0) (x .1) (held n s) = grow (x .0) (x .1) (held n s) in
+      let ln : length (held n s) ≡ n = held-length n s (u .numbers) (omega (arith, u .few, f .few)) in
+      let sl : slice k to (t .children) ≡ x ∷ slice (suc k) to (t .children) = slice-cons k to (t .children) (0, 0) h (f .in-table) in
+      record {
+        from = omega (arith, u .from);
+        within = omega arith;
+        numbers = l ∙ u .numbers;
+        few = omega (arith, u .few, d .0 .len);
+        whole = rw hm (d .0 .whole ∙ ap (λ (z : List Two). front m z) (u .whole) ∙ front-front (held n s) m (terms s₀) (g .0));
+        rest = rw (hm, add-one) (rw sl at (u .rest));
+        small = rw hm (omega (arith, total-insert (x .0) (x .1) (held n s), u .small, u .from, d .1));
+      }
+
+  pub upto-all : (s₀ s : List ℕ) (n k : ℕ) → Upto t first to s₀ s n k → to ≤ k → Made (monomial (slice first to (t .children))) s₀ s n
+  unfolding addAll
+  upto-all s₀ s n k u h =
+      let e : k ≡ to = omega (arith, u .within) in
+      let m : held n s ≡ monomial (slice first to (t .children)) = rw (e, slice-empty to (t .children)) at (u .rest) in
+      let b : n ≤ 64 = omega (arith, u .few, f .few) in
+      record {
+        holds = record { len = rw (← m) (sym (held-length n s (u .numbers) (omega arith))); whole = rw (← m) (u .whole) };
+        few = b;
+        small = rw (← m) (omega (arith, u .small, u .from, f .few));
+      }
+
+-- ---- the span that the image gives
+module _ (s : List ℕ) (im : Image) (l : Loaded s im) (v : Valid (tablesOf s)) where
+  pub member-few : (m : ℕ) (p : Span) → m < im .members → p ≡ childSpan (theMember (tablesOf s) m) → Fewest (tablesOf s) (p .from) (p .to)
+  member-few m p h e =
+      let g : m < length (tablesOf s .members) = rw (members-many s im l) h in
+      rw e (record {
+        few = omega (arith, v .spans .fewOwnChildren m g);
+        in-table = childrenWithin (tablesOf s) v m g;
+        rises = omega arith;
+      })
+
+  pub member-made : (m : ℕ) (p : Span) (s₀ u : List ℕ) (n : ℕ) → m < im .members → p ≡ childSpan (theMember (tablesOf s) m)
+      → Made (monomial (slice (p .from) (p .to) (tablesOf s .children))) s₀ u n → Made (monomial (childrenOf (tablesOf s) (theMember (tablesOf s) m))) s₀ u n
+  member-made m p s₀ u n h e d =
+      let g : m < length (tablesOf s .members) = rw (members-many s im l) h in
+      rw (e, part-slice (tablesOf s .children) (theMember (tablesOf s) m .first) (theMember (tablesOf s) m .count) (childrenWithin (tablesOf s) v m g)) at d
+
+  pub child-number : (m : ℕ) (p : Span) (k : ℕ) → m < im .members → p ≡ childSpan (theMember (tablesOf s) m) → k < p .to → k < im .children
+  child-number m p k h e f = omega (arith, member-few m p h e .in-table, children-many s im l)
+
+-- ---- a class itself once, in a buffer
+pub itself-made : (c x : ℕ) (s u : List ℕ) → length s ≡ 130 → x ≡ c → terms u ≡ set (terms s) 0 (x, 1) → Made (itself c) s u 1
+unfolding total sum
+itself-made c x s u l e w =
+    let h : 0 < length (terms s) = omega (arith, terms-length 65 s l) in
+    record {
+      holds = record { len = refl; whole = w ∙ rw (set-split (terms s) 0 (x, 1) h, e) refl };
+      few = omega arith;
+      small = omega arith;
+    }
+
+module _ (t : Tables) (c x : ℕ) (s u : List ℕ) (r : ℕ) (p : Span) (e : p ≡ memberSpan (theClass t c)) where
+  pub place-member : x < p .to → Made (monomial (childrenOf t (theMember t x))) s u r → Made (monomialAt t c x) s u r
+  unfolding monomialAt
+  place-member h d = let g : x < theClass t c .first + theClass t c .count = rw e at h in rw (lt-ltb x (theClass t c .first + theClass t c .count) g, monomialAt) d
+
+  pub place-itself : p .to ≤ x → Made (itself c) s u r → Made (monomialAt t c x) s u r
+  unfolding monomialAt
+  place-itself h d = let g : theClass t c .first + theClass t c .count ≤ x = rw e at h in rw (le-ltb x (theClass t c .first + theClass t c .count) g, monomialAt) d
+
+pub member-number : (s : List ℕ) (im : Image) (c x : ℕ) (p : Span) → Loaded s im → Valid (tablesOf s) → c < im .classes → p ≡ memberSpan (theClass (tablesOf s) c) → x < p .to → x < im .members
+member-number s im c x p l v h e f =
+    let g : c < length (tablesOf s .classes) = rw (classes-many s im l) h in
+    let q : x < theClass (tablesOf s) c .first + theClass (tablesOf s) c .count = rw e at f in
+    omega (arith, membersWithin (tablesOf s) v c g, members-many s im l)

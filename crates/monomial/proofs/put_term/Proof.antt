@@ -1,0 +1,43 @@
+use Rattle.monomial.specs.TermLaws.{terms-set}
+use native.Mathlib.Omega.{arith}
+use lib.ListN.{length-set}
+use borrow.Author.Needs.{needs}
+use Rattle.monomial.proofs.put_term.Statement.{statement}
+use Rattle.monomial.proofs.put_term.Tie as tie
+
+mul-at : tie.Need-mul-at
+mul-at c = search needs
+
+mul-mono : tie.Need-mul-mono
+mul-mono c = search needs
+
+slice-write-mono : tie.Need-slice-write-mono
+slice-write-mono c = search needs
+
+add-mono : tie.Need-add-mono
+add-mono c = search needs
+
+mul-mono-2 : tie.Need-mul-mono-2
+mul-mono-2 c = search needs
+
+slice-write-mono-2 : tie.Need-slice-write-mono-2
+slice-write-mono-2 c = simp length-set (omega arith)
+
+same-length : tie.Need-same-length
+same-length c = search needs
+
+returns : tie.Need-returns
+returns c = terms-set (c .args .mono .now) (c .args .i) (c .args .c) (c .args .k) (omega arith)
+
+pub put-term-spec : {M : Type 1} → statement M
+put-term-spec =
+    tie.close
+    (tie.spec
+    mul-at
+    mul-mono
+    slice-write-mono
+    add-mono
+    mul-mono-2
+    slice-write-mono-2
+    same-length
+    returns)

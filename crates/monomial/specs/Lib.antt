@@ -1,0 +1,4 @@
+pub mod Terms
+pub mod TermLaws
+pub mod Pad
+pub mod PadLaws

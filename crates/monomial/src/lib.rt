@@ -1,0 +1,270 @@
+// Monomials of members (ac_repr.rs): sums lined up class by class, in a lent buffer.
+ghost use mathlib.Core.Path.{_≡_};
+ghost use mathlib.Core.List.{_∷_};
+ghost use Prim.Native.Nat.{_+_, _≤_, _<_, _^_};
+ghost use lib.ListN.{length, getD, set, drop};
+ghost use lib.Seq.{paste};
+ghost use Rattle.spec.specs.Bytes.{sameTwos};
+ghost use Rattle.spec.specs.Image.{tablesOf, theMember, childrenOf};
+ghost use Rattle.spec.specs.Monomial.{insertAdd, monomial, total, narrow, itself, bothItself};
+ghost use Rattle.laws.specs.Valid.{Valid};
+ghost use Rattle.image.specs.Loaded.{Loaded, theChild};
+ghost use Rattle.monomial.specs.Terms.{TERMS, NUMBERS, terms, held, position, Holds, Roomy};
+ghost use Rattle.monomial.specs.Pad.{TOTAL, Made, monomialAt, levelBy, unmatched, bothNarrow, paddedOf, answerOf, Pads, Paddable};
+use image::Image;
+use numbers::long_size;
+
+// 64 children and the identity, and the length of a buffer that holds them.
+pub const TERMS: usize = 65;
+
+pub const NUMBERS: usize = 2 * TERMS;
+
+// ---- a term: its class and its count
+pub fn class_at(mono: &[u64], i: usize) -> u64
+    requires { ⌜ (length (now mono) ≡ NUMBERS) × (i < TERMS) ⌝ }
+    ensures { λ r. ⌜ r ≡ getD (terms (now (mono .entry))) i (0, 0) .0 ⌝ }
+{
+    mono[2 * i]
+}
+
+pub fn count_at(mono: &[u64], i: usize) -> u64
+    requires { ⌜ (length (now mono) ≡ NUMBERS) × (i < TERMS) ⌝ }
+    ensures { λ r. ⌜ r ≡ getD (terms (now (mono .entry))) i (0, 0) .1 ⌝ }
+{
+    mono[2 * i + 1]
+}
+
+fn put_term(mono: &mut [u64], i: usize, c: u64, k: u64)
+    requires { ⌜ (length (now mono) ≡ NUMBERS) × (i < TERMS) ⌝ }
+    ensures { λ _. ⌜ terms (now (mono .exit)) ≡ set (terms (now (mono .entry))) i (c, k) ⌝ }
+{
+    let at = 2 * i;
+    mono[at] = c;
+    mono[at + 1] = k;
+}
+
+// The first of n places whose class is not below c.
+fn place(mono: &[u64], n: usize, c: u64) -> usize
+    requires { ⌜ (length (now mono) ≡ NUMBERS) × (n ≤ TERMS) ⌝ }
+    ensures { λ r. ⌜ (r ≡ position c (held n (now (mono .entry)))) × (r ≤ n) ⌝ }
+{
+    let mut i = 0;
+    while i < n {
+        if class_at(mono, i) >= c {
+            return i;
+        }
+        i += 1;
+    }
+    i
+}
+
+// The term (c, k) at place p, and the n terms that stood there one place up.
+fn insert_term(mono: &mut [u64], p: usize, n: usize, c: u64, k: u64)
+    requires { ⌜ (length (now mono) ≡ NUMBERS) × (p + n < TERMS) ⌝ }
+    ensures { λ _. ⌜ terms (now (mono .exit)) ≡ paste (terms (now (mono .entry))) p ((c, k) ∷ drop p (terms (now (mono .entry)))) (n + 1) ⌝ }
+{
+    let mut x = c;
+    let mut y = k;
+    let mut j = 0;
+    while j <= n {
+        let t = class_at(mono, p + j);
+        let u = count_at(mono, p + j);
+        put_term(mono, p + j, x, y);
+        x = t;
+        y = u;
+        j += 1;
+    }
+}
+
+// k more of class c in the monomial of n terms: how many terms it has then.
+fn add_class(mono: &mut [u64], n: usize, c: u64, k: u64) -> usize
+    requires { ⌜ Roomy n k (now mono) ⌝ }
+    ensures { λ r. ⌜ Holds (insertAdd c k (held n (now (mono .entry)))) (now (mono .entry)) (now (mono .exit)) r ⌝ }
+{
+    let p = place(mono, n, c);
+    if p < n {
+        if class_at(mono, p) == c {
+            let v = count_at(mono, p) + k;
+            put_term(mono, p, c, v);
+            return n;
+        }
+    }
+    insert_term(mono, p, n - p, c, k);
+    n + 1
+}
+
+// ---- the monomial of a member's children
+// Child k of the image, added to the monomial of n terms.
+fn add_child(s: &[u8], im: Image, k: usize, mono: &mut [u64], n: usize) -> usize
+    requires { ⌜ Loaded (now s) im × (k < im .children) × Roomy n 4294967295 (now mono) ⌝ }
+    ensures { λ r. ⌜ Holds (insertAdd (theChild (tablesOf (now (s .entry))) k .0) (theChild (tablesOf (now (s .entry))) k .1) (held n (now (mono .entry)))) (now (mono .entry)) (now (mono .exit)) r
+        × (theChild (tablesOf (now (s .entry))) k .1 < 4294967296) ⌝ }
+{
+    let c = long_size(image::child_class(s, im, k));
+    let times = image::child_times(s, im, k);
+    add_class(mono, n, c, times)
+}
+
+// "Classes rising, counts of one class added."
+fn of_member(s: &[u8], im: Image, m: usize, mono: &mut [u64]) -> usize
+    requires { ⌜ Loaded (now s) im × Valid (tablesOf (now s)) × (m < im .members) × (length (now mono) ≡ NUMBERS) ⌝ }
+    ensures { λ r. ⌜ Made (monomial (childrenOf (tablesOf (now (s .entry))) (theMember (tablesOf (now (s .entry))) m))) (now (mono .entry)) (now (mono .exit)) r ⌝ }
+{
+    let span = image::children_of(s, im, m);
+    let mut n = 0;
+    let mut k = span.from;
+    while k < span.to {
+        n = add_child(s, im, k, mono, n);
+        k += 1;
+    }
+    n
+}
+
+// "the monomial of itself once"
+fn itself(mono: &mut [u64], c: usize) -> usize
+    requires { ⌜ length (now mono) ≡ NUMBERS ⌝ }
+    ensures { λ r. ⌜ Made (itself c) (now (mono .entry)) (now (mono .exit)) r ⌝ }
+{
+    put_term(mono, 0, long_size(c), 1);
+    1
+}
+
+// The monomial at place x of class c: of its member x, or of the class itself once where x is past its members.
+pub fn of_place(s: &[u8], im: Image, c: usize, x: usize, mono: &mut [u64]) -> usize
+    requires { ⌜ Loaded (now s) im × Valid (tablesOf (now s)) × (c < im .classes) × (length (now mono) ≡ NUMBERS) ⌝ }
+    ensures { λ r. ⌜ Made (monomialAt (tablesOf (now (s .entry))) c x) (now (mono .entry)) (now (mono .exit)) r ⌝ }
+{
+    let span = image::members_of(s, im, c);
+    if x < span.to {
+        return of_member(s, im, x, mono);
+    }
+    itself(mono, c)
+}
+
+// ---- a pair of monomials: padding, both classes as themselves, narrowing
+fn total(mono: &[u64], n: usize) -> u64
+    requires { ⌜ (length (now mono) ≡ NUMBERS) × (n ≤ TERMS) × (total (held n (now mono)) < 2 ^ 64) ⌝ }
+    ensures { λ r. ⌜ r ≡ total (held n (now (mono .entry))) ⌝ }
+{
+    let mut sum: u64 = 0;
+    let mut i = 0;
+    while i < n {
+        sum += count_at(mono, i);
+        i += 1;
+    }
+    sum
+}
+
+// No count is above 4,294,967,295.
+fn narrow(mono: &[u64], n: usize) -> bool
+    requires { ⌜ (length (now mono) ≡ NUMBERS) × (n ≤ TERMS) ⌝ }
+    ensures { λ r. ⌜ r ≡ narrow (held n (now (mono .entry))) ⌝ }
+{
+    let mut i = 0;
+    while i < n {
+        if count_at(mono, i) > id::multiplicity::MAX {
+            return false;
+        }
+        i += 1;
+    }
+    true
+}
+
+fn both_narrow(left: &[u64], n: usize, right: &[u64], m: usize) -> bool
+    requires { ⌜ (length (now left) ≡ NUMBERS) × (n ≤ TERMS) × (length (now right) ≡ NUMBERS) × (m ≤ TERMS) ⌝ }
+    ensures { λ r. ⌜ r ≡ bothNarrow (held n (now (left .entry))) (held m (now (right .entry))) ⌝ }
+{
+    if narrow(left, n) {
+        return narrow(right, m);
+    }
+    false
+}
+
+// The monomial is class c itself once.
+fn is_itself(mono: &[u64], n: usize, c: usize) -> bool
+    requires { ⌜ (length (now mono) ≡ NUMBERS) × (n ≤ TERMS) ⌝ }
+    ensures { λ r. ⌜ r ≡ sameTwos (held n (now (mono .entry))) (itself c) ⌝ }
+{
+    if n != 1 {
+        return false;
+    }
+    if class_at(mono, 0) != long_size(c) {
+        return false;
+    }
+    count_at(mono, 0) == 1
+}
+
+fn both_itself(left: &[u64], n: usize, l: usize, right: &[u64], m: usize, r: usize) -> bool
+    requires { ⌜ (length (now left) ≡ NUMBERS) × (n ≤ TERMS) × (length (now right) ≡ NUMBERS) × (m ≤ TERMS) ⌝ }
+    ensures { λ x. ⌜ x ≡ bothItself l r (held n (now (left .entry))) (held m (now (right .entry))) ⌝ }
+{
+    if is_itself(left, n, l) {
+        return is_itself(right, m, r);
+    }
+    false
+}
+
+fn unmatched(id: usize, a: u64, b: u64) -> bool
+    ensures { λ r. ⌜ r ≡ unmatched id a b ⌝ }
+{
+    if a == b {
+        return false;
+    }
+    id == Image::NO_IDENTITY
+}
+
+// The monomial of n terms, whose total is a, with the identities that it lacks where the other's total is b.
+fn level(mono: &mut [u64], n: usize, id: usize, a: u64, b: u64) -> usize
+    requires { ⌜ (length (now mono) ≡ NUMBERS) × (n ≤ 64) × (a ≡ total (held n (now mono))) × (b ≤ TOTAL) ⌝ }
+    ensures { λ r. ⌜ Holds (levelBy id (held n (now (mono .entry))) a b) (now (mono .entry)) (now (mono .exit)) r ⌝ }
+{
+    if a < b {
+        if id != Image::NO_IDENTITY {
+            return add_class(mono, n, long_size(id), b - a);
+        }
+    }
+    n
+}
+
+pub enum Padded {
+    // rows and columns
+    Pair(usize, usize),
+    Nothing,
+}
+
+// "Unequal totals are padded with the identity; without one there is no pair."
+fn pad(id: usize, left: &mut [u64], n: usize, right: &mut [u64], m: usize) -> Padded
+    requires { ⌜ Paddable n m (now left) (now right) ⌝ }
+    ensures { λ x. ⌜ Pads (paddedOf id (held n (now (left .entry))) (held m (now (right .entry)))) id (held n (now (left .entry))) (held m (now (right .entry))) (now (left .entry)) (now (right .entry)) (now (left .exit)) (now (right .exit)) x ⌝ }
+{
+    let a = total(left, n);
+    let b = total(right, m);
+    if unmatched(id, a, b) {
+        return Padded::Nothing;
+    }
+    let rows = level(left, n, id, a, b);
+    let cols = level(right, m, id, b, a);
+    if both_narrow(left, rows, right, cols) {
+        return Padded::Pair(rows, cols);
+    }
+    Padded::Nothing
+}
+
+// "except both classes as themselves once"
+pub fn pad_pair(
+    id: usize,
+    l: usize,
+    r: usize,
+    left: &mut [u64],
+    n: usize,
+    right: &mut [u64],
+    m: usize,
+) -> Padded
+    requires { ⌜ Paddable n m (now left) (now right) ⌝ }
+    ensures { λ x. ⌜ Pads (answerOf l r id (held n (now (left .entry))) (held m (now (right .entry)))) id (held n (now (left .entry))) (held m (now (right .entry))) (now (left .entry)) (now (right .entry)) (now (left .exit)) (now (right .exit)) x ⌝ }
+{
+    if both_itself(left, n, l, right, m, r) {
+        return Padded::Nothing;
+    }
+    pad(id, left, n, right, m)
+}

@@ -1,0 +1,4 @@
+pub mod Numbering
+pub mod WalkLaws
+pub mod NumberLaws
+pub mod VisitLaws

@@ -1,0 +1,3 @@
+pub mod Settling
+pub mod SettleLaws
+pub mod Quiet
