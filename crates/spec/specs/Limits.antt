@@ -1,6 +1,6 @@
 -- The limits met and passed: refusals 1 and 12 to 16, and what the buffers hold afterwards.
 use mathlib.Core.Path.{_≡_, refl}
-use mathlib.Core.Bool.{true, false}
+use mathlib.Core.Bool.{Bool, true, false}
 use mathlib.Core.List.{List, [], _∷_, _++_, map}
 use Prim.Native.Nat.{ℕ}
 use lib.ListN.{replicate}
@@ -85,6 +85,10 @@ place-left = refl
 -- ---- other limits: image E's run enters 3 pairs, 7 terms and 9 runs
 abbrev limits : ℕ → ℕ → ℕ → Limits
 limits p t r = record { pairs = p; terms = t; runs = r }
+
+of-the-document : (fit : Bool) (image : List ℕ) (left right budget room : ℕ) → mergeOf fit image left right budget room ≡ mergeUnder (limits 4096 16384 65536) fit image left right budget room
+unfolding mergeOf
+of-the-document fit image left right budget room = refl
 
 enough : mergeUnder (limits 3 7 9) true imageE 2 3 14 94 ≡ ok listingE
 unfolding imageE mergeUnder text
