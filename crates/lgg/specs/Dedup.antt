@@ -14,11 +14,11 @@ use Rattle.spec.specs.Monomial.{Monomial, MonomialPair, monomialsOf, padPair, b
 use Rattle.spec.specs.Transport.{planSize, planMass}
 use Rattle.spec.specs.Action.{Action, TransportAction, structural, acOps, transports, cellPairs, joins}
 use Rattle.spec.specs.Graph.{enter, enterAll}
-use Rattle.spec.specs.Round.{better, qualityOver, ones, Act, ofAction, ofPlan, worth, stay, Turn, offer, offerActions, offerPlan, offerTransports, turnOf}
+use Rattle.spec.specs.Round.{qualityOver, ones, ofAction, ofPlan, stay, Turn, offer, offerActions, offerPlan, offerTransports, turnOf}
 use Rattle.spec.specs.Meaning.{In, here, _⊑_}
 use Rattle.lgg.specs.Lists.{in-nil, in-cons, in-any}
-use Rattle.lgg.specs.Quality.{⊑-refl, ⊑-of-eq, ⊑-trans, ⊏-not, better-is, two-eq, Total}
-use Rattle.lgg.specs.Turn.{actionQuality, cellQualities, solved, offer-old, offer-new, actions-new, plan-new, transports-new}
+use Rattle.lgg.specs.Quality.{⊑-refl, ⊑-of-eq, ⊑-trans, two-eq, Total}
+use Rattle.lgg.specs.Turn.{actionQuality, cellQualities, solved, offer-old, offer-new, offer-stays, plan-stays, actions-new, plan-new, transports-new}
 use Rattle.lgg.specs.Enter.{Entered, grown, enter-says, starts-in}
 use Rattle.lgg.specs.Bag.{Perm, nil, skip, swap, both, perm-in, perm-sym}
 use Rattle.lgg.specs.Repeats.{Fewer, done, keep, drop, Equal, fewer-all, fewer-seen, fewer-append, fewer-in, fewer-each, fewer-map, fewer-filter, fewer-trans}
@@ -39,14 +39,6 @@ repeat-quality : (q : Two → Two) (a b : Action) → Repeats a b → actionQual
 repeat-quality q a b r = ap {B = Two} (λ (z : Two). (1 + z .0, z .1)) (perm-total q (a .pairs) (b .pairs) (r .pairs))
 
 -- ---- offers
--- an offer that is not strictly better leaves the turn as it is
-pub offer-again : (q : Two → Two) (a : Act) (w : Turn) → w .quality ⊑ worth q a → offer q a w ≡ w
-offer-again q a w h = go (better (worth q a) (w .quality)) refl
-  where
-    go : (b : Bool) → better (worth q a) (w .quality) ≡ b → offer q a w ≡ w
-    go true e = absurd (⊏-not (worth q a) (w .quality) (better-is (worth q a) (w .quality) e) h)
-    go false e = rw e refl
-
 -- structural actions
 actions-fewer : (q : Two → Two) (seen l m : List Action) (w : Turn) → ((a : Action) → In a seen → w .quality ⊑ actionQuality q a) → Fewer Repeats seen l m → offerActions q l w ≡ offerActions q m w
 unfolding offerActions
@@ -55,14 +47,9 @@ actions-fewer q seen l m w h (keep {x = x} {l = j} {m = k} d) =
     let v = offer q (ofAction x) w in
     actions-fewer q (x ∷ seen) j k v (λ a i. elim (in-cons i) [ inl e ↦ rw e (offer-new q (ofAction x) w) | inr n ↦ ⊑-trans (v .quality) (w .quality) (actionQuality q a) (offer-old q (ofAction x) w) (h a n) ]) d
 actions-fewer q seen l m w h (drop {x = x} {l = j} y i r d) =
-    rw (offer-again q (ofAction x) w (⊑-trans (w .quality) (actionQuality q y) (actionQuality q x) (h y i) (⊑-of-eq (repeat-quality q y x r)))) (actions-fewer q seen j m w h d)
+    rw (offer-stays q (ofAction x) w (⊑-trans (w .quality) (actionQuality q y) (actionQuality q x) (h y i) (⊑-of-eq (repeat-quality q y x r)))) (actions-fewer q seen j m w h d)
 
 -- transports
-plan-again : (q : Two → Two) (a : TransportAction) (s : Option (List ℕ)) (w : Turn) → ((x : List ℕ) → s ≡ some x → w .quality ⊑ qualityOver x (cellQualities q a)) → offerPlan q a s w ≡ w
-unfolding offerPlan
-plan-again q a none w h = refl
-plan-again q a (some x) w h = offer-again q (ofPlan a x) w (h x refl)
-
 plan-old : (q : Two → Two) (a : TransportAction) (s : Option (List ℕ)) (w : Turn) → offerPlan q a s w .quality ⊑ w .quality
 unfolding offerPlan
 plan-old q a none w = ⊑-refl (w .quality)
@@ -83,18 +70,18 @@ transports-fewer q seen l m w h (keep {x = a} {l = j} {m = k} d) = transports-fe
     new : (b : TransportAction) → (b ≡ a) ⊎ In b seen → Offered q v b
     new b (inl e) = subst (λ c. Offered q v c) (sym e) (λ x z. plan-new q a (solved q a) w x z)
     new b (inr i) = λ x z. ⊑-trans (v .quality) (w .quality) (qualityOver x (cellQualities q b)) (plan-old q a (solved q a) w) (h b i x z)
-transports-fewer q seen l m w h (drop {x = a} {l = j} y i e d) = rw (plan-again q a (solved q a) w (subst (λ c. Offered q w c) e (h y i))) (transports-fewer q seen j m w h d)
+transports-fewer q seen l m w h (drop {x = a} {l = j} y i e d) = rw (plan-stays q a (solved q a) w (subst (λ c. Offered q w c) e (h y i))) (transports-fewer q seen j m w h d)
 
 -- An action offered again, in whatever order of its pairs, leaves the turn as it is; so does a transport.
 pub action-again : (q : Two → Two) (l : List Action) (w : Turn) (a b : Action) → In a l → Repeats a b → offerActions q (b ∷ []) (offerActions q l w) ≡ offerActions q l w
 unfolding offerActions
 action-again q l w a b i r =
     let v = offerActions q l w in
-    offer-again q (ofAction b) v (⊑-trans (v .quality) (actionQuality q a) (actionQuality q b) (actions-new q l w a i) (⊑-of-eq (repeat-quality q a b r)))
+    offer-stays q (ofAction b) v (⊑-trans (v .quality) (actionQuality q a) (actionQuality q b) (actions-new q l w a i) (⊑-of-eq (repeat-quality q a b r)))
 
 pub transport-again : (q : Two → Two) (l : List TransportAction) (w : Turn) (a : TransportAction) → In a l → offerTransports q (a ∷ []) (offerTransports q l w) ≡ offerTransports q l w
 unfolding offerTransports
-transport-again q l w a i = plan-again q a (solved q a) (offerTransports q l w) (λ x e. transports-new q l w a i x e)
+transport-again q l w a i = plan-stays q a (solved q a) (offerTransports q l w) (λ x e. transports-new q l w a i x e)
 
 -- ---- entering pairs
 enter-again : (lim : Limits) (ps : List Two) (p : Two) → In p ps → enter lim ps p ≡ ok ps

@@ -16,7 +16,7 @@ use Rattle.spec.specs.Action.{Action, TransportAction, structural, transports, 
 use Rattle.spec.specs.Round.{better, cellsOver, qualityOver, ones, problemOver, Act, ofAction, ofPlan, worth, stay, Turn, changes, offer, offerActions, offerPlan, offerTransports, turnOf}
 use Rattle.spec.specs.Meaning.{In, here, there, Plan, _⊑_}
 use Rattle.lgg.specs.Lists.{in-left, in-right, in-each, length-map}
-use Rattle.lgg.specs.Quality.{_⊏_, ⊏-⊑-trans, ⊑-refl, ⊑-trans, ⊏-⊑, better-is, better-not, suc-⊑}
+use Rattle.lgg.specs.Quality.{_⊏_, ⊏-⊑-trans, ⊑-refl, ⊑-trans, ⊏-⊑, ⊏-not, better-is, better-not, suc-⊑}
 
 -- ---- what the transport theorems say of the solver
 pub record TransportTheorems : Type 0 where
@@ -41,6 +41,14 @@ offer-new q a w = go (better (worth q a) (w .quality)) refl
     go : (b : Bool) → better (worth q a) (w .quality) ≡ b → offer q a w .quality ⊑ worth q a
     go true e = rw e (⊑-refl (worth q a))
     go false e = rw e (better-not (worth q a) (w .quality) e)
+
+-- what is not better is not taken
+pub offer-stays : (q : Two → Two) (a : Act) (w : Turn) → w .quality ⊑ worth q a → offer q a w ≡ w
+offer-stays q a w h = go (better (worth q a) (w .quality)) refl
+  where
+    go : (b : Bool) → better (worth q a) (w .quality) ≡ b → offer q a w ≡ w
+    go true e = absurd (⊏-not (worth q a) (w .quality) (better-is (worth q a) (w .quality) e) h)
+    go false e = rw e refl
 
 pub offer-one : (P : Two → Type 0) (q : Two → Two) (a : Act) (w : Turn) → P (worth q a) → P (w .quality) → P (offer q a w .quality)
 offer-one P q a w f b = go (better (worth q a) (w .quality)) refl
@@ -110,6 +118,11 @@ pub plan-new : (q : Two → Two) (a : TransportAction) (s : Option (List ℕ)) (
 unfolding offerPlan
 plan-new q a none w x e = absurd (let z : _≡_ {A = ℕ} 0 1 = cc in omega arith)
 plan-new q a (some y) w x e = let z : y ≡ x = cc in rw (← z) (offer-new q (ofPlan a y) w)
+
+pub plan-stays : (q : Two → Two) (a : TransportAction) (s : Option (List ℕ)) (w : Turn) → ((x : List ℕ) → s ≡ some x → w .quality ⊑ qualityOver x (cellQualities q a)) → offerPlan q a s w ≡ w
+unfolding offerPlan
+plan-stays q a none w h = refl
+plan-stays q a (some x) w h = offer-stays q (ofPlan a x) w (h x refl)
 
 pub transports-new : (q : Two → Two) (l : List TransportAction) (w : Turn) (a : TransportAction) → In a l → (x : List ℕ) → solved q a ≡ some x → offerTransports q l w .quality ⊑ qualityOver x (cellQualities q a)
 unfolding offerTransports

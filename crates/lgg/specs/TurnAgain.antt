@@ -1,41 +1,28 @@
 -- A pair none of whose joined pairs changed in the last round cannot improve: its turn has nothing new to offer.
 use mathlib.Core.Path.{_≡_, refl, sym, ap, _∙_}
-use mathlib.Core.Bool.{Bool, true, false}
 use mathlib.Core.List.{List, [], _∷_, map}
-use mathlib.Core.Option.{Option, none, some}
+use mathlib.Core.Option.{some}
 use Prim.Native.Nat.{ℕ}
 use Rattle.spec.specs.Bytes.{Two}
 use Rattle.spec.specs.Image.{Tables}
 use Rattle.spec.specs.Action.{Action, TransportAction, structural, transports, joins}
-use Rattle.spec.specs.Round.{better, qualityOver, Act, ofAction, ofPlan, worth, stay, Turn, offer, offerActions, offerPlan, offerTransports, turnOf}
+use Rattle.spec.specs.Round.{qualityOver, ofAction, stay, Turn, offerActions, offerTransports, turnOf}
 use Rattle.spec.specs.Meaning.{In, here, there, _⊑_}
-use Rattle.lgg.specs.Quality.{⊑-trans, ⊏-not, better-is}
-use Rattle.lgg.specs.Turn.{actionQuality, cellQualities, solved, actions-old, actions-new, transports-old, transports-new}
+use Rattle.lgg.specs.Quality.{⊑-trans}
+use Rattle.lgg.specs.Turn.{actionQuality, cellQualities, solved, actions-old, actions-new, transports-old, transports-new, offer-stays, plan-stays}
 use Rattle.lgg.specs.TurnAgree.{action-joins, transport-joins, actions-agree, transports-agree}
 
 -- ---- what is not better is not taken
-offer-stays : (q : Two → Two) (a : Act) (w : Turn) → w .quality ⊑ worth q a → offer q a w ≡ w
-offer-stays q a w h = go (better (worth q a) (w .quality)) refl
-  where
-    go : (b : Bool) → better (worth q a) (w .quality) ≡ b → offer q a w ≡ w
-    go true e = absurd (⊏-not (worth q a) (w .quality) (better-is (worth q a) (w .quality) e) h)
-    go false e = rw e refl
-
 module _ (q : Two → Two) where
   actions-stay : (l : List Action) (w : Turn) → ((a : Action) → In a l → w .quality ⊑ actionQuality q a) → offerActions q l w ≡ w
   unfolding offerActions
   actions-stay [] w h = refl
   actions-stay (a ∷ l) w h = ap (offerActions q l) (offer-stays q (ofAction a) w (h a here)) ∙ actions-stay l w (λ b i. h b (there i))
 
-  plan-stays : (a : TransportAction) (s : Option (List ℕ)) (w : Turn) → ((x : List ℕ) → s ≡ some x → w .quality ⊑ qualityOver x (cellQualities q a)) → offerPlan q a s w ≡ w
-  unfolding offerPlan
-  plan-stays a none w h = refl
-  plan-stays a (some x) w h = offer-stays q (ofPlan a x) w (h x refl)
-
   transports-stay : (l : List TransportAction) (w : Turn) → ((a : TransportAction) → In a l → (x : List ℕ) → solved q a ≡ some x → w .quality ⊑ qualityOver x (cellQualities q a)) → offerTransports q l w ≡ w
   unfolding offerTransports
   transports-stay [] w h = refl
-  transports-stay (a ∷ l) w h = ap (offerTransports q l) (plan-stays a (solved q a) w (h a here)) ∙ transports-stay l w (λ b i. h b (there i))
+  transports-stay (a ∷ l) w h = ap (offerTransports q l) (plan-stays q a (solved q a) w (h a here)) ∙ transports-stay l w (λ b i. h b (there i))
 
 -- a pair that keeps the quality z
 abbrev unturned : Two → Turn

@@ -5,8 +5,8 @@ use mathlib.Core.List.{List, [], _∷_, _++_, map}
 use Prim.Native.Nat.{ℕ}
 use lib.ListN.{replicate}
 use Rattle.spec.specs.Bytes.{Limits, text, Two, upFrom, ok, refused, workAfter}
-use Rattle.spec.specs.Graph.{PAIRS, enter}
-use Rattle.spec.specs.Pool.{Pool, Node, opNode, litNode, joinRuns, TERMS, intern, interned}
+use Rattle.spec.specs.Graph.{enter}
+use Rattle.spec.specs.Pool.{Pool, Node, opNode, litNode, joinRuns, intern, interned}
 use Rattle.spec.specs.Transport.{Problem, Cell, cost, solveTransport, planAfter}
 use Rattle.spec.specs.Run.{documentLimits}
 use Rattle.spec.specs.Merge.{mergeUnder, mergeOf, outputAfter}
@@ -45,7 +45,7 @@ work-cleared = (refl, refl)
 -- ---- 12: 4,096 pairs are held, one more is refused, one that is there is not
 unfoldable manyPairs : List Two
 unfolding upFrom
-manyPairs = map (λ i. (i, 0)) (upFrom 0 PAIRS)
+manyPairs = map (λ i. (i, 0)) (upFrom 0 4096)
 
 refused-12 : enter documentLimits manyPairs (5, 1) ≡ refused 12
 unfolding enter manyPairs
@@ -58,7 +58,7 @@ there-already = refl
 -- ---- 13: 16,384 terms are held, and 65,536 runs
 unfoldable fullPool : Pool
 unfolding upFrom
-fullPool = map (λ i. litNode 0 i) (upFrom 0 TERMS)
+fullPool = map (λ i. litNode 0 i) (upFrom 0 16384)
 
 refused-13 : intern documentLimits fullPool (litNode 1 0) ≡ refused 13
 unfolding fullPool intern
