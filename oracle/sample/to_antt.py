@@ -1,17 +1,21 @@
 #!/usr/bin/env python3
-"""Writes the definitions' tests from the small queries: crates/spec/specs/Samples.antt and Refusals.antt from oracle/sample/small.txt,
-Slips.antt from oracle/sample/slips.txt (queries that tell the rules from a porter's slips).
+"""Writes the definitions' tests from the small queries: Samples.antt of crate samples and Refusals.antt of crate spec from oracle/sample/small.txt,
+Slips.antt of crate samples and Kept.antt of crate spec from oracle/sample/slips.txt (queries that tell the rules from a porter's slips).
 Run from the repository's root; then `rt fmt`."""
 import re
+
+# the queries that stand in crate spec, since they refuse a must-fail edit of it that its other tests let pass: sorted_best_terms, structural_after_transport
+KEPT = ['slip: sorted best terms', 'slip: transport first']
 
 HEAD = '''use mathlib.Core.Path.{_≡_, refl}
 use mathlib.Core.List.{List, [], _∷_}
 use Prim.Native.Nat.{ℕ}
 use Prim.Native.String.{String}
 use Rattle.spec.specs.Bytes.{text}
 use Rattle.spec.specs.Merge.{programOf}
 use Rattle.spec.specs.Asked.{Asked, asked, frame, cut, answers, expected, hex, put}
 '''
+INSIDE = HEAD.replace('Rattle.spec.', 'Rattle.spec.specs.')
 
 def blocks(path):
     title, frame, answer = None, None, []
@@ -50,8 +54,8 @@ for t, qs in grouped('oracle/sample/small.txt').items():
         sound = qs[0][0]
     (refusals if sound else samples).append((t, qs))
 
-def queries(path, heading, groups):
-    out = [heading, HEAD]
+def queries(path, heading, head, groups):
+    out = [heading, head]
     for t, qs in groups:
         n = name(t.replace("E: document 01's example", 'image E'))
         image = qs[0][0][:-8]
@@ -63,10 +67,12 @@ def queries(path, heading, groups):
         out += [f'{n}-holds : answers {n} ≡ expected {n}', f'unfolding programOf text answers expected {n}', f'{n}-holds = refl', '']
     open(path, 'w', encoding='utf-8').write('\n'.join(out).rstrip() + '\n')
 
-queries('crates/spec/specs/Samples.antt', '-- Small queries for each feature, and budgets that cut in each phase: answers of the listed Rust (oracle/sample/small.txt).', samples)
-queries('crates/spec/specs/Slips.antt', "-- Queries whose answer tells the rules from a porter's slip: answers of the listed Rust (oracle/sample/slips.txt).", grouped('oracle/sample/slips.txt').items())
+slips = grouped('oracle/sample/slips.txt').items()
+queries('crates/samples/specs/Samples.antt', '-- Small queries for each feature, and budgets that cut in each phase: answers of the listed Rust (oracle/sample/small.txt).', HEAD, samples)
+queries('crates/samples/specs/Slips.antt', "-- Queries whose answer tells the rules from a porter's slip: answers of the listed Rust (oracle/sample/slips.txt).", HEAD, [(t, qs) for t, qs in slips if t not in KEPT])
+queries('crates/spec/specs/Kept.antt', "-- Two queries of crate samples' kind (oracle/sample/slips.txt) that stand here since they refuse a must-fail edit that no other test of this crate refuses.", INSIDE, [(t, qs) for t, qs in slips if t in KEPT])
 
-out = ['-- A sound image, and a damaged one for each way to break a rule, refusals 2 to 11; images that break two rules show the order (oracle/sample/small.txt).', HEAD]
+out = ['-- A sound image, and a damaged one for each way to break a rule, refusals 2 to 11; images that break two rules show the order (oracle/sample/small.txt).', INSIDE]
 out += ['-- five classes over Lit, Plain2, SPair and MSet, and a query', 'unfoldable sound : List ℕ', 'unfolding hex', f'sound = hex "{bytes(sound).hex()}"', '']
 tables = {}
 for t, qs in refusals:

@@ -1,16 +1,17 @@
 #!/usr/bin/env python3
-# run.py [LABEL | mod:MODULE ..]: tries slips of slips.py, each on a copy of crate spec that is checked against its test modules one after the other, and prints what refuses it. From the repository's root; --jobs N at a time (2).
+# run.py [LABEL | mod:MODULE ..]: tries slips of slips.py, each on a copy of crate spec that is checked against the test modules of crates spec and samples one after the other, and prints what refuses it. From the repository's root; --jobs N at a time (2).
 import os, queue, re, shutil, subprocess, sys, tempfile, threading
 
 from slips import SLIPS
 
 here = os.path.dirname(os.path.abspath(__file__))
-spec = os.path.join(here, '../../crates/spec')
+crates = os.path.join(here, '../../crates')
 home = os.path.dirname(os.path.dirname(os.path.realpath(shutil.which('rt'))))
 own = f'{home}/on/{os.uname().machine}'
 definitions = 'Bytes Image Monomial Transport Action Graph Pool Round Run Listing Merge Meaning'.split()
-# groups of test modules, the quickest first
-tests = [['Asked', 'Belonging'], ['Asked', 'Edges', 'Found'], ['Asked', 'Slips'], ['Asked', 'Refusals'], ['Asked', 'Limits', 'Bounds'], ['Asked', 'Samples']]
+# groups of test modules, the quickest first; those of crate samples stand in the copy as modules of spec
+samples = 'Samples Slips Bounds'.split()
+tests = [['Asked', 'Belonging'], ['Asked', 'Edges', 'Found', 'Kept'], ['Asked', 'Slips'], ['Asked', 'Refusals'], ['Asked', 'Limits', 'Bounds'], ['Asked', 'Samples']]
 
 
 # PASSED; REFUSED with the tests that fail; FORM where the definition itself no longer stands
@@ -19,10 +20,10 @@ def check(module, changes, group):
     try:
         os.makedirs(folder + '/src')
         os.makedirs(folder + '/specs')
-        shutil.copy(spec + '/src/lib.rt', folder + '/src/lib.rt')
+        shutil.copy(crates + '/spec/src/lib.rt', folder + '/src/lib.rt')
         modules = definitions + group
         for m in modules:
-            text = open(f'{spec}/specs/{m}.antt', encoding='utf-8').read()
+            text = open(f"{crates}/{'samples' if m in samples else 'spec'}/specs/{m}.antt", encoding='utf-8').read().replace('Rattle.spec.', 'Rattle.spec.specs.')
             if m == module:
                 for old, new in changes:
                     if text.count(old) != 1:

@@ -12,10 +12,8 @@ pub mod Merge
 pub mod Meaning
 pub mod Edges
 pub mod Asked
-pub mod Samples
 pub mod Refusals
 pub mod Limits
-pub mod Slips
 pub mod Found
-pub mod Bounds
+pub mod Kept
 pub mod Belonging

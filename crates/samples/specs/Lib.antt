@@ -1,0 +1,3 @@
+pub mod Samples
+pub mod Slips
+pub mod Bounds

@@ -1,0 +1,1 @@
+// definitions against answers of the listed Rust: see specs/
