@@ -6,15 +6,15 @@ ghost use Rattle.spec.specs.Bytes as b;
 ghost use Rattle.spec.specs.Image.{CHILD-BYTES, HEADER, imageOf, tablesOf, tablesRules};
 ghost use Rattle.image.specs.Loaded.{Loaded};
 ghost use Rattle.judge.specs.Verdict.{Carries, countsWithin, headerOf, resultOf, verdictAs, verdictOf};
+use best_rules::bests_right;
+use child_rules::children_right;
 use image::Image;
 use image::be2;
 use image::be4;
 use literals::doubled;
 use numbers::long_size;
-use rules::bests::bests_right;
-use rules::children::children_right;
-use rules::operations::operations_right;
-use rules::spans::spans_right;
+use operation_rules::operations_right;
+use span_rules::spans_right;
 
 mod literals;
 

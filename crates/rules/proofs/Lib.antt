@@ -1,4 +1,0 @@
-pub mod OperationLaws
-pub mod SpanLaws
-pub mod ChildLaws
-pub mod BestLaws
