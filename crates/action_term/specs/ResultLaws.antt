@@ -11,16 +11,16 @@ use Rattle.lgg.specs.Pool.{RunsBelow, NodeValid, op-valid}
 use Rattle.lgg.specs.PoolSort.{sort-perm, perm-below}
 use Rattle.terms.specs.Buffers.{part, unpack, nodesIn, poolOf, nodeOf, countIn}
 use Rattle.terms.specs.Chains.{Holds}
-use Rattle.terms.specs.Interning.{enteredOf, poolAfter, Interning}
-use Rattle.terms.specs.Joining.{joinNumbers, over, Begins, joinedIn}
+use Rattle.interning.specs.Interning.{enteredOf, poolAfter, Interning}
+use Rattle.joining.specs.Joining.{joinNumbers, over, Begins, joinedIn}
 use Rattle.action_term.specs.Sorting.{sortNumbers, orderedIn}
-use Rattle.terms.specs.Growing.{Grows}
-use Rattle.terms.specs.GrowLaws.{grows-intern}
+use Rattle.interning.specs.Growing.{Grows}
+use Rattle.interning.specs.GrowLaws.{grows-intern}
 use Rattle.action_term.specs.Results.{actionList, ActionResult}
-use Rattle.terms.specs.PartLaws.{part-length}
-use Rattle.terms.specs.JoinLaws.{part-take, part-front, joined-runs, join-sum, begins-fits, op-node}
+use Rattle.terms.specs.PartLaws.{part-length, part-take, part-front}
+use Rattle.joining.specs.JoinLaws.{joined-runs, join-sum, begins-fits, op-node}
 use Rattle.action_term.specs.SortLaws.{sorted-runs, sort-length, sort-sum}
-use Rattle.terms.specs.declared.Entered.{Entered}
+use Rattle.interning.specs.declared.Entered.{Entered}
 
 pub over-same : (list : List ℕ) (n : ℕ) → n ≤ length list → list ≡ over (part list 0 n) list
 over-same list n h = rw (part-length list 0 n, part-take list n h) (sym (take-append-drop n list))

@@ -7,11 +7,11 @@ use Rattle.spec.specs.Bytes.{Limits, pick}
 use Rattle.spec.specs.Pool.{opNode, sortRuns, intern}
 use Rattle.terms.specs.Buffers.{part, unpack, poolOf}
 use Rattle.terms.specs.Chains.{Holds}
-use Rattle.terms.specs.Interning.{enteredOf, poolAfter, Interning}
-use Rattle.terms.specs.Growing.{laidOver, Grows}
-use Rattle.terms.specs.Joining.{over, joinedIn, joinNumbers}
+use Rattle.interning.specs.Interning.{enteredOf, poolAfter, Interning}
+use Rattle.interning.specs.Growing.{laidOver, Grows}
+use Rattle.joining.specs.Joining.{over, joinedIn, joinNumbers}
 use Rattle.action_term.specs.Sorting.{orderedIn}
-use Rattle.terms.specs.declared.Entered.{Entered}
+use Rattle.interning.specs.declared.Entered.{Entered}
 use lib.ListN.{length}
 
 -- the list that is interned: ordered, then joined, in place

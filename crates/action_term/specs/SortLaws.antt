@@ -16,8 +16,7 @@ use Rattle.lgg.specs.Pool.{RunsBelow, runs-below-cons, runs-below-tail, runs-be
 use Rattle.lgg.specs.PoolSort.{sort-perm, perm-below}
 use Rattle.terms.specs.Buffers.{part, unpack}
 use Rattle.action_term.specs.Sorting.{insertNumber, sortNumbers, within}
-use Rattle.terms.specs.PartLaws.{part-length, part-cons, part-over, part-cong, part-at}
-use Rattle.terms.specs.JoinLaws.{part-take, part-front}
+use Rattle.terms.specs.PartLaws.{part-length, part-cons, part-over, part-cong, part-at, part-take, part-front}
 
 -- ---- against the definitions
 insert-unpack : (p : Pool) (x : ℕ) (l : List ℕ) → map unpack (insertNumber p x l) ≡ insertRun p (unpack x) (map unpack l)

@@ -1,7 +1,7 @@
 // The term of an action: "children of commutative kinds, sorted", joined and interned.
+use interning::Entered;
 use query::Limits;
 use term_order::Order;
-use terms::Entered;
 ghost use mathlib.Core.Path.{_≡_};
 ghost use mathlib.Core.List.{map};
 ghost use Prim.Native.Nat.{_+_, _-_, _^_, _≤_, _<_};
@@ -12,7 +12,7 @@ ghost use Rattle.query.specs.Settings.{limitsOf};
 ghost use Rattle.lgg.specs.Pool.{RunsBelow};
 ghost use Rattle.terms.specs.Buffers.{countIn, part, unpack, poolOf};
 ghost use Rattle.terms.specs.Chains.{Holds, Rooms};
-ghost use Rattle.terms.specs.Joining.{over};
+ghost use Rattle.joining.specs.Joining.{over};
 ghost use Rattle.action_term.specs.Sorting.{insertNumber, sortNumbers, within, orderedIn};
 ghost use Rattle.action_term.specs.Results.{ActionResult};
 
@@ -83,6 +83,6 @@ pub fn intern_action_result(
     ensures { λ r. ⌜ ActionResult (limitsOf lim) (now (terms .entry)) (now (runs .entry)) (now (list .entry)) n op commutative (now (terms .exit)) (now (runs .exit)) (now (list .exit)) r ⌝ }
 {
     order_children(terms, runs, list, n, commutative);
-    let m = terms::join_runs(list, n);
-    terms::intern(lim, terms, runs, list, m, op, 0)
+    let m = joining::join_runs(list, n);
+    interning::intern(lim, terms, runs, list, m, op, 0)
 }

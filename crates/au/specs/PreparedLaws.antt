@@ -26,7 +26,7 @@ use Rattle.image.specs.declared.Image.{Image}
 use Rattle.query.specs.Settings.{askedOf}
 use Rattle.query.specs.declared.Query.{Query}
 use Rattle.arrays.specs.ArrayLaws.{square}
-use Rattle.terms.specs.Growing.{Grows}
+use Rattle.interning.specs.Growing.{Grows}
 use Rattle.graph.specs.Building.{graphAfter}
 use Rattle.graph.specs.Built.{after-again}
 use Rattle.outcome.specs.Answers as X

@@ -26,17 +26,17 @@ use Rattle.lgg.specs.PoolIntern.{Extends, extends-refl}
 use Rattle.lgg.specs.BestMembers.{best-in, best-falls, child-within, child-counted, member-arity, children-length}
 use Rattle.terms.specs.Buffers.{poolOf, nodesIn, countIn}
 use Rattle.terms.specs.Chains.{Holds}
-use Rattle.terms.specs.Interning.{enteredOf, poolAfter}
-use Rattle.terms.specs.Growing.{Grows}
-use Rattle.terms.specs.GrowLaws.{grows-none, grows-then}
+use Rattle.interning.specs.Interning.{enteredOf, poolAfter}
+use Rattle.interning.specs.Growing.{Grows}
+use Rattle.interning.specs.GrowLaws.{grows-none, grows-then}
 use Rattle.best_terms.specs.Reaching.{mark, marksOf, reachAll, reachIn, reach}
 use Rattle.best_terms.specs.ReachLaws.{reach-marked, reach-down, reach-built, mark-none, mark-some, marks-set, reachOn, reach-on-end, reach-on-next}
 use Rattle.member_terms.specs.Members.{Gives, Built, keptRun, memberNode, MemberReady}
 use Rattle.best_terms.specs.Bests.{Kept}
 use Rattle.terms.specs.PoolLaws.{pool-length}
 use Rattle.best_terms.specs.BestLaws.{Again, best-again, best-literal, best-node, children-built, down-ok, down-refused, onward, onward-end, onward-down, onward-up, onward-refused}
-use Rattle.terms.specs.declared.Entered.{Entered}
-use Rattle.terms.specs.declared.Entered.the-variants as E
+use Rattle.interning.specs.declared.Entered.{Entered}
+use Rattle.interning.specs.declared.Entered.the-variants as E
 
 -- the classes that wait: each is larger than the one before it, and unbuilt
 pub data Linked (t : Tables) (best waiting : List ℕ) : ℕ → List ℕ → Type 0 where

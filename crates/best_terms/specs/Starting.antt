@@ -19,9 +19,9 @@ use Rattle.lgg.specs.Pool.{PoolValid, variants-valid}
 use Rattle.lgg.specs.PoolIntern.{Extends, extends-within, intern-enters}
 use Rattle.terms.specs.Buffers.{poolOf, nodesIn, countIn}
 use Rattle.terms.specs.Chains.{Holds}
-use Rattle.terms.specs.Interning.{enteredOf, poolAfter}
-use Rattle.terms.specs.Growing.{laidOver, Grows}
-use Rattle.terms.specs.GrowLaws.{grows-then}
+use Rattle.interning.specs.Interning.{enteredOf, poolAfter}
+use Rattle.interning.specs.Growing.{laidOver, Grows}
+use Rattle.interning.specs.GrowLaws.{grows-then}
 use Rattle.best_terms.specs.Reaching.{mark, marksOf, reachAll, reachIn, reach, numberOf, bestAfter, bestsAfter}
 use Rattle.best_terms.specs.ReachLaws.{reach-marked, reach-there, mark-none, mark-some}
 use Rattle.member_terms.specs.Members.{Gives}
@@ -29,8 +29,8 @@ use Rattle.best_terms.specs.Bests.{Kept}
 use Rattle.terms.specs.PoolLaws.{pool-length}
 use Rattle.best_terms.specs.BestLaws.{Again, best-again}
 use Rattle.best_terms.specs.Building.{Builds, Keeps, keeps-then, full-told, term-told, kept-grows, grown-to}
-use Rattle.terms.specs.declared.Entered.{Entered}
-use Rattle.terms.specs.declared.Entered.the-variants as E
+use Rattle.interning.specs.declared.Entered.{Entered}
+use Rattle.interning.specs.declared.Entered.the-variants as E
 
 -- every number is zero
 abbrev pub Cleared : List ℕ → List ℕ → List ℕ → List ℕ → List ℕ → List ℕ → Type 0

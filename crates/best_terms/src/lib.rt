@@ -1,7 +1,7 @@
 // Best terms and starting terms: the best term of each class is built once in the term pool and kept by its number plus 1.
 use image::Image;
+use interning::Entered;
 use query::Limits;
-use terms::Entered;
 ghost use mathlib.Core.Path.{_≡_};
 ghost use Prim.Native.Nat.{_<_};
 ghost use lib.ListN.{length, getD};

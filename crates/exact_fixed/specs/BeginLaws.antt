@@ -17,7 +17,7 @@ use Rattle.terms.specs.Buffers.{LEAST, poolOf}
 use Rattle.terms.specs.Emptying.{emptied, emptied-pool, emptied-length}
 use Rattle.best_terms.specs.Building.{full-told, term-told}
 use Rattle.best_terms.specs.Starting.{Starts}
-use Rattle.terms.specs.declared.Entered.the-variants as E
+use Rattle.interning.specs.declared.Entered.the-variants as E
 use Rattle.graph.specs.Building.{builtOf, Builds}
 use Rattle.exact_fixed.specs.Beginning.{begunOf, Begins}
 use Rattle.exact_fixed.specs.declared.Begun.{Begun}

@@ -12,7 +12,7 @@ use Rattle.arrays.specs.Arrays.{Scratch}
 use Rattle.terms.specs.Buffers.{poolOf}
 use Rattle.terms.specs.Chains.{Holds, Rooms}
 use Rattle.terms.specs.Emptying.{emptied}
-use Rattle.terms.specs.Growing.{Grows}
+use Rattle.interning.specs.Growing.{Grows}
 use Rattle.graph.specs.Building.{graphAfter}
 use Rattle.exact_fixed.specs.declared.Begun.{Begun}
 use Rattle.exact_fixed.specs.declared.Begun.the-variants as B

@@ -26,7 +26,7 @@ use Rattle.terms.specs.PoolLaws.{pool-length}
 use Rattle.best_terms.specs.Bests.{Kept}
 use Rattle.best_terms.specs.Building.{full-told, term-told}
 use Rattle.best_terms.specs.Starting.{Starts}
-use Rattle.terms.specs.declared.Entered.the-variants as E
+use Rattle.interning.specs.declared.Entered.the-variants as E
 use Rattle.rounds.specs.Graphs.{InRange}
 use Rattle.exact_fixed.specs.declared.One.{One}
 use Rattle.exact_fixed.specs.declared.One.the-variants as O

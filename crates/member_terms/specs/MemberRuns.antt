@@ -19,13 +19,13 @@ use Rattle.image.specs.Loaded.{Loaded, theChild, children-many}
 use Rattle.image.specs.declared.Image.{Image}
 use Rattle.terms.specs.Buffers.{part, unpack, nodesIn, poolOf, nodeOf, countIn}
 use Rattle.terms.specs.Chains.{Holds}
-use Rattle.terms.specs.Interning.{enteredOf, poolAfter, Interning}
-use Rattle.terms.specs.Joining.{joinNumbers, over, Begins, joinedIn}
+use Rattle.interning.specs.Interning.{enteredOf, poolAfter, Interning}
+use Rattle.joining.specs.Joining.{joinNumbers, over, Begins, joinedIn}
 use Rattle.member_terms.specs.Members.{Gives, Built, keptRun, keptNumber, memberNode, MemberReady}
-use Rattle.terms.specs.PartLaws.{part-length}
-use Rattle.terms.specs.JoinLaws.{part-front, joined-runs, join-sum, op-node}
-use Rattle.terms.specs.GrowLaws.{grows-intern}
-use Rattle.terms.specs.declared.Entered.{Entered}
+use Rattle.terms.specs.PartLaws.{part-length, part-front}
+use Rattle.joining.specs.JoinLaws.{joined-runs, join-sum, op-node}
+use Rattle.interning.specs.GrowLaws.{grows-intern}
+use Rattle.interning.specs.declared.Entered.{Entered}
 
 pub fill-turn : (P : ℕ → ℕ → Type 0) (list : List ℕ) (i x : ℕ) → i < length list → ((j : ℕ) → j < i → P j (getD list j 0)) → P i x → (j : ℕ) → j < i + 1 → P j (getD (set list i x) j 0)
 fill-turn P list i x h f q j k = go (eq-or-lt-of-le {n = j} {m = i} (omega arith))

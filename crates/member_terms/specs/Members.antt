@@ -10,9 +10,9 @@ use Rattle.spec.specs.Pool.{Node, litNode, opNode, Interned}
 use Rattle.spec.specs.Meaning.{In}
 use Rattle.terms.specs.Buffers.{poolOf, countIn}
 use Rattle.terms.specs.Chains.{Holds}
-use Rattle.terms.specs.Interning.{enteredOf, poolAfter}
-use Rattle.terms.specs.Growing.{laidOver, Grows}
-use Rattle.terms.specs.declared.Entered.{Entered}
+use Rattle.interning.specs.Interning.{enteredOf, poolAfter}
+use Rattle.interning.specs.Growing.{laidOver, Grows}
+use Rattle.interning.specs.declared.Entered.{Entered}
 
 -- the answer and the buffers where the definitions give m
 pub record Gives (terms runs terms′ runs′ : List ℕ) (m : Res Interned) (r : Entered) : Type 0 where

@@ -1,7 +1,7 @@
 // A member's term: a literal, or an operation over the kept best terms of its children's classes; and the marked place of two terms.
 use image::Image;
+use interning::Entered;
 use query::Limits;
-use terms::Entered;
 ghost use mathlib.Core.Path.{_≡_};
 ghost use Prim.Native.Nat.{ℕ, _+_, _^_, _≤_, _<_};
 ghost use mathlib.Core.List.{map};
@@ -44,7 +44,7 @@ fn lit_term(lim: Limits, terms: &mut [u32], runs: &mut [u64], op: usize, v: u64)
     ensures { λ r. ⌜ Gives (now (terms .entry)) (now (runs .entry)) (now (terms .exit)) (now (runs .exit)) (intern (limitsOf lim) (poolOf (now (terms .entry)) (now (runs .entry))) (litNode op v)) r ⌝ }
 {
     let list = [0u64; 1];
-    terms::intern(
+    interning::intern(
         lim,
         terms,
         runs,
@@ -72,8 +72,8 @@ fn op_term(
     let k = image::first_child(s, im, m);
     let n = image::child_count(s, im, m);
     kept_runs(s, im, best, &mut list, k, n);
-    let j = terms::join_runs(&mut list, n);
-    terms::intern(lim, terms, runs, &list, j, numbers::short_size(op), 0)
+    let j = joining::join_runs(&mut list, n);
+    interning::intern(lim, terms, runs, &list, j, numbers::short_size(op), 0)
 }
 
 // The term of a member all of whose children's classes are built, "which keep stored order".
@@ -106,6 +106,6 @@ pub fn variants(lim: Limits, terms: &mut [u32], runs: &mut [u64], a: usize, b: u
     let mut list = [0u64; 2];
     numbers::put_u64(&mut list, 0, 16384 + numbers::long_size(a));
     numbers::put_u64(&mut list, 1, 16384 + numbers::long_size(b));
-    let n = terms::join_runs(&mut list, 2);
-    terms::intern(lim, terms, runs, &list, n, 128, 0)
+    let n = joining::join_runs(&mut list, 2);
+    interning::intern(lim, terms, runs, &list, n, 128, 0)
 }

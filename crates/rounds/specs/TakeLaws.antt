@@ -18,7 +18,7 @@ use Rattle.arrays.specs.ArrayLaws.{place-lt}
 use Rattle.terms.specs.Buffers.{poolOf, countIn}
 use Rattle.terms.specs.PoolLaws.{pool-length}
 use Rattle.terms.specs.Chains.{Holds}
-use Rattle.terms.specs.Interning.{poolAfter}
+use Rattle.interning.specs.Interning.{poolAfter}
 use Rattle.turns.specs.Taking.{takenOf, Takes}
 use Rattle.turns.specs.declared.Turned.{Turned}
 use Rattle.turns.specs.declared.Taken.the-variants as K

@@ -3,7 +3,7 @@
 -- runs: a run is one number, count * 16384 + child.
 use mathlib.Core.List.{List, [], _∷_, _++_, map}
 use Prim.Native.Nat.{ℕ, zero, suc, _+_, _*_, _-_, _/_, _%_}
-use lib.ListN.{length, getD}
+use lib.ListN.{getD}
 use Rattle.spec.specs.Bytes.{Two}
 use Rattle.spec.specs.Pool.{Pool, Node}
 

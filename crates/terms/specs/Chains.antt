@@ -1,12 +1,12 @@
 -- Chains: terms with the same key stand in one chain, which a search for a node walks.
 use mathlib.Core.Path.{_≡_}
 use mathlib.Core.List.{List, [], _∷_}
-use Prim.Native.Nat.{ℕ, zero, suc, _+_, _*_, _-_, _/_, _%_, _^_, _≤_, _<_}
-use lib.ListN.{length, getD}
+use Prim.Native.Nat.{ℕ, _+_, _*_, _-_, _/_, _%_, _^_, _≤_, _<_}
+use lib.ListN.{length}
 use Rattle.spec.specs.Bytes.{Limits, sum}
 use Rattle.spec.specs.Pool.{TERMS, RUNS}
 use Rattle.lgg.specs.Pool.{PoolValid}
-use Rattle.terms.specs.Buffers.{BUCKETS, LEAST, NUMBERS, firstIn, headIn, valueIn, chainIn, bucketIn, countIn, partIn, poolOf, part, nodesIn}
+use Rattle.terms.specs.Buffers.{BUCKETS, LEAST, firstIn, headIn, valueIn, chainIn, bucketIn, countIn, partIn, poolOf}
 
 abbrev pub mixOf : ℕ → ℕ → ℕ
 mixOf x r = (x * 31 + r % 4294967296 + r / 4294967296) % 4294967296

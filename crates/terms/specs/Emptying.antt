@@ -1,14 +1,13 @@
 -- The empty pool: its numbers in buffers with any content.
-use mathlib.Core.Path.{_≡_, refl, sym, ap, _∙_}
+use mathlib.Core.Path.{_≡_, refl}
 use mathlib.Core.List.{List, [], _++_}
-use Prim.Native.Nat.{ℕ, zero, suc, _+_, _*_, _-_, _≤_, _<_}
+use Prim.Native.Nat.{ℕ, zero, suc, _+_, _≤_, _<_}
 use native.Mathlib.Nat.{not-suc-le-zero}
 use native.Mathlib.Omega.{arith}
 use lib.ListN.{length, getD, drop, replicate, length-append, length-drop, length-replicate}
-use Rattle.spec.specs.Pool.{Pool}
 use Rattle.lgg.specs.Pool.{empty-valid}
-use Rattle.terms.specs.Buffers.{BUCKETS, BUCKET, COUNT, FIRSTS, LEAST, part, nodesIn, poolOf, firstIn, bucketIn, countIn}
-use Rattle.terms.specs.Chains.{Chained, Holds}
+use Rattle.terms.specs.Buffers.{BUCKETS, BUCKET, COUNT, FIRSTS, LEAST, nodesIn, poolOf, firstIn, bucketIn, countIn}
+use Rattle.terms.specs.Chains.{Holds}
 
 -- no term: the chains' last terms, the count and where the first term's runs begin are 0
 unfoldable pub emptied : List ℕ → List ℕ

@@ -1,13 +1,5 @@
 pub mod Buffers
 pub mod Chains
-pub mod Interning
 pub mod PartLaws
 pub mod PoolLaws
-pub mod ChainLaws
-pub mod EnterLaws
-pub mod InternLaws
 pub mod Emptying
-pub mod Growing
-pub mod Joining
-pub mod JoinLaws
-pub mod GrowLaws

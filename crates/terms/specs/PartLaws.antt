@@ -1,14 +1,12 @@
 -- Parts of a buffer.
 use mathlib.Core.Path.{_≡_, refl, sym, ap, ap₂, _∙_}
-use mathlib.Core.List.{List, [], _∷_, _++_, map, append-assoc}
-use Prim.Native.Nat.{ℕ, zero, suc, _+_, _*_, _-_, _/_, _%_, _≤_, _<_}
+use mathlib.Core.List.{List, [], _∷_, _++_}
+use Prim.Native.Nat.{ℕ, zero, suc, _+_, _-_, _≤_, _<_}
 use native.Mathlib.Nat.{not-suc-le-zero}
-use native.Mathlib.Numerals.{add-one}
 use native.Mathlib.Omega.{arith}
-use lib.ListN.{length, getD, take, drop, set, length-take, length-append, List·getD-append}
-use lib.Seq.{paste, paste-suc, getD-take, getD-drop, take-append-le, length-take-le, getD-append-add}
-use Rattle.terms.specs.Buffers.{part, unpack}
-use Rattle.terms.specs.Chains.{mixOf, mixAll, fold, keyOf}
+use lib.ListN.{length, getD, take, length-append}
+use lib.Seq.{ext-getD, length-take-le, getD-take, take-at}
+use Rattle.terms.specs.Buffers.{part}
 
 pub part-length : (l : List ℕ) (a n : ℕ) → length (part l a n) ≡ n
 unfolding part
@@ -49,57 +47,12 @@ unfolding part
 part-snoc l a zero = let e : a + 0 ≡ a = omega arith in rw e refl
 part-snoc l a (suc n) = let e : suc a + n ≡ a + suc n = omega arith in ap (λ (t : List ℕ). getD l a 0 ∷ t) (part-snoc l (suc a) n ∙ ap (λ (z : ℕ). part l (suc a) n ++ (getD l z 0 ∷ [])) e)
 
--- a turn of the comparison
-pub parts-more : (l m : List ℕ) (a i : ℕ) → part l a i ≡ part m 0 i → getD l (a + i) 0 ≡ getD m i 0 → part l a (i + 1) ≡ part m 0 (i + 1)
-parts-more l m a i e f = let s : i + 1 ≡ suc i = omega arith in rw s (part-snoc l a i ∙ ap₂ (λ (t : List ℕ) (x : ℕ). t ++ (x ∷ [])) e (f ∙ ap (λ (z : ℕ). getD m z 0) (omega arith)) ∙ sym (part-snoc m 0 i))
-
-pub parts-differ : (l m : List ℕ) (a n i : ℕ) → i < n → (getD l (a + i) 0 ≡ getD m i 0 → ⊥) → part l a n ≡ part m 0 n → ⊥
-parts-differ l m a n i h d e = let z : 0 + i ≡ i = omega arith in d (sym (part-at l a n i h) ∙ ap (λ (t : List ℕ). getD t i 0) e ∙ rw z at (part-at m 0 n i h))
-
-pub parts-all : (l m : List ℕ) (a n i : ℕ) → i ≡ n → part l a i ≡ part m 0 i → part l a n ≡ part m 0 n
-parts-all l m a n i h e = rw h at e
-
-pub parts-none : (l m : List ℕ) (a : ℕ) → part l a 0 ≡ part m 0 0
-unfolding part
-parts-none l m a = refl
-
--- a turn of the key
-pub key-more : (x : ℕ) (l : List ℕ) (i n : ℕ) → i < n → mixAll x (part l i (n - i)) ≡ mixAll (mixOf x (getD l i 0)) (part l (i + 1) (n - (i + 1)))
-unfolding mixAll
-key-more x l i n h = rw (part-cons l i n h) refl
-
-pub key-all : (x : ℕ) (l : List ℕ) (i n : ℕ) → n ≤ i → mixAll x (part l i (n - i)) ≡ x
-unfolding mixAll part
-key-all x l i n h = let e : n - i ≡ 0 = omega arith in rw e refl
-
--- a part of what was copied; a part before it
-pub paste-part : (l m : List ℕ) (a n : ℕ) → a + n ≤ length l → n ≤ length m → part (paste l a m n) a n ≡ part m 0 n
-paste-part l m a n h k = part-cong (paste l a m n) m a 0 n (λ i q. at i q)
+-- the front of a buffer
+pub part-take : (list : List ℕ) (k : ℕ) → k ≤ length list → part list 0 k ≡ take k list
+part-take list k h = ext-getD 0 (part list 0 k) (take k list) (part-length list 0 k ∙ sym (length-take-le k list h)) (λ i q. at i (rw (part-length list 0 k) at q))
   where
-    at : (i : ℕ) → i < n → getD (paste l a m n) (a + i) 0 ≡ getD m (0 + i) 0
-    at i q =
-        let e : a + i ≡ length (take a l) + i = omega (arith, length-take-le a l (omega arith)) in
-        let z : 0 + i ≡ i = omega arith in
-        let w : i < length (take n m) = omega (arith, length-take-le n m k) in
-        rw (e, z) (ap (λ (t : List ℕ). getD t (length (take a l) + i) 0) (append-assoc (take a l) (take n m) (drop (a + n) l)) ∙ getD-append-add (take a l) (take n m ++ drop (a + n) l) i 0 ∙ List·getD-append (take n m) (drop (a + n) l) 0 i w ∙ getD-take n m i 0 q)
+    at : (i : ℕ) → i < k → getD (part list 0 k) i 0 ≡ getD (take k list) i 0
+    at i q = let z : 0 + i ≡ i = omega arith in rw z at (part-at list 0 k i q) ∙ sym (getD-take k list i 0 q)
 
-pub paste-before : (l m : List ℕ) (a n i : ℕ) → i < a → a ≤ length l → getD (paste l a m n) i 0 ≡ getD l i 0
-paste-before l m a n i h k =
-    ap (λ (t : List ℕ). getD t i 0) (append-assoc (take a l) (take n m) (drop (a + n) l)) ∙ List·getD-append (take a l) (take n m ++ drop (a + n) l) 0 i (omega (arith, length-take-le a l k)) ∙ getD-take a l i 0 h
-
--- the key's loop: its start, a turn, its end
-pub key-start : {h v a b : ℕ} (l : List ℕ) (n : ℕ) → a ≡ h → b ≡ v → fold (mixAll ((a * 4096 + b) % 4294967296) (part l 0 (n - 0))) ≡ keyOf h v (part l 0 n)
-unfolding keyOf
-key-start l n e f = let z : n - 0 ≡ n = omega arith in rw (e, f, z) refl
-
-pub key-turn : {y k : ℕ} (x : ℕ) (l : List ℕ) (i n : ℕ) → i < n → y ≡ mixOf x (getD l i 0) → fold (mixAll x (part l i (n - i))) ≡ k → fold (mixAll y (part l (i + 1) (n - (i + 1)))) ≡ k
-key-turn x l i n h e q = rw e (sym (ap (λ (z : ℕ). fold z) (key-more x l i n h)) ∙ q)
-
-pub key-end : {k r : ℕ} (x : ℕ) (l : List ℕ) (i n : ℕ) → n ≤ i → r ≡ fold x → fold (mixAll x (part l i (n - i))) ≡ k → r ≡ k
-key-end x l i n h e q = e ∙ sym (ap (λ (z : ℕ). fold z) (key-all x l i n h)) ∙ q
-
-pub paste-turn : (d s : List ℕ) (at j : ℕ) (e : List ℕ) → at + j < length d → j < length s → e ≡ paste d at s j → set e (at + j) (getD s j 0) ≡ paste d at s (j + 1)
-paste-turn d s at j e h k q = let z : j + 1 ≡ suc j = omega arith in rw (q, z) (paste-suc d at s j 0 h k)
-
-pub sub-same : {a b c d : ℕ} → a ≡ b → c ≡ d → a - c ≡ b - d
-sub-same e f = rw (e, f) refl
+pub part-front : (l t : List ℕ) (m : ℕ) → m ≡ length l → part (l ++ t) 0 m ≡ l
+part-front l t m e = part-take (l ++ t) m (omega (arith, length-append l t)) ∙ take-at l t m (sym e)

@@ -1,58 +1,16 @@
--- The pool that the buffers hold: its entries, their numbers, and when an entry is a node.
-use mathlib.Core.Path.{_≡_, refl, sym, ap, ap₂, _∙_}
-use mathlib.Core.Logic.{_≢_, _⊎_, inl, inr}
-use mathlib.Core.Bool.{Bool, true, false}
-use mathlib.Core.List.{List, [], _∷_, _++_, map}
-use Prim.Native.Nat.{ℕ, zero, suc, _+_, _*_, _-_, _/_, _%_, _^_, _≤_, _<_}
+-- The pool that the buffers hold: its entries, and where their runs stand.
+use mathlib.Core.Path.{_≡_, refl, sym, ap, _∙_}
+use mathlib.Core.Logic.{_⊎_, inl, inr}
+use mathlib.Core.List.{List, [], _∷_, _++_}
+use Prim.Native.Nat.{ℕ, zero, suc, _+_, _-_, _^_, _≤_, _<_}
 use native.Mathlib.Nat.{not-suc-le-zero, eq-or-lt-of-le}
 use native.Mathlib.Omega.{arith}
-use lib.ListN.{length, getD, length-append, length-map, List·getD-append}
-use Rattle.spec.specs.Bytes.{Limits, Two, sum}
-use Rattle.spec.specs.Pool.{Pool, Node, nodeAt, TERMS, RUNS, runCount}
+use lib.ListN.{length, length-append, List·getD-append}
+use Rattle.spec.specs.Bytes.{Limits, sum}
+use Rattle.spec.specs.Pool.{nodeAt, RUNS}
 use Rattle.lgg.specs.Pool.{getD-last}
-use Rattle.terms.specs.Buffers.{part, unpack, nodeOf, nodeIn, nodesIn, poolOf, partIn, lengthIn, firstIn, headIn, valueIn, countIn}
+use Rattle.terms.specs.Buffers.{part, nodeIn, nodesIn, poolOf, lengthIn, firstIn, countIn}
 use Rattle.terms.specs.Chains.{Holds, Rooms}
-use Rattle.terms.specs.Interning.{Tells}
-use Rattle.terms.specs.PartLaws.{part-length}
-
--- ---- a node's numbers can be read off the node
-split-inj : (x y : ℕ) → x / 64 ≡ y / 64 → x % 64 ≡ y % 64 → x ≡ y
-split-inj x y e f = omega arith
-
-unpack-inj : (x y : ℕ) → unpack x ≡ unpack y → x ≡ y
-unpack-inj x y e = let f : x % 16384 ≡ y % 16384 = ap (λ (r : Two). r .0) e in let g : x / 16384 ≡ y / 16384 = ap (λ (r : Two). r .1) e in omega arith
-
-unpacks-inj : (l m : List ℕ) → map unpack l ≡ map unpack m → l ≡ m
-unpacks-inj [] [] e = refl
-unpacks-inj [] (y ∷ m) e = cc
-unpacks-inj (x ∷ l) [] e = cc
-unpacks-inj (x ∷ l) (y ∷ m) e = ap₂ (λ (a : ℕ) (t : List ℕ). a ∷ t) (unpack-inj x y (first e)) (unpacks-inj l m (rest e))
-  where
-    first : unpack x ∷ map unpack l ≡ unpack y ∷ map unpack m → unpack x ≡ unpack y
-    first q = cc
-
-    rest : unpack x ∷ map unpack l ≡ unpack y ∷ map unpack m → map unpack l ≡ map unpack m
-    rest q = cc
-
-pub node-numbers : (h v : ℕ) (l : List ℕ) (h′ v′ : ℕ) (l′ : List ℕ) → nodeOf h v l ≡ nodeOf h′ v′ l′ → (h ≡ h′) × (v ≡ v′) × (l ≡ l′)
-node-numbers h v l h′ v′ l′ e =
-    (split-inj h h′ (ap (λ (n : Node). n .head) e) (ap (λ (n : Node). n .op) e), ap (λ (n : Node). n .value) e, unpacks-inj l l′ (ap (λ (n : Node). n .runs) e))
-
--- ---- an entry against a node with head h, value v and the n runs of list
-module _ (terms runs : List ℕ) (t : ℕ) (list : List ℕ) (n h v : ℕ) where
-  pub not-head : (headIn terms t ≡ h → ⊥) → nodeIn terms runs t ≡ nodeOf h v (part list 0 n) → ⊥
-  not-head d e = d (node-numbers _ _ (partIn terms runs t) _ _ (part list 0 n) e .0)
-
-  pub not-value : (valueIn terms t ≡ v → ⊥) → nodeIn terms runs t ≡ nodeOf h v (part list 0 n) → ⊥
-  not-value d e = d (node-numbers _ _ (partIn terms runs t) _ _ (part list 0 n) e .1)
-
-  pub not-length : (lengthIn terms t ≡ n → ⊥) → nodeIn terms runs t ≡ nodeOf h v (part list 0 n) → ⊥
-  not-length d e = d (sym (part-length runs (firstIn terms t) (lengthIn terms t)) ∙ ap length (node-numbers _ _ (partIn terms runs t) _ _ (part list 0 n) e .2) ∙ part-length list 0 n)
-
-  pub as-runs : (r : Bool) → headIn terms t ≡ h → valueIn terms t ≡ v → lengthIn terms t ≡ n → Tells r (part runs (firstIn terms t) n ≡ part list 0 n)
-      → Tells r (nodeIn terms runs t ≡ nodeOf h v (part list 0 n))
-  as-runs true a b c e = rw (a, b, c, e) refl
-  as-runs false a b c d = λ e. d (sym (ap (λ (k : ℕ). part runs (firstIn terms t) k) c) ∙ node-numbers _ _ (partIn terms runs t) _ _ (part list 0 n) e .2)
 
 -- ---- the entries
 pub nodes-length : (terms runs : List ℕ) (n : ℕ) → length (nodesIn terms runs n) ≡ n
@@ -101,9 +59,6 @@ module _ (terms runs : List ℕ) (H : Holds terms runs) where
   -- the runs of term t, from i to before m
   pub span-fits : (t i m : ℕ) → t < countIn terms → i ≡ firstIn terms t → m ≡ firstIn terms (t + 1) → (i ≤ m) × (m ≤ length runs) × (sum (part runs i (m - i)) < 2 ^ 64)
   span-fits t i m h e f = rw (e, f) (H .rises t h, first-inside (t + 1) (omega arith), H .light t h)
-
-pub first-at : {t f : ℕ} (terms : List ℕ) → t ≡ countIn terms → f ≡ firstIn terms t → f ≡ firstIn terms (countIn terms)
-first-at terms e g = rw (← e) g
 
 -- buffers of the same lengths have the same room
 pub rooms-same : {lim : Limits} {terms runs terms′ runs′ : List ℕ} → length terms′ ≡ length terms → length runs′ ≡ length runs → Rooms lim terms runs → Rooms lim terms′ runs′

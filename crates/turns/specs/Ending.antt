@@ -25,12 +25,12 @@ use Rattle.lgg.specs.ReadingsWithin.{joins-within}
 use Rattle.lgg.specs.Cells.{CellsFit}
 use Rattle.terms.specs.Buffers.{part, unpack, poolOf, countIn}
 use Rattle.terms.specs.Chains.{Holds}
-use Rattle.terms.specs.Interning.{enteredOf}
+use Rattle.interning.specs.Interning.{enteredOf}
 use Rattle.action_term.specs.Results.{actionList, ActionResult}
-use Rattle.terms.specs.JoinLaws.{part-front}
-use Rattle.terms.specs.GrowLaws.{grows-none}
-use Rattle.terms.specs.declared.Entered.{Entered}
-use Rattle.terms.specs.declared.Entered.the-variants as E
+use Rattle.terms.specs.PartLaws.{part-front}
+use Rattle.interning.specs.GrowLaws.{grows-none}
+use Rattle.interning.specs.declared.Entered.{Entered}
+use Rattle.interning.specs.declared.Entered.the-variants as E
 use Rattle.arrays.specs.Arrays.{Known, TermsBelow, Scratch, qualityIn, termIn}
 use Rattle.arrays.specs.ArrayLaws.{place-lt, known-low}
 use Rattle.quality.specs.Runs.{packed, runsOver}

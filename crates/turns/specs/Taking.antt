@@ -12,9 +12,9 @@ use Rattle.spec.specs.Round.{Choice, stay, act, Turn, changes, turnOf, choiceTe
 use Rattle.laws.specs.Buffers.{over}
 use Rattle.terms.specs.Buffers.{poolOf}
 use Rattle.terms.specs.Chains.{Holds}
-use Rattle.terms.specs.Interning.{enteredOf, poolAfter}
-use Rattle.terms.specs.Growing.{Grows}
-use Rattle.terms.specs.declared.Entered.{Entered}
+use Rattle.interning.specs.Interning.{enteredOf, poolAfter}
+use Rattle.interning.specs.Growing.{Grows}
+use Rattle.interning.specs.declared.Entered.{Entered}
 use Rattle.action_term.specs.Results.{actionList}
 use Rattle.quality.specs.Runs.{runsOver}
 use Rattle.quality.specs.Aligned.{bestAligned}

@@ -25,6 +25,7 @@ ghost use Rattle.turns.specs.Walking.{Fitting};
 use ac_repr::Step;
 use ac_repr::Walk;
 use image::Image;
+use interning::Entered;
 use monomial::Padded;
 use numbers::short_size;
 use numbers::short_u64;
@@ -32,7 +33,6 @@ use numbers::size_u32;
 use quality::Best;
 use quality::How;
 use query::Limits;
-use terms::Entered;
 
 // ---- the transports of a pair
 // The action at a pair of places, if there is one, offered.

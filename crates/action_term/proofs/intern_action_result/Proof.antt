@@ -1,6 +1,6 @@
 use Rattle.terms.specs.Buffers.{poolOf, countIn}
 use Rattle.action_term.specs.ResultLaws.{action-join, action-light, action-valid, action-result}
-use Rattle.terms.specs.JoinLaws.{begins-fits}
+use Rattle.joining.specs.JoinLaws.{begins-fits}
 use Rattle.query.specs.Settings.{limitsOf}
 use native.Mathlib.Omega.{arith}
 use borrow.Author.Needs.{needs}
@@ -8,8 +8,8 @@ use Rattle.action_term.proofs.intern_action_result.Statement.{statement
 use Rattle.action_term.proofs.intern_action_result.Tie as tie
 use Rattle.action_term.proofs.intern_action_result.Reads as reads
 use Rattle.action_term.proofs.intern_action_result.Lts as lts
-use Rattle.terms.proofs.intern.Reads as intern-reads
-use Rattle.terms.proofs.join_runs.Reads as join-runs-reads
+use Rattle.interning.proofs.intern.Reads as intern-reads
+use Rattle.joining.proofs.join_runs.Reads as join-runs-reads
 use Rattle.action_term.proofs.order_children.Reads as order-children-reads
 
 order-children-requires : tie.Need-order-children-requires

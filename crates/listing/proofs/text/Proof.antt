@@ -1,8 +1,7 @@
-use Rattle.terms.specs.PartLaws.{paste-turn}
 use Rattle.listing.specs.WriteLaws.{wrote-all}
-use lib.Seq.{paste, paste-zero}
+use lib.Seq.{paste, paste-zero, paste-suc}
 use borrow.Author.Needs.{needs}
-use Prim.Native.Nat.{_≤_, _-_}
+use Prim.Native.Nat.{suc, _≤_, _-_, _+_}
 use native.Mathlib.Omega.{arith}
 use mathlib.Core.Path.{_≡_, refl}
 use lib.ListN.{length, length-set}
@@ -40,7 +39,8 @@ loop-again : tie.Need-loop-again Inv-loop μ-loop
 loop-again c =
     let l = c .before .before in
     let a = l .before .args in
-    (omega arith, simp length-set (omega arith), paste-turn (a .out .now) (a .b .now) (a .at) (l .loop .i) (l .loop .out) (omega arith) (omega arith) (l .loop .inv .2))
+    let e : l .loop .i + 1 ≡ suc (l .loop .i) = omega arith in
+    (omega arith, simp length-set (omega arith), rw (l .loop .inv .2, e) (paste-suc (a .out .now) (a .at) (a .b .now) (l .loop .i) 0 (omega arith) (omega arith)))
 
 add-result : tie.Need-add-result Inv-loop μ-loop
 add-result c = search needs

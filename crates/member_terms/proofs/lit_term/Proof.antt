@@ -11,7 +11,7 @@ use Rattle.member_terms.proofs.lit_term.Reads as reads
 use Rattle.member_terms.proofs.lit_term.Lts as lts
 use Rattle.numbers.proofs.short_size.Reads as short-size-reads
 use Rattle.numbers.proofs.short_u64.Reads as short-u64-reads
-use Rattle.terms.proofs.intern.Reads as intern-reads
+use Rattle.interning.proofs.intern.Reads as intern-reads
 
 slice-aggregate-intern : tie.Need-slice-aggregate-intern
 slice-aggregate-intern c = search needs

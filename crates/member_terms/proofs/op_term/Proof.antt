@@ -5,7 +5,7 @@ use Rattle.spec.specs.Pool.{opNode}
 use Rattle.image.specs.Loaded.{children-many}
 use Rattle.terms.specs.Buffers.{countIn}
 use Rattle.member_terms.specs.Members.{keptRun}
-use Rattle.terms.specs.JoinLaws.{begins-fits}
+use Rattle.joining.specs.JoinLaws.{begins-fits}
 use Rattle.member_terms.specs.MemberRuns.{ready, kept-light, kept-valid, joined-light, kept-node, gives-of}
 use native.Mathlib.Omega.{arith}
 use borrow.Author.Needs.{needs}
@@ -17,8 +17,8 @@ use Rattle.image.proofs.child_count.Reads as child-count-reads
 use Rattle.image.proofs.first_child.Reads as first-child-reads
 use Rattle.member_terms.proofs.kept_runs.Reads as kept-runs-reads
 use Rattle.numbers.proofs.short_size.Reads as short-size-reads
-use Rattle.terms.proofs.intern.Reads as intern-reads
-use Rattle.terms.proofs.join_runs.Reads as join-runs-reads
+use Rattle.interning.proofs.intern.Reads as intern-reads
+use Rattle.joining.proofs.join_runs.Reads as join-runs-reads
 
 first-child-requires : tie.Need-first-child-requires
 first-child-requires c κs = search needs

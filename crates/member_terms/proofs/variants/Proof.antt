@@ -2,7 +2,7 @@ use Rattle.query.specs.Settings.{limitsOf}
 use lib.ListN.{replicate, length-replicate}
 use Rattle.spec.specs.Pool.{variantsNode}
 use Rattle.terms.specs.Buffers.{countIn}
-use Rattle.terms.specs.JoinLaws.{begins-fits}
+use Rattle.joining.specs.JoinLaws.{begins-fits}
 use Rattle.member_terms.specs.MemberRuns.{pair-light, pair-valid, pair-most, pair-node, gives-of}
 use Prim.Native.Nat.{ℕ, _+_}
 use native.Mathlib.Omega.{arith}
@@ -16,8 +16,8 @@ use Rattle.member_terms.proofs.variants.Reads as reads
 use Rattle.member_terms.proofs.variants.Lts as lts
 use Rattle.numbers.proofs.long_size.Reads as long-size-reads
 use Rattle.numbers.proofs.put_u64.Reads as put-u64-reads
-use Rattle.terms.proofs.intern.Reads as intern-reads
-use Rattle.terms.proofs.join_runs.Reads as join-runs-reads
+use Rattle.interning.proofs.intern.Reads as intern-reads
+use Rattle.joining.proofs.join_runs.Reads as join-runs-reads
 
 slice-aggregate-put-u64 : tie.Need-slice-aggregate-put-u64
 slice-aggregate-put-u64 c = search needs

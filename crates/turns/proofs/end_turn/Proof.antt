@@ -1,7 +1,7 @@
 use Rattle.spec.specs.Image.{tablesOf}
 use Rattle.query.specs.Settings.{limitsOf}
 use Rattle.arrays.specs.Arrays.{qualityIn, termIn}
-use Rattle.terms.specs.declared.Entered.the-variants as E
+use Rattle.interning.specs.declared.Entered.the-variants as E
 use Rattle.turns.specs.Ending.{takes-full, takes-to}
 use mathlib.Core.Path.{refl}
 use borrow.Author.Needs.{needs}

@@ -1,0 +1,9 @@
+pub mod Interning
+pub mod KeyLaws
+pub mod SameLaws
+pub mod ChainLaws
+pub mod CopyLaws
+pub mod EnterLaws
+pub mod InternLaws
+pub mod Growing
+pub mod GrowLaws
