@@ -137,9 +137,10 @@ module _ {M : Type 1} (𝓤 : URA M) (H : Heap 𝓤) (A : Atoms 𝓤) (W : Given
     abbrev Turn : ℕ → Kit.Post 𝓤 H
     Turn t = anyQ (afterTurn 𝓤 H (Below 𝓤 H A _<_ Inv t) (Kit.post 𝓤 H After))
 
-    turn : (t i : ℕ) (v : Bool) → Facts t i v → Sq W (‵ (fat fullShare word l₇ 0 (vint w64 i)) ∷ ‵ (fat fullShare tyBool l₆ 0 (vbool v)) ∷ Frame) (runs C Λ En m.turn-1 (Turn t))
+    -- the last turn, and one before it: two definitions, as two such clauses of one are checked far slower than by themselves
+    turn-ends : (i : ℕ) (v : Bool) → Facts 0 i v → Sq W (‵ (fat fullShare word l₇ 0 (vint w64 i)) ∷ ‵ (fat fullShare tyBool l₆ 0 (vbool v)) ∷ Frame) (runs C Λ En m.turn-1 (Turn 0))
     unfolding afterTurn
-    turn zero i v f =
+    turn-ends i v f =
         assigns ! (bin ! (load ! (from ! (stop !)) (look ! 0 refl)) (load ! (from ! (stop !)) (look ! 19 refl)) tt) (from ! (stop !)) (init ! 11 refl (tt, tt)) $
         rewrite ! 11 (λ (t : Bool). ‵ (fat fullShare tyBool l₈ 0 (vbool t))) (le-ltb i end (end-from end i (f .0))) refl $
         leaves-loop ! (load ! (from ! (stop !)) (look ! 11 refl)) $ exec ! C Λ En m.t-4 (atRet En Post) $
@@ -148,9 +149,12 @@ module _ {M : Type 1} (𝓤 : URA M) (H : Heap 𝓤) (A : Atoms 𝓤) (W : Given
         move ! (25 ∷ 26 ∷ []) $ free1 ! $ move ! (23 ∷ 24 ∷ []) $ free1 ! $ move ! (21 ∷ 22 ∷ []) $ free1 ! $ move ! (19 ∷ 20 ∷ []) $ free1 ! $ move ! (17 ∷ 18 ∷ []) $ free1 ! $ move ! (15 ∷ 16 ∷ []) $ free1 ! $ move ! (1 ∷ 14 ∷ []) $ free1 ! $ move ! (0 ∷ 12 ∷ []) $ free1 ! $
         move ! (9 ∷ 10 ∷ []) $ free1 ! $ move ! (7 ∷ 8 ∷ []) $ free1 ! $ move ! (5 ∷ 6 ∷ []) $ free1 ! $ move ! (3 ∷ 4 ∷ []) $ free1 ! $ free0 ! $
         by ! (exits v (sym (either-false v) ∙ f .1))
-    turn (suc m) i v f =
+
+    turn-goes-on : (k i : ℕ) (v : Bool) → Facts (suc k) i v → Sq W (‵ (fat fullShare word l₇ 0 (vint w64 i)) ∷ ‵ (fat fullShare tyBool l₆ 0 (vbool v)) ∷ Frame) (runs C Λ En m.turn-1 (Turn (suc k)))
+    unfolding afterTurn
+    turn-goes-on k i v f =
         assigns ! (bin ! (load ! (from ! (stop !)) (look ! 0 refl)) (load ! (from ! (stop !)) (look ! 19 refl)) tt) (from ! (stop !)) (init ! 11 refl (tt, tt)) $
-        rewrite ! 11 (λ (t : Bool). ‵ (fat fullShare tyBool l₈ 0 (vbool t))) (lt-ltb i end (below-from end i m (f .0))) refl $
+        rewrite ! 11 (λ (t : Bool). ‵ (fat fullShare tyBool l₈ 0 (vbool t))) (lt-ltb i end (below-from end i k (f .0))) refl $
         stays ! (load ! (from ! (stop !)) (look ! 11 refl)) $
         -- _9 = i * 4; _10 = the pointer, _9 further
         assigns ! (bin ! (load ! (from ! (stop !)) (look ! 0 refl)) (lit ! tt) (record { fits = off })) (from ! (stop !)) (init ! 9 refl (tt, record { fits = off })) $
@@ -173,16 +177,20 @@ module _ {M : Type 1} (𝓤 : URA M) (H : Heap 𝓤) (A : Atoms 𝓤) (W : Given
         facts ! bool (Is bool) (shows 𝓤 H A bool) t (w ∷ []) (λ is.
         land ! (from ! (stop !)) (store ! 1 refl (bool-lawful 𝓤 H A W .typed t _ is .0)) $
         rewrite ! 1 (λ (u : Val). ‵ (fat fullShare tyBool l₆ 0 u)) (ap only is ∙ ap vbool e) refl $
-        assigns-last ! (bin ! (load ! (from ! (stop !)) (look ! 0 refl)) (lit ! tt) (record { fits = next-from end i m (f .0) ge })) (from ! (stop !)) (store ! 0 refl (tt, record { fits = next-from end i m (f .0) ge })) $
+        assigns-last ! (bin ! (load ! (from ! (stop !)) (look ! 0 refl)) (lit ! tt) (record { fits = next-from end i k (f .0) ge })) (from ! (stop !)) (store ! 0 refl (tt, record { fits = next-from end i k (f .0) ge })) $
         forget ! 5 refl $ forget ! 7 refl $ forget ! 9 refl $ forget ! 11 refl $ group ! 2 $
-        use1 W (some (λ (z : State). given (Facts m (z .0) (z .1)) (Cells (z .0) (z .1)))) (packs m (i + 1) (either v (sameTwo (l, r) (twoOf (getD ys i none)))) (step-from end i m (f .0), any-step ys (l, r) m i v ∙ f .1)) $
-        again ! _<_ Inv (suc m) m (lt-suc-self m)))))))
+        use1 W (some (λ (z : State). given (Facts k (z .0) (z .1)) (Cells (z .0) (z .1)))) (packs k (i + 1) (either v (sameTwo (l, r) (twoOf (getD ys i none)))) (step-from end i k (f .0), any-step ys (l, r) k i v ∙ f .1)) $
+        again ! _<_ Inv (suc k) k (lt-suc-self k)))))))
       where
         ins : i < length ys
-        ins = lt-le i end (length ys) (below-from end i m (f .0)) within
+        ins = lt-le i end (length ys) (below-from end i k (f .0)) within
 
         off : i * 4 < 2 ^ 64
         off = offset-fits (length ys) i ins (gn .1)
+
+    turn : (t i : ℕ) (v : Bool) → Facts t i v → Sq W (‵ (fat fullShare word l₇ 0 (vint w64 i)) ∷ ‵ (fat fullShare tyBool l₆ 0 (vbool v)) ∷ Frame) (runs C Λ En m.turn-1 (Turn t))
+    turn zero i v f = turn-ends i v f
+    turn (suc k) i v f = turn-goes-on k i v f
 
     turns : (t : ℕ) → Sq W (Inv t) (runs C Λ En m.turn-1 (Turn t))
     turns t = pick ! (λ z. learn ! (λ f. split ! $ turn t (z .0) (z .1) f))

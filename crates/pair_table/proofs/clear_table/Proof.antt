@@ -112,9 +112,10 @@ module _ {M : Type 1} (𝓤 : URA M) (H : Heap 𝓤) (A : Atoms 𝓤) (W : Given
     abbrev Turn : ℕ → Kit.Post 𝓤 H
     Turn t = anyQ (afterTurn 𝓤 H (Below 𝓤 H A _<_ Inv t) (Kit.post 𝓤 H After))
 
-    turn : (t i : ℕ) (zs : List Pair) → Facts t i zs → Sq W (‵ (fat fullShare word l₂ 0 (vint w64 i)) ∷ ‵ (Obs zs) ∷ ‵ (Bor zs) ∷ Frame) (runs C Λ En m.turn-1 (Turn t))
+    -- the last turn, and one before it: two definitions, as two such clauses of one are checked far slower than by themselves
+    turn-ends : (i : ℕ) (zs : List Pair) → Facts 0 i zs → Sq W (‵ (fat fullShare word l₂ 0 (vint w64 i)) ∷ ‵ (Obs zs) ∷ ‵ (Bor zs) ∷ Frame) (runs C Λ En m.turn-1 (Turn 0))
     unfolding afterTurn
-    turn zero i zs f =
+    turn-ends i zs f =
         assigns ! (of-opd ! (load ! (from ! (fld ! refl (stop !))) (look-in ! 14 (sub ! 1 refl (whole !))))) (from ! (stop !)) (init ! 11 refl (tt, record { fits = gn .0 })) $
         assigns ! (bin ! (load ! (from ! (stop !)) (look ! 0 refl)) (load ! (from ! (stop !)) (look ! 11 refl)) tt) (from ! (stop !)) (init ! 9 refl (tt, tt)) $
         rewrite ! 9 (λ (t : Bool). ‵ (fat fullShare tyBool l₄ 0 (vbool t))) (le-ltb i (length ys) (at-end (length ys) i (f .0))) refl $
@@ -123,7 +124,10 @@ module _ {M : Type 1} (𝓤 : URA M) (H : Heap 𝓤) (A : Atoms 𝓤) (W : Given
         returns ! (look ! 16 refl) $ forget ! 0 refl $ forget ! 9 refl $ forget ! 11 refl $ forget ! 14 refl $ forget ! 16 refl $
         move ! (16 ∷ 17 ∷ []) $ free1 ! $ move ! (14 ∷ 15 ∷ []) $ free1 ! $ move ! (0 ∷ 13 ∷ []) $ free1 ! $ move ! (10 ∷ 11 ∷ []) $ free1 ! $ move ! (8 ∷ 9 ∷ []) $ free1 ! $ move ! (6 ∷ 7 ∷ []) $ free1 ! $ move ! (4 ∷ 5 ∷ []) $ free1 ! $ free0 ! $
         by ! (exits zs (f .1) (f .2))
-    turn (suc k) i zs f =
+
+    turn-goes-on : (k i : ℕ) (zs : List Pair) → Facts (suc k) i zs → Sq W (‵ (fat fullShare word l₂ 0 (vint w64 i)) ∷ ‵ (Obs zs) ∷ ‵ (Bor zs) ∷ Frame) (runs C Λ En m.turn-1 (Turn (suc k)))
+    unfolding afterTurn
+    turn-goes-on k i zs f =
         assigns ! (of-opd ! (load ! (from ! (fld ! refl (stop !))) (look-in ! 14 (sub ! 1 refl (whole !))))) (from ! (stop !)) (init ! 11 refl (tt, record { fits = gn .0 })) $
         assigns ! (bin ! (load ! (from ! (stop !)) (look ! 0 refl)) (load ! (from ! (stop !)) (look ! 11 refl)) tt) (from ! (stop !)) (init ! 9 refl (tt, tt)) $
         rewrite ! 9 (λ (t : Bool). ‵ (fat fullShare tyBool l₄ 0 (vbool t))) (lt-ltb i (length ys) (below-end (length ys) i k (f .0))) refl $
@@ -149,6 +153,10 @@ module _ {M : Type 1} (𝓤 : URA M) (H : Heap 𝓤) (A : Atoms 𝓤) (W : Given
 
         off : i * 4 < 2 ^ 64
         off = offset-fits (length ys) i (below-end (length ys) i k (f .0)) (gn .1)
+
+    turn : (t i : ℕ) (zs : List Pair) → Facts t i zs → Sq W (‵ (fat fullShare word l₂ 0 (vint w64 i)) ∷ ‵ (Obs zs) ∷ ‵ (Bor zs) ∷ Frame) (runs C Λ En m.turn-1 (Turn t))
+    turn zero i zs f = turn-ends i zs f
+    turn (suc k) i zs f = turn-goes-on k i zs f
 
     turns : (t : ℕ) → Sq W (Inv t) (runs C Λ En m.turn-1 (Turn t))
     turns t = pick ! (λ z. learn ! (λ f. split ! $ move ! (1 ∷ []) $ split ! $ move ! (2 ∷ 0 ∷ 1 ∷ []) $ turn t (z .0) (z .1) f))

@@ -225,9 +225,10 @@ module _ {M : Type 1} (𝓤 : URA M) (H : Heap 𝓤) (A : Atoms 𝓤) (W : Given
     abbrev right : ℕ → ℕ
     right k = pairAt gs i₀ k .1
 
-    turn : (t k : ℕ) (zs : List Pair) → Facts t k zs → Sq W (‵ (fat fullShare word l₅ 0 (vint w64 k)) ∷ ‵ (OwnT zs) ∷ Frame) (runs C Λ En m.turn-1 (Turn t))
+    -- the last turn, and one before it: two definitions, as two such clauses of one are checked far slower than by themselves
+    turn-ends : (k : ℕ) (zs : List Pair) → Facts 0 k zs → Sq W (‵ (fat fullShare word l₅ 0 (vint w64 k)) ∷ ‵ (OwnT zs) ∷ Frame) (runs C Λ En m.turn-1 (Turn 0))
     unfolding afterTurn
-    turn zero k zs f =
+    turn-ends k zs f =
         assigns ! (bin ! (load ! (from ! (stop !)) (look ! 0 refl)) (load ! (from ! (stop !)) (look ! 21 refl)) tt) (from ! (stop !)) (init ! 12 refl (tt, tt)) $
         rewrite ! 12 (λ (t : Bool). ‵ (fat fullShare tyBool l₉ 0 (vbool t))) (le-ltb k n (at-end n k (f .0))) refl $
         leaves-loop ! (load ! (from ! (stop !)) (look ! 12 refl)) $ exec ! C Λ En m.t-3 (atRet En Post) $
@@ -236,7 +237,10 @@ module _ {M : Type 1} (𝓤 : URA M) (H : Heap 𝓤) (A : Atoms 𝓤) (W : Given
         move ! (29 ∷ 30 ∷ []) $ free1 ! $ move ! (27 ∷ 28 ∷ []) $ free1 ! $ move ! (25 ∷ 26 ∷ []) $ free1 ! $ move ! (23 ∷ 24 ∷ []) $ free1 ! $ move ! (21 ∷ 22 ∷ []) $ free1 ! $ move ! (0 ∷ 20 ∷ []) $ free1 ! $ move ! (17 ∷ 18 ∷ []) $ free1 ! $
         move ! (15 ∷ 16 ∷ []) $ free1 ! $ move ! (13 ∷ 14 ∷ []) $ free1 ! $ move ! (11 ∷ 12 ∷ []) $ free1 ! $ move ! (9 ∷ 10 ∷ []) $ free1 ! $ move ! (7 ∷ 8 ∷ []) $ free1 ! $ move ! (5 ∷ 6 ∷ []) $ free1 ! $ free0 ! $
         by ! (exits k zs (i-fits n k 0 (f .0) ge) (f .1) (f .2))
-    turn (suc t) k zs f =
+
+    turn-goes-on : (t k : ℕ) (zs : List Pair) → Facts (suc t) k zs → Sq W (‵ (fat fullShare word l₅ 0 (vint w64 k)) ∷ ‵ (OwnT zs) ∷ Frame) (runs C Λ En m.turn-1 (Turn (suc t)))
+    unfolding afterTurn
+    turn-goes-on t k zs f =
         assigns ! (bin ! (load ! (from ! (stop !)) (look ! 0 refl)) (load ! (from ! (stop !)) (look ! 21 refl)) tt) (from ! (stop !)) (init ! 12 refl (tt, tt)) $
         rewrite ! 12 (λ (t : Bool). ‵ (fat fullShare tyBool l₉ 0 (vbool t))) (lt-ltb k n (below-end n k t (f .0))) refl $
         stays ! (load ! (from ! (stop !)) (look ! 12 refl)) $
@@ -298,6 +302,10 @@ module _ {M : Type 1} (𝓤 : URA M) (H : Heap 𝓤) (A : Atoms 𝓤) (W : Given
       where
         fits-k : k < 2 ^ 64
         fits-k = i-fits n k (suc t) (f .0) ge
+
+    turn : (t k : ℕ) (zs : List Pair) → Facts t k zs → Sq W (‵ (fat fullShare word l₅ 0 (vint w64 k)) ∷ ‵ (OwnT zs) ∷ Frame) (runs C Λ En m.turn-1 (Turn t))
+    turn zero k zs f = turn-ends k zs f
+    turn (suc t) k zs f = turn-goes-on t k zs f
 
     turns : (t : ℕ) → Sq W (Inv t) (runs C Λ En m.turn-1 (Turn t))
     turns t = pick ! (λ z. learn ! (λ f. split ! $ turn t (z .0) (z .1) f))

@@ -187,9 +187,10 @@ module _ {M : Type 1} (𝓤 : URA M) (H : Heap 𝓤) (A : Atoms 𝓤) (W : Given
     abbrev Turn : ℕ → Kit.Post 𝓤 H
     Turn t = anyQ (afterTurn 𝓤 H (Below 𝓤 H A _<_ Inv t) (Kit.post 𝓤 H After))
 
-    turn : (t i : ℕ) → Facts t i → Sq W (AtI i ∷ Frame) (runs C Λ En m.turn-1 (Turn t))
+    -- the last turn, and one before it: two definitions, as two such clauses of one are checked far slower than by themselves
+    turn-ends : (i : ℕ) → Facts 0 i → Sq W (AtI i ∷ Frame) (runs C Λ En m.turn-1 (Turn 0))
     unfolding afterTurn
-    turn zero i f =
+    turn-ends i f =
         assigns ! (bin ! (load ! (from ! (stop !)) (look ! 0 refl)) (load ! (from ! (stop !)) (look ! 17 refl)) tt) (from ! (stop !)) (init ! 12 refl (tt, tt)) $
         rewrite ! 12 (λ (t : Bool). ‵ (fat fullShare tyBool l₈ 0 (vbool t))) (le-ltb i end (at-end end i (f .0))) refl $
         leaves-loop ! (load ! (from ! (stop !)) (look ! 12 refl)) $ exec ! C Λ En m.t-5 (atRet En Post) $
@@ -198,9 +199,12 @@ module _ {M : Type 1} (𝓤 : URA M) (H : Heap 𝓤) (A : Atoms 𝓤) (W : Given
         move ! (27 ∷ 28 ∷ []) $ free1 ! $ move ! (25 ∷ 26 ∷ []) $ free1 ! $ move ! (23 ∷ 24 ∷ []) $ free1 ! $ move ! (21 ∷ 22 ∷ []) $ free1 ! $ move ! (19 ∷ 20 ∷ []) $ free1 ! $ move ! (17 ∷ 18 ∷ []) $ free1 ! $ move ! (0 ∷ 16 ∷ []) $ free1 ! $
         move ! (13 ∷ 14 ∷ []) $ free1 ! $ move ! (11 ∷ 12 ∷ []) $ free1 ! $ move ! (9 ∷ 10 ∷ []) $ free1 ! $ move ! (7 ∷ 8 ∷ []) $ free1 ! $ move ! (5 ∷ 6 ∷ []) $ free1 ! $ move ! (3 ∷ 4 ∷ []) $ free1 ! $ free0 ! $
         by ! (exits i (i-fits end i 0 (f .0) end-fits) (f .1))
-    turn (suc m) i f =
+
+    turn-goes-on : (k i : ℕ) → Facts (suc k) i → Sq W (AtI i ∷ Frame) (runs C Λ En m.turn-1 (Turn (suc k)))
+    unfolding afterTurn
+    turn-goes-on k i f =
         assigns ! (bin ! (load ! (from ! (stop !)) (look ! 0 refl)) (load ! (from ! (stop !)) (look ! 17 refl)) tt) (from ! (stop !)) (init ! 12 refl (tt, tt)) $
-        rewrite ! 12 (λ (t : Bool). ‵ (fat fullShare tyBool l₈ 0 (vbool t))) (lt-ltb i end (below-end end i m (f .0))) refl $
+        rewrite ! 12 (λ (t : Bool). ‵ (fat fullShare tyBool l₈ 0 (vbool t))) (lt-ltb i end (below-end end i k (f .0))) refl $
         stays ! (load ! (from ! (stop !)) (look ! 12 refl)) $
         -- _10 = i * 4; _11 = the pointer, _10 further
         assigns ! (bin ! (load ! (from ! (stop !)) (look ! 0 refl)) (lit ! tt) (record { fits = off })) (from ! (stop !)) (init ! 8 refl (tt, record { fits = off })) $
@@ -225,22 +229,26 @@ module _ {M : Type 1} (𝓤 : URA M) (H : Heap 𝓤) (A : Atoms 𝓤) (W : Given
         rewrite ! 10 (λ (u : Val). ‵ (fat fullShare tyBool l₉ 0 u)) (ap only is ∙ ap vbool e) refl $
         first ! $ branches ! (load ! (from ! (stop !)) (look ! 10 refl))
         (λ yes′.
-        assigns ! (of-opd ! (load ! (from ! (stop !)) (look ! 0 refl))) (from ! (stop !)) (init ! 27 refl (tt, record { fits = i-fits end i (suc m) (f .0) end-fits })) $
+        assigns ! (of-opd ! (load ! (from ! (stop !)) (look ! 0 refl))) (from ! (stop !)) (init ! 27 refl (tt, record { fits = i-fits end i (suc k) (f .0) end-fits })) $
         returns-within ! Post refl (look ! 27 refl) $ forget ! 0 refl $ forget ! 4 refl $ forget ! 6 refl $ forget ! 8 refl $ forget ! 10 refl $ forget ! 12 refl $ forget ! 17 refl $ forget ! 19 refl $ forget ! 21 refl $ forget ! 23 refl $ forget ! 25 refl $ forget ! 27 refl $
         move ! (27 ∷ 28 ∷ []) $ free1 ! $ move ! (25 ∷ 26 ∷ []) $ free1 ! $ move ! (23 ∷ 24 ∷ []) $ free1 ! $ move ! (21 ∷ 22 ∷ []) $ free1 ! $ move ! (19 ∷ 20 ∷ []) $ free1 ! $ move ! (17 ∷ 18 ∷ []) $ free1 ! $ move ! (0 ∷ 16 ∷ []) $ free1 ! $
         move ! (13 ∷ 14 ∷ []) $ free1 ! $ move ! (11 ∷ 12 ∷ []) $ free1 ! $ move ! (9 ∷ 10 ∷ []) $ free1 ! $ move ! (7 ∷ 8 ∷ []) $ free1 ! $ move ! (5 ∷ 6 ∷ []) $ free1 ! $ move ! (3 ∷ 4 ∷ []) $ free1 ! $ free0 ! $
-        by ! (exits i (i-fits end i (suc m) (f .0) end-fits) (sym (seek-here ys (l, r) m i (is-true _ yes′)) ∙ f .1)))
-        (λ no′. skips ! $ exec ! C Λ En onward (Turn (suc m)) $
-        assigns-last ! (bin ! (load ! (from ! (stop !)) (look ! 0 refl)) (lit ! tt) (record { fits = next-fits end i m (f .0) end-fits })) (from ! (stop !)) (store ! 0 refl (tt, record { fits = next-fits end i m (f .0) end-fits })) $
+        by ! (exits i (i-fits end i (suc k) (f .0) end-fits) (sym (seek-here ys (l, r) k i (is-true _ yes′)) ∙ f .1)))
+        (λ no′. skips ! $ exec ! C Λ En onward (Turn (suc k)) $
+        assigns-last ! (bin ! (load ! (from ! (stop !)) (look ! 0 refl)) (lit ! tt) (record { fits = next-fits end i k (f .0) end-fits })) (from ! (stop !)) (store ! 0 refl (tt, record { fits = next-fits end i k (f .0) end-fits })) $
         forget ! 4 refl $ forget ! 6 refl $ forget ! 8 refl $ forget ! 10 refl $ forget ! 12 refl $
-        use1 W (some (λ (j : ℕ). given (Facts m j) (AtI j))) (packs m (i + 1) (step-on end i m (f .0), sym (seek-on ys (l, r) m i (is-false _ no′)) ∙ f .1)) $
-        again ! _<_ Inv (suc m) m (lt-suc-self m))))))))
+        use1 W (some (λ (j : ℕ). given (Facts k j) (AtI j))) (packs k (i + 1) (step-on end i k (f .0), sym (seek-on ys (l, r) k i (is-false _ no′)) ∙ f .1)) $
+        again ! _<_ Inv (suc k) k (lt-suc-self k))))))))
       where
         ins : i < length ys
-        ins = lt-le i end (length ys) (below-end end i m (f .0)) (min-le-right c (length ys))
+        ins = lt-le i end (length ys) (below-end end i k (f .0)) (min-le-right c (length ys))
 
         off : i * 4 < 2 ^ 64
         off = offset-fits (length ys) i ins (gn .1)
+
+    turn : (t i : ℕ) → Facts t i → Sq W (AtI i ∷ Frame) (runs C Λ En m.turn-1 (Turn t))
+    turn zero i f = turn-ends i f
+    turn (suc k) i f = turn-goes-on k i f
 
     turns : (t : ℕ) → Sq W (Inv t) (runs C Λ En m.turn-1 (Turn t))
     turns t = pick ! (λ i. learn ! (λ f. turn t i f))

@@ -135,9 +135,10 @@ module _ {M : Type 1} (𝓤 : URA M) (H : Heap 𝓤) (A : Atoms 𝓤) (W : Given
     abbrev Turn : ℕ → Kit.Post 𝓤 H
     Turn t = anyQ (afterTurn 𝓤 H (Below 𝓤 H A _<_ Inv t) (Kit.post 𝓤 H After))
 
-    turn : (t i : ℕ) → Facts t i → Dec (end < i + 16) → Sq W (AtI i ∷ Frame) (runs C Λ En m.turn-1 (Turn t))
+    -- the last turn, and one before it: two definitions, as two such clauses of one are checked far slower than by themselves
+    turn-ends : (t i : ℕ) → Facts t i → end < i + 16 → Sq W (AtI i ∷ Frame) (runs C Λ En m.turn-1 (Turn t))
     unfolding afterTurn
-    turn t i f (yes h) =
+    turn-ends t i f h =
         assigns ! (bin ! (load ! (from ! (stop !)) (look ! 0 refl)) (lit ! tt) (record { fits = sum })) (from ! (stop !)) (init ! 8 refl (tt, record { fits = sum })) $
         assigns ! (bin ! (load ! (from ! (stop !)) (look ! 8 refl)) (load ! (from ! (stop !)) (look ! 15 refl)) tt) (from ! (stop !)) (init ! 6 refl (tt, tt)) $
         rewrite ! 6 (λ (t : Bool). ‵ (fat fullShare tyBool l₇ 0 (vbool t))) (lt-leb (i + 16) end h) refl $
@@ -153,7 +154,10 @@ module _ {M : Type 1} (𝓤 : URA M) (H : Heap 𝓤) (A : Atoms 𝓤) (W : Given
 
         sum : i + 16 < 2 ^ 64
         sum = block-fits (length ys) end i (f .1) within (gn .1)
-    turn t i f (no h) =
+
+    turn-goes-on : (t i : ℕ) → Facts t i → i + 16 ≤ end → Sq W (AtI i ∷ Frame) (runs C Λ En m.turn-1 (Turn t))
+    unfolding afterTurn
+    turn-goes-on t i f below =
         assigns ! (bin ! (load ! (from ! (stop !)) (look ! 0 refl)) (lit ! tt) (record { fits = sum })) (from ! (stop !)) (init ! 8 refl (tt, record { fits = sum })) $
         assigns ! (bin ! (load ! (from ! (stop !)) (look ! 8 refl)) (load ! (from ! (stop !)) (look ! 15 refl)) tt) (from ! (stop !)) (init ! 6 refl (tt, tt)) $
         rewrite ! 6 (λ (t : Bool). ‵ (fat fullShare tyBool l₇ 0 (vbool t))) (le-leb (i + 16) end below) refl $
@@ -183,9 +187,6 @@ module _ {M : Type 1} (𝓤 : URA M) (H : Heap 𝓤) (A : Atoms 𝓤) (W : Given
         use1 W (some (λ (j : ℕ). given (Facts (end - (i + 16)) j) (AtI j))) (packs (end - (i + 16)) (i + 16) (refl, below, sym (seek-to ys (l, r) end i (i + 16) (block-after i) below (is-false _ no′)) ∙ f .2)) $
         again ! _<_ Inv t (end - (i + 16)) (block-less end i t below (f .0)))))))
       where
-        below : i + 16 ≤ end
-        below = omega (arith, h)
-
         inside : i + 16 ≤ length ys
         inside = omega (arith, below, within)
 
@@ -194,6 +195,10 @@ module _ {M : Type 1} (𝓤 : URA M) (H : Heap 𝓤) (A : Atoms 𝓤) (W : Given
 
         sum : i + 16 < 2 ^ 64
         sum = le-lt (i + 16) end (2 ^ 64) below ge
+
+    turn : (t i : ℕ) → Facts t i → Dec (end < i + 16) → Sq W (AtI i ∷ Frame) (runs C Λ En m.turn-1 (Turn t))
+    turn t i f (yes h) = turn-ends t i f h
+    turn t i f (no h) = turn-goes-on t i f (omega (arith, h))
 
     turns : (t : ℕ) → Sq W (Inv t) (runs C Λ En m.turn-1 (Turn t))
     turns t = pick ! (λ i. learn ! (λ f. turn t i f (decLt end (i + 16))))
