@@ -38,11 +38,11 @@ use arrays::right_at;
 use budget::Budget;
 use clearing::clear_u16;
 use image::Image;
-use monomial::Padded;
 use monomial::class_at;
 use numbers::at_u16;
 use numbers::put_u16;
 use numbers::size_u64;
+use padding::Padded;
 use query::Limits;
 
 // Built in full: how many pairs, and the budget left; cut short; refusal 12.

@@ -1,5 +1,5 @@
 -- What padding leaves in two buffers, one law for each way out.
-use mathlib.Core.Path.{_≡_, refl, sym, ap, _∙_}
+use mathlib.Core.Path.{_≡_, refl, sym, _∙_}
 use mathlib.Core.Bool.{Bool, true, false}
 use mathlib.Core.List.{List, [], _∷_}
 use Prim.Native.Nat.{ℕ, _+_, _-_, _≤_, _<_}
@@ -7,16 +7,15 @@ use native.Mathlib.Omega.{arith}
 use borrow.Author.Tests.{lt-ltb, le-ltb, eq-eqb, ne-eqb, eqb-true}
 use lib.Dec.{ltb, eqb}
 use lib.ListN.{length}
-use Rattle.spec.specs.Bytes.{Two, pick, both, sum, sameTwos}
+use Rattle.spec.specs.Bytes.{pick, both, sum, sameTwos}
 use Rattle.spec.specs.Image.{NO-IDENTITY}
 use Rattle.spec.specs.Monomial.{Monomial, insertAdd, total, itself, bothItself}
 use Rattle.monomial.specs.Terms.{terms, held, front, Holds, Roomy}
-use Rattle.monomial.specs.Pad.{TOTAL, Made, levelBy, levelled, unmatched, bothNarrow, paddedOf, answerOf, Pads, Paddable}
-use Rattle.monomial.specs.declared.Padded.{Padded}
-use Rattle.monomial.specs.declared.Padded.the-variants.{Pair, Nothing}
-use Rattle.monomial.specs.TermLaws.{held-length, held-is}
-use Rattle.monomial.specs.PadLaws.{grow}
-use Rattle.monomial.proofs.Children.{held-same}
+use Rattle.padding.specs.Pad.{levelBy, levelled, unmatched, bothNarrow, paddedOf, answerOf, Pads, Paddable}
+use Rattle.monomial.specs.Places.{TOTAL}
+use Rattle.padding.specs.declared.Padded.{Padded}
+use Rattle.padding.specs.declared.Padded.the-variants.{Pair, Nothing}
+use Rattle.monomial.specs.TermLaws.{held-length, held-is, held-same, grow}
 
 -- ---- level: the smaller one gets what it lacks
 module _ (m : Monomial) (id a b : ℕ) (s u : List ℕ) (r : ℕ) where

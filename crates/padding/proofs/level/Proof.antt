@@ -1,10 +1,10 @@
-use Rattle.monomial.proofs.Padding.{level-more, level-none, level-same, level-room}
-use Rattle.monomial.proofs.Children.{held-same}
+use Rattle.padding.proofs.Padding.{level-more, level-none, level-same, level-room}
+use Rattle.monomial.specs.TermLaws.{held-same}
 use Rattle.monomial.specs.Terms.{held}
 use native.Mathlib.Omega.{arith}
 use borrow.Author.Needs.{needs}
-use Rattle.monomial.proofs.level.Statement.{statement}
-use Rattle.monomial.proofs.level.Tie as tie
+use Rattle.padding.proofs.level.Statement.{statement}
+use Rattle.padding.proofs.level.Tie as tie
 
 long-size-requires : tie.Need-long-size-requires
 long-size-requires c κs = search needs

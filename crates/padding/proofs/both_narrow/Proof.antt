@@ -1,7 +1,7 @@
-use Rattle.monomial.proofs.Scans.{both-first, both-not}
+use Rattle.padding.proofs.Scans.{both-first, both-not}
 use borrow.Author.Needs.{needs}
-use Rattle.monomial.proofs.both_narrow.Statement.{statement}
-use Rattle.monomial.proofs.both_narrow.Tie as tie
+use Rattle.padding.proofs.both_narrow.Statement.{statement}
+use Rattle.padding.proofs.both_narrow.Tie as tie
 
 narrow-requires : tie.Need-narrow-requires
 narrow-requires c κs = search needs

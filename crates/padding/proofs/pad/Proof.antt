@@ -1,8 +1,8 @@
-use Rattle.monomial.proofs.Padding.{pads-unmatched, pads-pair, pads-wide, few-rows, few-cols}
+use Rattle.padding.proofs.Padding.{pads-unmatched, pads-pair, pads-wide, few-rows, few-cols}
 use mathlib.Core.Path.{_∙_}
 use borrow.Author.Needs.{needs}
-use Rattle.monomial.proofs.pad.Statement.{statement}
-use Rattle.monomial.proofs.pad.Tie as tie
+use Rattle.padding.proofs.pad.Statement.{statement}
+use Rattle.padding.proofs.pad.Tie as tie
 
 total-requires : tie.Need-total-requires
 total-requires c κs = search needs

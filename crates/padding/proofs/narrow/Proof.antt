@@ -1,14 +1,14 @@
-use Rattle.monomial.proofs.Scans.{narrow-more, narrow-stop, narrow-end}
+use Rattle.padding.proofs.Scans.{narrow-more, narrow-stop, narrow-end}
 use Rattle.spec.specs.Monomial.{narrow}
 use Rattle.monomial.specs.Terms.{held}
 use borrow.Author.Needs.{needs}
 use Prim.Native.Nat.{_≤_, _-_}
 use native.Mathlib.Omega.{arith}
 use native.Mathlib.Numerals.{add-one}
 use mathlib.Core.Path.{_≡_, refl, sym, _∙_}
 use lib.ListN.{drop}
-use Rattle.monomial.proofs.narrow.Statement.{statement}
-use Rattle.monomial.proofs.narrow.Tie as tie
+use Rattle.padding.proofs.narrow.Statement.{statement}
+use Rattle.padding.proofs.narrow.Tie as tie
 
 abbrev Inv-loop : tie.InvT-loop
 Inv-loop mono n i₀ i = (i ≤ n) × (narrow (drop i (held n mono)) ≡ narrow (held n mono))

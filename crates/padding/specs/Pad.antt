@@ -1,31 +1,17 @@
 -- "Unequal totals are padded with the identity; without one there is no pair." What the two buffers of a pair hold after padding, and the answer.
 use mathlib.Core.Path.{_≡_}
-use mathlib.Core.Bool.{Bool, true, false}
+use mathlib.Core.Bool.{Bool, false}
 use mathlib.Core.List.{List, [], _∷_}
-use Prim.Native.Nat.{ℕ, _+_, _*_, _-_, _≤_}
+use Prim.Native.Nat.{ℕ, _-_, _≤_}
 use lib.Dec.{ltb, eqb}
 use lib.ListN.{length}
 use Rattle.spec.specs.Bytes.{pick, both, all}
-use Rattle.spec.specs.Image.{Tables, NO-IDENTITY, theClass, theMember, childrenOf}
-use Rattle.spec.specs.Monomial.{Monomial, MonomialPair, insertAdd, addAll, monomial, total, itself, pairOf, bothItself, narrow, COUNT}
-use Rattle.monomial.specs.Terms.{TERMS, NUMBERS, terms, held, front, Holds}
-use Rattle.monomial.specs.declared.Padded.{Padded}
-use Rattle.monomial.specs.declared.Padded.the-variants.{Pair, Nothing}
-
--- the total of 64 children of 32-bit counts
-abbrev pub TOTAL : ℕ
-TOTAL = 64 * COUNT
-
--- A member's monomial, or a class itself once, has at most 64 terms and this total.
-pub record Made (m : Monomial) (s s′ : List ℕ) (r : ℕ) : Type 0 where
-  pub holds : Holds m s s′ r
-  pub few : r ≤ 64
-  pub small : total m ≤ TOTAL
-
--- the monomial at place x of class c: of member x, or of the class itself once where x is past its members
-unfoldable pub monomialAt : Tables → ℕ → ℕ → Monomial
-unfolding addAll
-monomialAt t c x = elim (ltb x (theClass t c .first + theClass t c .count)) [ true ↦ monomial (childrenOf t (theMember t x)) | false ↦ itself c ]
+use Rattle.spec.specs.Image.{NO-IDENTITY}
+use Rattle.spec.specs.Monomial.{Monomial, MonomialPair, insertAdd, total, pairOf, bothItself, narrow}
+use Rattle.monomial.specs.Terms.{TERMS, NUMBERS, terms, held, front}
+use Rattle.monomial.specs.Places.{TOTAL}
+use Rattle.padding.specs.declared.Padded.{Padded}
+use Rattle.padding.specs.declared.Padded.the-variants.{Pair, Nothing}
 
 -- m, whose total is a, with as many identities as it lacks beside a total of b
 abbrev pub levelBy : ℕ → Monomial → ℕ → ℕ → Monomial

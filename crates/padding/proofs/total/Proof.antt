@@ -1,14 +1,14 @@
-use Rattle.monomial.proofs.Scans.{total-more, total-end}
+use Rattle.padding.proofs.Scans.{total-more, total-end}
 use Rattle.spec.specs.Monomial.{total}
 use Rattle.monomial.specs.Terms.{held}
 use borrow.Author.Needs.{needs}
 use Prim.Native.Nat.{_≤_, _-_, _+_}
 use native.Mathlib.Omega.{arith}
 use native.Mathlib.Numerals.{add-one}
 use mathlib.Core.Path.{_≡_}
 use lib.ListN.{drop}
-use Rattle.monomial.proofs.total.Statement.{statement}
-use Rattle.monomial.proofs.total.Tie as tie
+use Rattle.padding.proofs.total.Statement.{statement}
+use Rattle.padding.proofs.total.Tie as tie
 
 abbrev Inv-loop : tie.InvT-loop
 Inv-loop mono n sum₀ i₀ sum i = (i ≤ n) × (sum + total (drop i (held n mono)) ≡ total (held n mono))

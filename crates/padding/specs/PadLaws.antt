@@ -1,33 +1,19 @@
 -- Padding after both monomials have been written, for callers of `of_place` and `pad_pair`.
-use mathlib.Core.Path.{_≡_, refl, ap, _∙_}
+use mathlib.Core.Path.{_≡_, ap, _∙_}
 use mathlib.Core.Bool.{Bool, true, false}
-use mathlib.Core.List.{List, [], _∷_}
-use Prim.Native.Nat.{ℕ, _+_, _-_, _≤_}
+use mathlib.Core.List.{List}
+use Prim.Native.Nat.{ℕ, _-_, _≤_}
 use native.Mathlib.Omega.{arith}
 use lib.Dec.{ltb, eqb}
 use lib.ListN.{length}
 use Rattle.spec.specs.Bytes.{Two, pick}
 use Rattle.spec.specs.Image.{NO-IDENTITY}
 use Rattle.spec.specs.Monomial.{Monomial, insertAdd, total}
 use Rattle.monomial.specs.Terms.{terms, held, front}
-use Rattle.monomial.specs.TermLaws.{held-is, front-front}
-use Rattle.monomial.specs.Pad.{Made, levelled, answerOf, Pads, Paddable}
-use Rattle.monomial.specs.declared.Padded.{Padded}
-
--- ---- a class added grows a monomial by a term at most
-abbrev pub Grow : ℕ → ℕ → Monomial → Type 0
-Grow c k m = (length m ≤ length (insertAdd c k m)) × (length (insertAdd c k m) ≤ length m + 1)
-
-grow-step : (c k : ℕ) (t : Two) (m : Monomial) (b d : Bool) → ltb (t .0) c ≡ b → eqb (t .0) c ≡ d → Grow c k m → Grow c k (t ∷ m)
-unfolding insertAdd
-grow-step c k t m true d q z ih = rw (q, insertAdd) (omega arith)
-grow-step c k t m false true q z ih = rw (q, insertAdd, z) (omega arith)
-grow-step c k t m false false q z ih = rw (q, insertAdd, z) (omega arith)
-
-pub grow : (c k : ℕ) (m : Monomial) → Grow c k m
-unfolding insertAdd
-grow c k [] = omega arith
-grow c k (t ∷ m) = grow-step c k t m (ltb (t .0) c) (eqb (t .0) c) refl refl (grow c k m)
+use Rattle.monomial.specs.TermLaws.{held-is, front-front, grow}
+use Rattle.monomial.specs.Places.{Made}
+use Rattle.padding.specs.Pad.{levelled, answerOf, Pads, Paddable}
+use Rattle.padding.specs.declared.Padded.{Padded}
 
 pub levelled-long : (id : ℕ) (A B : Monomial) → length A ≤ length (levelled id A B)
 unfolding levelled

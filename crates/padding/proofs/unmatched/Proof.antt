@@ -1,7 +1,7 @@
 use borrow.Author.Tests.{eq-eqb, ne-eqb}
 use mathlib.Core.Path.{refl}
-use Rattle.monomial.proofs.unmatched.Statement.{statement}
-use Rattle.monomial.proofs.unmatched.Tie as tie
+use Rattle.padding.proofs.unmatched.Statement.{statement}
+use Rattle.padding.proofs.unmatched.Tie as tie
 
 returns : tie.Need-returns
 returns c = rw (eq-eqb _ _ (c .if1 .taken)) refl

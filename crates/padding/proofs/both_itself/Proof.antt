@@ -1,7 +1,7 @@
-use Rattle.monomial.proofs.Scans.{both-first, both-not}
+use Rattle.padding.proofs.Scans.{both-first, both-not}
 use borrow.Author.Needs.{needs}
-use Rattle.monomial.proofs.both_itself.Statement.{statement}
-use Rattle.monomial.proofs.both_itself.Tie as tie
+use Rattle.padding.proofs.both_itself.Statement.{statement}
+use Rattle.padding.proofs.both_itself.Tie as tie
 
 is-itself-requires : tie.Need-is-itself-requires
 is-itself-requires c κs = search needs

@@ -1,7 +1,7 @@
-use Rattle.monomial.proofs.Padding.{pads-itself, pads-other}
+use Rattle.padding.proofs.Padding.{pads-itself, pads-other}
 use borrow.Author.Needs.{needs}
-use Rattle.monomial.proofs.pad_pair.Statement.{statement}
-use Rattle.monomial.proofs.pad_pair.Tie as tie
+use Rattle.padding.proofs.pad_pair.Statement.{statement}
+use Rattle.padding.proofs.pad_pair.Tie as tie
 
 both-itself-requires : tie.Need-both-itself-requires
 both-itself-requires c κs = search needs

@@ -1,8 +1,8 @@
-use Rattle.monomial.proofs.Scans.{itself-length, itself-class, itself-count}
+use Rattle.padding.proofs.Scans.{itself-length, itself-class, itself-count}
 use mathlib.Core.Path.{sym, _∙_}
 use borrow.Author.Needs.{needs}
-use Rattle.monomial.proofs.is_itself.Statement.{statement}
-use Rattle.monomial.proofs.is_itself.Tie as tie
+use Rattle.padding.proofs.is_itself.Statement.{statement}
+use Rattle.padding.proofs.is_itself.Tie as tie
 
 returns : tie.Need-returns
 returns c =
