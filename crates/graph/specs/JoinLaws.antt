@@ -33,7 +33,7 @@ use Rattle.padding.specs.declared.Padded.the-variants.{Pair, Nothing}
 use Rattle.ac_repr.specs.declared.Walk.{Walk}
 use Rattle.ac_repr.specs.declared.Step.{Step}
 use Rattle.ac_repr.specs.declared.Step.the-variants.{At, End}
-use Rattle.graph.specs.Growing.{Small, AllSmall}
+use Rattle.entering.specs.Growing.{Small, AllSmall}
 
 -- ---- lists, one after the other
 each-append : {A B : Type 0} (f : A → List B) (a b : List A) → each f (a ++ b) ≡ each f a ++ each f b

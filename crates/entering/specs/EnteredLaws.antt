@@ -13,8 +13,8 @@ use Rattle.spec.specs.Meaning.{In, here, there}
 use Rattle.arrays.specs.Arrays.{placeOf, keyOf, unkey, pairsIn}
 use Rattle.arrays.specs.ArrayLaws.{place-lt, unkey-key, unkeyed-length, unkeyed-at}
 use Rattle.lgg.specs.Lists.{get-in}
-use Rattle.graph.specs.Building.{withPair, entered}
-use Rattle.graph.specs.Growing.{Small, AllSmall}
+use Rattle.entering.specs.Entered.{withPair, entered}
+use Rattle.entering.specs.Growing.{Small, AllSmall}
 
 -- ---- one pair
 pub with-length : (w k : ℕ) (p : Two) (g : List ℕ) → length (withPair w k p g) ≡ length g

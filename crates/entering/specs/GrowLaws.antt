@@ -14,11 +14,11 @@ use Rattle.spec.specs.Meaning.{In}
 use Rattle.lgg.specs.Lists.{in-left, in-right, in-append, in-cons, in-nil, is-in, in-any, get-in}
 use Rattle.arrays.specs.Arrays.{numberIn, keyOf, unkey, pairsIn}
 use Rattle.arrays.specs.ArrayLaws.{place-lt, unkey-key, unkeyed-length, unkeyed-at}
-use Rattle.graph.specs.declared.Grown.{Grown}
-use Rattle.graph.specs.declared.Grown.the-variants.{To, Full}
-use Rattle.graph.specs.Building.{withPair, entered, cleared}
-use Rattle.graph.specs.Growing.{Small, AllSmall, Laid, Graph, Going, Grows}
-use Rattle.graph.specs.EnteredLaws.{with-length, entered-last, entered-pairs, Numbered, kept, given, numbered-at, place-one}
+use Rattle.entering.specs.declared.Grown.{Grown}
+use Rattle.entering.specs.declared.Grown.the-variants.{To, Full}
+use Rattle.entering.specs.Entered.{withPair, entered, cleared}
+use Rattle.entering.specs.Growing.{Small, AllSmall, Laid, Graph, Going, Grows, Enters}
+use Rattle.entering.specs.EnteredLaws.{with-length, entered-last, entered-pairs, Numbered, kept, given, numbered-at, place-one}
 
 -- ---- whether a pair is known
 module _ {w n : ℕ} {graph : List ℕ} (g : Laid w n graph) (l r : ℕ) (s : Small w (l, r)) where
@@ -104,11 +104,17 @@ module _ (lim : Limits) {w n : ℕ} {graph : List ℕ} (g : Graph lim w n graph)
   length-pairs : length (pairsIn w graph n) ≡ n
   length-pairs = unkeyed-length graph (w * w) n
 
-  pub stays : true ≡ any (sameTwo (l, r)) (pairsIn w graph n) → Grows lim w (enterAll lim (pairsIn w graph n) ((l, r) ∷ [])) graph (To n)
-  stays e = record { says = record { leads = enter-none lim (pairsIn w graph n) ∙ sym (enter-known lim (pairsIn w graph n) (l, r) e); holds = g; small = none-small } }
+  pub stays : true ≡ any (sameTwo (l, r)) (pairsIn w graph n) → Enters lim w n (l, r) graph graph (To n)
+  stays e = record {
+    grows = record { says = record { leads = enter-none lim (pairsIn w graph n) ∙ sym (enter-known lim (pairsIn w graph n) (l, r) e); holds = g; small = none-small } };
+    graph = rw (← e) refl;
+  }
 
-  pub fills : false ≡ any (sameTwo (l, r)) (pairsIn w graph n) → lim .pairs ≤ n → {graph′ : List ℕ} → Grows lim w (enterAll lim (pairsIn w graph n) ((l, r) ∷ [])) graph′ Full
-  fills e h = record { says = enter-full lim (pairsIn w graph n) (l, r) e (omega (arith, h, length-pairs)) }
+  pub fills : false ≡ any (sameTwo (l, r)) (pairsIn w graph n) → lim .pairs ≤ n → Enters lim w n (l, r) graph graph Full
+  fills e h = record {
+    grows = record { says = enter-full lim (pairsIn w graph n) (l, r) e (omega (arith, h, length-pairs)) };
+    graph = rw (← e, le-ltb n (lim .pairs) h) refl;
+  }
 
   -- the array with one pair more
   module _ (s : Small w (l, r)) (h : n < lim .pairs) where
@@ -153,14 +159,17 @@ module _ (lim : Limits) {w n : ℕ} {graph : List ℕ} (g : Graph lim w n graph)
       room = omega (arith, g .room, size);
     }
 
-    pub appends : {graph′ : List ℕ} → false ≡ any (sameTwo (l, r)) (pairsIn w graph n) → graph′ ≡ withPair w n (l, r) graph → Grows lim w (enterAll lim (pairsIn w graph n) ((l, r) ∷ [])) graph′ (To (n + 1))
+    pub appends : {graph′ : List ℕ} → false ≡ any (sameTwo (l, r)) (pairsIn w graph n) → graph′ ≡ withPair w n (l, r) graph → Enters lim w n (l, r) graph graph′ (To (n + 1))
     unfolding more
     appends e z = rw z (record {
-      says = record {
-        leads = enter-none lim (pairsIn w (withPair w n (l, r) graph) (n + 1)) ∙ ap (λ (z : List Two). ok z) more-pairs ∙ sym (enter-new lim (pairsIn w graph n) (l, r) e (omega (arith, h, length-pairs)));
-        holds = graph-more;
-        small = none-small;
+      grows = record {
+        says = record {
+          leads = enter-none lim (pairsIn w (withPair w n (l, r) graph) (n + 1)) ∙ ap (λ (z : List Two). ok z) more-pairs ∙ sym (enter-new lim (pairsIn w graph n) (l, r) e (omega (arith, h, length-pairs)));
+          holds = graph-more;
+          small = none-small;
+        };
       };
+      graph = rw (← e, lt-ltb n (lim .pairs) h) refl;
     })
 
 -- ---- list after list

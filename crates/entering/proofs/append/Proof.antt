@@ -1,8 +1,8 @@
-use Rattle.graph.specs.EnteredLaws.{with-puts}
+use Rattle.entering.specs.EnteredLaws.{with-puts}
 use native.Mathlib.Omega.{arith}
 use borrow.Author.Needs.{needs}
-use Rattle.graph.proofs.append.Statement.{statement}
-use Rattle.graph.proofs.append.Tie as tie
+use Rattle.entering.proofs.append.Statement.{statement}
+use Rattle.entering.proofs.append.Tie as tie
 
 place-requires : tie.Need-place-requires
 place-requires c κs = (c .before .before .pre .0, c .before .before .pre .3 .0, c .before .before .pre .3 .1)

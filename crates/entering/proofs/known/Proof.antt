@@ -1,11 +1,11 @@
 use Prim.Native.Nat.{_+_, ℕ}
-use Rattle.graph.specs.GrowLaws.{known-key, known-past}
+use Rattle.entering.specs.GrowLaws.{known-key, known-past}
 use lib.ListN.{getD}
 use mathlib.Core.Path.{_∙_, ap}
 use native.Mathlib.Omega.{arith}
 use borrow.Author.Needs.{needs}
-use Rattle.graph.proofs.known.Statement.{statement}
-use Rattle.graph.proofs.known.Tie as tie
+use Rattle.entering.proofs.known.Statement.{statement}
+use Rattle.entering.proofs.known.Tie as tie
 
 place-requires : tie.Need-place-requires
 place-requires c κs =

@@ -1,10 +1,10 @@
-use Rattle.graph.specs.GrowLaws.{appends, fills, stays}
+use Rattle.entering.specs.GrowLaws.{appends, fills, stays}
 use Rattle.query.specs.Settings.{limitsOf}
 use mathlib.Core.Path.{_∙_, sym}
 use native.Mathlib.Omega.{arith}
 use borrow.Author.Needs.{needs}
-use Rattle.graph.proofs.enter_pair.Statement.{statement}
-use Rattle.graph.proofs.enter_pair.Tie as tie
+use Rattle.entering.proofs.enter_pair.Statement.{statement}
+use Rattle.entering.proofs.enter_pair.Tie as tie
 
 known-requires : tie.Need-known-requires
 known-requires c κs = (c .before .before .pre .0 .keys, c .before .before .pre .1)
