@@ -12,17 +12,15 @@ use Rattle.spec.specs.Bytes.{Two, Limits, sum, Res, ok, refused}
 use Rattle.spec.specs.Image.{Tables, kindOf, isCommutative}
 use Rattle.spec.specs.Pool.{Interned}
 use Rattle.spec.specs.Meaning.{In, here, there}
-use Rattle.spec.specs.Action.{transports, joins}
+use Rattle.spec.specs.Action.{joins}
 use Rattle.spec.specs.Monomial.{COUNT}
 use Rattle.spec.specs.Round.{Act, Choice, stay, act, Turn, changes, turnOf, choiceTerm, actionTerm, planRuns}
 use Rattle.laws.specs.Buffers.{over}
 use Rattle.laws.specs.Valid.{Valid}
 use Rattle.lgg.specs.Lists.{in-nil, in-cons}
 use Rattle.lgg.specs.Pool.{RunsBelow}
-use Rattle.lgg.specs.TurnBounds.{turn-small}
 use Rattle.lgg.specs.TurnPlaces.{choice-joins}
 use Rattle.lgg.specs.ReadingsWithin.{joins-within}
-use Rattle.lgg.specs.Cells.{CellsFit}
 use Rattle.terms.specs.Buffers.{part, unpack, poolOf, countIn}
 use Rattle.terms.specs.Chains.{Holds}
 use Rattle.terms.specs.Interning.{enteredOf}
@@ -31,17 +29,15 @@ use Rattle.terms.specs.JoinLaws.{part-front}
 use Rattle.terms.specs.GrowLaws.{grows-none}
 use Rattle.terms.specs.declared.Entered.{Entered}
 use Rattle.terms.specs.declared.Entered.the-variants as E
-use Rattle.arrays.specs.Arrays.{Known, TermsBelow, Scratch, qualityIn, termIn}
+use Rattle.arrays.specs.Arrays.{Known, TermsBelow, qualityIn, termIn}
 use Rattle.arrays.specs.ArrayLaws.{place-lt, known-low}
 use Rattle.quality.specs.Runs.{packed, runsOver}
-use Rattle.quality.specs.Aligned.{bestAligned, Aligns}
 use Rattle.quality.specs.declared.How.{How}
 use Rattle.quality.specs.declared.How.the-variants as H
 use Rattle.quality.specs.declared.Best.{Best}
-use Rattle.offers.specs.Offers.{Work, workOf, offersIn}
-use Rattle.turns.specs.Agreeing.{Chosen, Agrees, turn-agrees}
-use Rattle.turns.specs.Taking.{takenOf, turnIn, termList, Ended, changedBy, Takes, Leaves}
-use Rattle.turns.specs.declared.Taken.the-variants as T
+use Rattle.turn_term.specs.Agreeing.{Chosen, Agrees}
+use Rattle.turn_term.specs.Taking.{takenOf, Ended, changedBy, Takes}
+use Rattle.turn_term.specs.declared.Taken.the-variants as T
 
 -- ---- a run as one number, and back
 unpacked : (r : Two) → r .0 < 16384 → unpack (packed r) ≡ r
@@ -171,46 +167,22 @@ module _ (k : ℕ) (t : Tables) (of : Two → ℕ) (list : List ℕ) (b : Best) 
   taken-full (ok a) e = absurd (let y : _≡_ {A = ℕ} 0 1 = cc in omega arith)
   taken-full (refused n) e = refl
 
--- ---- the whole turn
-module _ (lim : Limits) (t : Tables) (q : Two → Two) (of : Two → ℕ) (p : Two) where
-  module _ (work flow : List ℕ) (b : Best) (w : Work) (e : w ≡ offersIn (lim .pairs) q of (transports t (p .0) (p .1)) (workOf work flow b)) where
-    pub turn-done : CellsFit lim t p → Aligns t q p b → Agrees (lim .pairs) t of (w .work) (w .best) (turnOf t q p)
-    turn-done f A = rw e (turn-agrees (lim .pairs) t q of p (workOf work flow b) f A)
-
-    pub turn-left : b ≡ bestAligned t q p → w ≡ turnIn lim t q of p work flow
-    unfolding turnIn
-    turn-left g = e ∙ ap (λ (z : Best). offersIn (lim .pairs) q of (transports t (p .0) (p .1)) (workOf work flow z)) g
-
-  pub turn-fits : (k : ℕ) (list : List ℕ) (b : Best) → Agrees k t of list b (turnOf t q p) → q p .1 ≤ q p .0 → ((c : Two) → In c (joins t p) → q c .1 ≤ q c .0) → q p .0 < 2 ^ 32 → (b .size < 2 ^ 32) × (b .mass < 2 ^ 32)
-  turn-fits k list b A own low h =
-      let (x, y) = turn-small t q p (2 ^ 32) h own low in
-      (omega (arith, x, ap (λ (z : Two). z .0) (A .quality)), omega (arith, y, ap (λ (z : Two). z .1) (A .quality)))
-
-  module _ (k : ℕ) (terms runs terms′ runs′ list list′ : List ℕ) (b : Best) (A : Agrees k t of list b (turnOf t q p)) (e : Entered) (D : Ended lim t of terms runs (of p) (turnOf t q p .choice) list terms′ runs′ list′ e) where
-    pub takes-full : e ≡ E.Full → Takes lim t q of p terms runs terms′ runs′ T.Full
-    takes-full f = record {
-      answer = taken-full k t of list b (turnOf t q p) A (choiceTerm lim t of (poolOf terms runs) (of p) (turnOf t q p .choice)) (sym f ∙ D .answer);
-      pool = D .pool;
-      holds = D .holds;
-      grows = D .grows;
-    }
-
-    pub takes-to : (j : ℕ) → e ≡ E.Term j → (size mass : ℕ) (x : Bool) → size ≡ b .size → mass ≡ b .mass → x ≡ changedBy (b .how)
-        → Takes lim t q of p terms runs terms′ runs′ (T.To (record { size = size; mass = mass; term = j; changed = x }))
-    takes-to j f size mass x u v g = record {
-      answer = (λ i. T.To (record { size = u i; mass = v i; term = j; changed = x })) ∙ taken-to k t of list b (turnOf t q p) A (choiceTerm lim t of (poolOf terms runs) (of p) (turnOf t q p .choice)) j (sym f ∙ D .answer) x g;
-      pool = D .pool;
-      holds = D .holds;
-      grows = D .grows;
-    }
-
-  pub turn-leaves : (terms runs work flow work₁ flow₁ work′ : List ℕ) (b : Best) → workOf work₁ flow₁ b ≡ turnIn lim t q of p work flow → work′ ≡ termList t of terms runs (turnOf t q p .choice) work₁
-      → Leaves lim t q of p terms runs work flow work′ flow₁
-  turn-leaves terms runs work flow work₁ flow₁ work′ b S e = record {
-    workIs = e ∙ ap (λ (z : Work). termList t of terms runs (turnOf t q p .choice) (z .work)) S;
-    flowIs = ap (λ (z : Work). z .flow) S;
+-- ---- the turn's end
+module _ (lim : Limits) (t : Tables) (q : Two → Two) (of : Two → ℕ) (p : Two) (k : ℕ) (terms runs terms′ runs′ list list′ : List ℕ) (b : Best) (A : Agrees k t of list b (turnOf t q p)) (e : Entered)
+    (D : Ended lim t of terms runs (of p) (turnOf t q p .choice) list terms′ runs′ list′ e) where
+  pub takes-full : e ≡ E.Full → Takes lim t q of p terms runs terms′ runs′ T.Full
+  takes-full f = record {
+    answer = taken-full k t of list b (turnOf t q p) A (choiceTerm lim t of (poolOf terms runs) (of p) (turnOf t q p .choice)) (sym f ∙ D .answer);
+    pool = D .pool;
+    holds = D .holds;
+    grows = D .grows;
   }
 
--- lengths count, numbers do not
-pub scratch-kept : {lim : Limits} {work flow work′ flow′ : List ℕ} → Scratch lim work flow → length work′ ≡ length work → length flow′ ≡ length flow → Scratch lim work′ flow′
-scratch-kept {lim} {work} {flow} {work′} {flow′} S e f = record { few = S .few; list = omega (arith, S .list); costs = omega (arith, S .costs); plan = omega (arith, S .plan) }
+  pub takes-to : (j : ℕ) → e ≡ E.Term j → (size mass : ℕ) (x : Bool) → size ≡ b .size → mass ≡ b .mass → x ≡ changedBy (b .how)
+      → Takes lim t q of p terms runs terms′ runs′ (T.To (record { size = size; mass = mass; term = j; changed = x }))
+  takes-to j f size mass x u v g = record {
+    answer = (λ i. T.To (record { size = u i; mass = v i; term = j; changed = x })) ∙ taken-to k t of list b (turnOf t q p) A (choiceTerm lim t of (poolOf terms runs) (of p) (turnOf t q p .choice)) j (sym f ∙ D .answer) x g;
+    pool = D .pool;
+    holds = D .holds;
+    grows = D .grows;
+  }

@@ -1,4 +1,4 @@
--- A pair's turn as the code takes it: its quality afterwards, its term, and what it leaves in the buffers.
+-- A pair's turn as the code ends it: its quality afterwards, its term, and what it leaves in the pool and in the list.
 use mathlib.Core.Path.{_≡_}
 use mathlib.Core.Bool.{Bool, true, false}
 use mathlib.Core.List.{List}
@@ -7,7 +7,6 @@ use lib.ListN.{length}
 use Rattle.spec.specs.Bytes.{Two, Limits, Res, ok, refused}
 use Rattle.spec.specs.Image.{Tables, kindOf, isCommutative}
 use Rattle.spec.specs.Pool.{Interned}
-use Rattle.spec.specs.Action.{transports}
 use Rattle.spec.specs.Round.{Choice, stay, act, Turn, changes, turnOf, choiceTerm}
 use Rattle.laws.specs.Buffers.{over}
 use Rattle.terms.specs.Buffers.{poolOf}
@@ -17,12 +16,10 @@ use Rattle.terms.specs.Growing.{Grows}
 use Rattle.terms.specs.declared.Entered.{Entered}
 use Rattle.action_term.specs.Results.{actionList}
 use Rattle.quality.specs.Runs.{runsOver}
-use Rattle.quality.specs.Aligned.{bestAligned}
 use Rattle.quality.specs.declared.How.{How}
 use Rattle.quality.specs.declared.How.the-variants as H
-use Rattle.offers.specs.Offers.{Work, workOf, offersIn}
-use Rattle.turns.specs.declared.Taken.{Taken}
-use Rattle.turns.specs.declared.Taken.the-variants as T
+use Rattle.turn_term.specs.declared.Taken.{Taken}
+use Rattle.turn_term.specs.declared.Taken.the-variants as T
 
 abbrev pub takenOf : Turn → Res Interned → Taken
 takenOf w (ok a) = T.To (record { size = w .quality .0; mass = w .quality .1; term = a .term; changed = changes w })
@@ -35,12 +32,7 @@ pub record Takes (lim : Limits) (t : Tables) (q : Two → Two) (of : Two → ℕ
   pub holds : Holds terms′ runs′
   pub grows : Grows terms runs terms′ runs′ (poolAfter (poolOf terms runs) (choiceTerm lim t of (poolOf terms runs) (of p) (turnOf t q p .choice)))
 
--- ---- the work buffers
--- the structural actions are offered, then the transports
-unfoldable pub turnIn : Limits → Tables → (Two → Two) → (Two → ℕ) → Two → List ℕ → List ℕ → Work
-unfolding bestAligned offersIn transports
-turnIn lim t q of p work flow = offersIn (lim .pairs) q of (transports t (p .0) (p .1)) (workOf work flow (bestAligned t q p))
-
+-- ---- the list
 -- the winner's runs are listed, ordered and joined
 abbrev pub termList : Tables → (Two → ℕ) → List ℕ → List ℕ → Choice → List ℕ → List ℕ
 termList t of terms runs stay list = list
@@ -59,8 +51,3 @@ abbrev pub changedBy : How → Bool
 changedBy H.Stay = false
 changedBy (H.Aligned v) = true
 changedBy (H.Plan o m) = true
-
--- What a turn leaves in the two work buffers.
-pub record Leaves (lim : Limits) (t : Tables) (q : Two → Two) (of : Two → ℕ) (p : Two) (terms runs work flow work′ flow′ : List ℕ) : Type 0 where
-  pub workIs : work′ ≡ termList t of terms runs (turnOf t q p .choice) (turnIn lim t q of p work flow .work)
-  pub flowIs : flow′ ≡ turnIn lim t q of p work flow .flow

@@ -8,13 +8,13 @@ use Rattle.arrays.specs.Arrays.{qualityIn, termIn}
 use Rattle.terms.specs.Buffers.{countIn}
 use Rattle.quality.specs.Runs.{runsOver}
 use Rattle.quality.specs.declared.How.the-variants as H
-use Rattle.turns.specs.Agreeing.{Chosen, Planned}
-use Rattle.turns.specs.Ending.{choice-below, over-front, act-given, ended-stay, ended-act}
+use Rattle.turn_term.specs.Agreeing.{Chosen, Planned}
+use Rattle.turn_term.specs.Ending.{choice-below, over-front, act-given, ended-stay, ended-act}
 use native.Mathlib.Omega.{arith}
 use mathlib.Core.Path.{sym, _∙_}
 use borrow.Author.Needs.{needs}
-use Rattle.turns.proofs.turn_term.Statement.{statement}
-use Rattle.turns.proofs.turn_term.Tie as tie
+use Rattle.turn_term.proofs.turn_term.Statement.{statement}
+use Rattle.turn_term.proofs.turn_term.Tie as tie
 
 enum-told : tie.Need-enum-told
 enum-told c = search needs

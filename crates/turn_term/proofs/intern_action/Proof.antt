@@ -1,6 +1,6 @@
 use borrow.Author.Needs.{needs}
-use Rattle.turns.proofs.intern_action.Statement.{statement}
-use Rattle.turns.proofs.intern_action.Tie as tie
+use Rattle.turn_term.proofs.intern_action.Statement.{statement}
+use Rattle.turn_term.proofs.intern_action.Tie as tie
 
 kind-requires : tie.Need-kind-requires
 kind-requires c κs = search needs

@@ -3,20 +3,22 @@ use mathlib.Core.Path.{_≡_, refl, sym, ap, _∙_}
 use mathlib.Core.Bool.{Bool, true, false}
 use mathlib.Core.List.{List, [], _∷_, _++_, map}
 use mathlib.Core.Option.{Option, none, some}
-use Prim.Native.Nat.{ℕ, zero, suc, _≤_}
+use Prim.Native.Nat.{ℕ, zero, suc, _^_, _≤_, _<_}
 use native.Mathlib.Omega.{arith}
 use lib.Dec.{eqb}
 use lib.ListN.{length, take, drop, length-take}
 use lib.Seq.{take-at}
-use Rattle.spec.specs.Bytes.{Two, pick}
+use Rattle.spec.specs.Bytes.{Two, Limits, pick}
 use Rattle.spec.specs.Image.{Tables}
 use Rattle.spec.specs.Transport.{solveCells}
-use Rattle.spec.specs.Action.{TransportAction, transports, cellPairs}
+use Rattle.spec.specs.Action.{TransportAction, transports, joins, cellPairs}
 use Rattle.spec.specs.Meaning.{In, here, there}
-use Rattle.spec.specs.Round.{better, ofPlan, Choice, stay, act, Turn, offerPlan, offerTransports, turnOf, planRuns}
-use Rattle.actions.specs.Remaining.{Stands}
+use Rattle.spec.specs.Round.{better, ofPlan, act, Turn, offerPlan, offerTransports, turnOf, planRuns}
 use Rattle.laws.specs.Buffers.{over}
-use Rattle.quality.specs.Aligned.{actAt, choiceAt, StandsAt, afterAligned, Aligns}
+use Rattle.lgg.specs.TurnBounds.{turn-small}
+use Rattle.lgg.specs.Cells.{CellsFit}
+use Rattle.arrays.specs.Arrays.{Scratch}
+use Rattle.quality.specs.Aligned.{bestAligned, choiceAt, StandsAt, afterAligned, Aligns}
 use Rattle.quality.specs.declared.How.{How}
 use Rattle.quality.specs.declared.How.the-variants as H
 use Rattle.quality.specs.declared.Best.{Best}
@@ -24,25 +26,10 @@ use Rattle.quality.specs.Runs.{packed, runsOver}
 use Rattle.cost_matrix.specs.Matrix.{costsAfter}
 use Rattle.offers.specs.Laying.{problemAt}
 use Rattle.offers.specs.Listing.{runsAt}
-use Rattle.offers.specs.Offers.{Work, laidAt, qualityAt, planned, bestAfter, listAfter, offerIn, offersIn}
-
--- the choice c is a plan under operation o, and its runs are the first m of the list, of the k places that the list may take
-pub record Planned (k : ℕ) (of : Two → ℕ) (list : List ℕ) (o m : ℕ) (c : Choice) : Type 0 where
-  pub places : List Two
-  pub plan : List ℕ
-  pub is : c ≡ act (record { op = o; places = places; counts = plan })
-  pub runs : take m list ≡ runsOver of places plan
-  pub many : m ≡ length (runsOver of places plan)
-  pub few : m ≤ k
-
-abbrev pub Chosen : ℕ → Tables → (Two → ℕ) → List ℕ → How → Choice → Type 0
-Chosen k t of list H.Stay c = c ≡ stay
-Chosen k t of list (H.Aligned v) c = Stands t v × (c ≡ actAt t v)
-Chosen k t of list (H.Plan o m) c = Planned k of list o m c
-
-pub record Agrees (k : ℕ) (t : Tables) (of : Two → ℕ) (list : List ℕ) (b : Best) (w : Turn) : Type 0 where
-  pub quality : (b .size, b .mass) ≡ w .quality
-  pub chosen : Chosen k t of list (b .how) (w .choice)
+use Rattle.turn_term.specs.Agreeing.{Chosen, Agrees}
+use Rattle.turn_term.specs.Taking.{termList}
+use Rattle.turns.specs.Leaving.{Leaves, turnIn}
+use Rattle.offers.specs.Offers.{Work, workOf, laidAt, qualityAt, planned, bestAfter, listAfter, offerIn, offersIn}
 
 -- as many runs as places at most
 pub runs-few : (of : Two → ℕ) (ps : List Two) (x : List ℕ) → length (runsOver of ps x) ≤ length ps
@@ -122,3 +109,29 @@ module _ (k : ℕ) (t : Tables) (q : Two → Two) (of : Two → ℕ) where
       → Agrees k t of (offersIn k q of (transports t (p .0) (p .1)) v .work) (offersIn k q of (transports t (p .0) (p .1)) v .best) (turnOf t q p)
   unfolding turnOf afterAligned
   turn-agrees p v f A = offers-agree (transports t (p .0) (p .1)) v (afterAligned t q p) f (aligned-agrees p (v .work) (v .best) A)
+
+-- ---- the whole turn
+module _ (lim : Limits) (t : Tables) (q : Two → Two) (of : Two → ℕ) (p : Two) where
+  module _ (work flow : List ℕ) (b : Best) (w : Work) (e : w ≡ offersIn (lim .pairs) q of (transports t (p .0) (p .1)) (workOf work flow b)) where
+    pub turn-done : CellsFit lim t p → Aligns t q p b → Agrees (lim .pairs) t of (w .work) (w .best) (turnOf t q p)
+    turn-done f A = rw e (turn-agrees (lim .pairs) t q of p (workOf work flow b) f A)
+
+    pub turn-left : b ≡ bestAligned t q p → w ≡ turnIn lim t q of p work flow
+    unfolding turnIn
+    turn-left g = e ∙ ap (λ (z : Best). offersIn (lim .pairs) q of (transports t (p .0) (p .1)) (workOf work flow z)) g
+
+  pub turn-fits : (k : ℕ) (list : List ℕ) (b : Best) → Agrees k t of list b (turnOf t q p) → q p .1 ≤ q p .0 → ((c : Two) → In c (joins t p) → q c .1 ≤ q c .0) → q p .0 < 2 ^ 32 → (b .size < 2 ^ 32) × (b .mass < 2 ^ 32)
+  turn-fits k list b A own low h =
+      let (x, y) = turn-small t q p (2 ^ 32) h own low in
+      (omega (arith, x, ap (λ (z : Two). z .0) (A .quality)), omega (arith, y, ap (λ (z : Two). z .1) (A .quality)))
+
+  pub turn-leaves : (terms runs work flow work₁ flow₁ work′ : List ℕ) (b : Best) → workOf work₁ flow₁ b ≡ turnIn lim t q of p work flow → work′ ≡ termList t of terms runs (turnOf t q p .choice) work₁
+      → Leaves lim t q of p terms runs work flow work′ flow₁
+  turn-leaves terms runs work flow work₁ flow₁ work′ b S e = record {
+    workIs = e ∙ ap (λ (z : Work). termList t of terms runs (turnOf t q p .choice) (z .work)) S;
+    flowIs = ap (λ (z : Work). z .flow) S;
+  }
+
+-- lengths count, numbers do not
+pub scratch-kept : {lim : Limits} {work flow work′ flow′ : List ℕ} → Scratch lim work flow → length work′ ≡ length work → length flow′ ≡ length flow → Scratch lim work′ flow′
+scratch-kept {lim} {work} {flow} {work′} {flow′} S e f = record { few = S .few; list = omega (arith, S .list); costs = omega (arith, S .costs); plan = omega (arith, S .plan) }
