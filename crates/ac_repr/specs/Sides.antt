@@ -13,10 +13,11 @@ use Rattle.spec.specs.Image.{Tables, NO-IDENTITY, identityOf}
 use Rattle.spec.specs.Monomial.{Monomial, MonomialPair, total, pairOf, padPair, bothItself, narrow, narrowPairs}
 use Rattle.laws.specs.Monomials.{total-insert}
 use Rattle.monomial.specs.Terms.{terms, held}
-use Rattle.monomial.specs.Pad.{monomialAt, levelled, unmatched, bothNarrow, paddedOf, answerOf, sidesOf}
+use Rattle.monomial.specs.Places.{monomialAt}
+use Rattle.padding.specs.Pad.{levelled, unmatched, bothNarrow, paddedOf, answerOf, sidesOf}
 use Rattle.ac_repr.specs.Walk.{actionOver, actionsAt, Answered}
 use Rattle.ac_repr.specs.declared.Walk.{Walk}
-use Rattle.monomial.specs.declared.Padded.the-variants.{Pair, Nothing}
+use Rattle.padding.specs.declared.Padded.the-variants.{Pair, Nothing}
 
 -- ---- the definitions' pair, by what the buffers hold
 abbrev fits : MonomialPair → Bool

@@ -15,7 +15,7 @@ use Rattle.spec.specs.Monomial.{Monomial, MonomialPair, monomial, itself, monom
 use Rattle.spec.specs.Action.{TransportAction, acOps, transports}
 use Rattle.laws.specs.Valid.{Valid}
 use Rattle.laws.specs.AcceptedUses.{membersWithin}
-use Rattle.monomial.specs.Pad.{monomialAt}
+use Rattle.monomial.specs.Places.{monomialAt}
 use Rattle.ac_repr.specs.Walk.{passing, endOf, hasPlace, placesFrom, walkAt, row, rows, acOp, pairsFrom, walks, allWalks, afterOf, leftOf, Stepped, actionOver, actionsAt}
 use Rattle.ac_repr.specs.declared.Walk.{Walk}
 use Rattle.ac_repr.specs.declared.Step.{Step}

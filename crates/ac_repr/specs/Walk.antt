@@ -10,8 +10,9 @@ use Rattle.spec.specs.Bytes.{pick, both, any, filter, each, upFrom, place, same
 use Rattle.spec.specs.Image.{Tables, NO-IDENTITY, isAC, kindOf, identityOf, theClass, theMember, membersOf}
 use Rattle.spec.specs.Monomial.{Monomial, bothItself, padPair, narrowPairs}
 use Rattle.spec.specs.Action.{TransportAction}
-use Rattle.monomial.specs.Pad.{monomialAt, answerOf, Pads}
-use Rattle.monomial.specs.declared.Padded.{Padded}
+use Rattle.monomial.specs.Places.{monomialAt}
+use Rattle.padding.specs.Pad.{answerOf, Pads}
+use Rattle.padding.specs.declared.Padded.{Padded}
 use Rattle.ac_repr.specs.declared.Walk.{Walk}
 use Rattle.ac_repr.specs.declared.Step.{Step}
 use Rattle.ac_repr.specs.declared.Step.the-variants.{At, End}

@@ -12,9 +12,9 @@ ghost use Rattle.monomial.specs.Terms.{NUMBERS};
 ghost use Rattle.ac_repr.specs.Walk.{firstFrom, hasPlace, rows, under, acOp, pairsFrom, walks, allWalks, afterOf, Within, InRow, InOp, Stepped, Answered};
 ghost use Rattle.ac_repr.specs.declared.Step.the-variants.{At};
 use image::Image;
-use monomial::Padded;
 use monomial::of_place;
-use monomial::pad_pair;
+use padding::Padded;
+use padding::pad_pair;
 
 // An operation, a place of the left class and a place of the right class.
 pub struct Walk {

@@ -21,7 +21,8 @@ use Rattle.arrays.specs.Arrays.{unkeyed}
 use Rattle.pair_table.specs.declared.Pair.{Pair}
 use Rattle.pair_table.specs.Table.{enteredOf, countedOf}
 use Rattle.pair_table.specs.From.{counts-all, counts-none}
-use Rattle.graph.specs.Building.{graphAfter, entered}
+use Rattle.entering.specs.Entered.{entered}
+use Rattle.graph.specs.Building.{graphAfter}
 use Rattle.graph.specs.Built.{built-apart, built-first, built-some, built-few, built-pairs}
 use Rattle.exact_fixed.specs.Beginning.{begunOf, Ready}
 use Rattle.exact_fixed.specs.declared.Begun.{Begun}

@@ -22,7 +22,8 @@ use Rattle.arrays.specs.Arrays.{pairsIn}
 use Rattle.terms.specs.Buffers.{poolOf, countIn}
 use Rattle.terms.specs.PoolLaws.{pool-length}
 use Rattle.terms.specs.Chains.{Holds}
-use Rattle.graph.specs.Building.{graphAfter, entered}
+use Rattle.entering.specs.Entered.{entered}
+use Rattle.graph.specs.Building.{graphAfter}
 use Rattle.graph.specs.Built.{built-pairs}
 use Rattle.outcome.specs.Answers.{Answers}
 use Rattle.outcome.specs.Outcomes.{RanTo}

@@ -9,8 +9,8 @@ use Rattle.spec.specs.Image.{Tables}
 use Rattle.spec.specs.Graph.{build}
 use Rattle.laws.specs.Valid.{Valid}
 use Rattle.lgg.specs.BestMembers.{IsPair}
-use Rattle.graph.specs.Building.{entered}
-use Rattle.graph.specs.EnteredLaws.{entered-length}
+use Rattle.entering.specs.Entered.{entered}
+use Rattle.entering.specs.EnteredLaws.{entered-length}
 use Rattle.graph.specs.Built.{built-distinct, built-closed, built-some, built-few, built-below, built-within, built-number}
 use Rattle.rounds.specs.Graphs.{Graphs}
 

@@ -18,9 +18,10 @@ use Rattle.lgg.specs.Rounds.{Closed}
 use Rattle.lgg.specs.Graph as L
 use Rattle.arrays.specs.Arrays.{placeOf, numberIn, keyOf, pairsIn}
 use Rattle.arrays.specs.ArrayLaws.{place-lt}
-use Rattle.graph.specs.Building.{entered, cleared, graphAfter}
-use Rattle.graph.specs.Growing.{AllSmall}
-use Rattle.graph.specs.EnteredLaws.{entered-length, entered-key, entered-pairs, Numbered, kept, given, numbered-at, place-one}
+use Rattle.entering.specs.Entered.{entered, cleared}
+use Rattle.graph.specs.Building.{graphAfter}
+use Rattle.entering.specs.Growing.{AllSmall}
+use Rattle.entering.specs.EnteredLaws.{entered-length, entered-key, entered-pairs, Numbered, kept, given, numbered-at, place-one}
 
 -- ---- lists without repeats
 other : (x q : Two) (l : List Two) → (In x l → ⊥) → In q l → sameTwo q x ≡ false

@@ -24,16 +24,16 @@ use Rattle.actions.specs.Seek.{seekOf}
 use Rattle.actions.specs.SeekLaws.{seek-list}
 use Rattle.monomial.specs.Terms.{TERMS, NUMBERS, terms, held}
 use Rattle.monomial.specs.TermLaws.{terms-length}
-use Rattle.monomial.specs.Pad.{Few}
+use Rattle.padding.specs.Pad.{Few}
 use Rattle.ac_repr.specs.Walk.{Within, Stepped, Answered, walks, allWalks, leftOf, afterOf, actionsAt}
 use Rattle.ac_repr.specs.Sides.{action-one, action-none}
 use Rattle.ac_repr.specs.Transports.{actionsLeft, left-first, left-next, left-end}
-use Rattle.monomial.specs.declared.Padded.{Padded}
-use Rattle.monomial.specs.declared.Padded.the-variants.{Pair, Nothing}
+use Rattle.padding.specs.declared.Padded.{Padded}
+use Rattle.padding.specs.declared.Padded.the-variants.{Pair, Nothing}
 use Rattle.ac_repr.specs.declared.Walk.{Walk}
 use Rattle.ac_repr.specs.declared.Step.{Step}
 use Rattle.ac_repr.specs.declared.Step.the-variants.{At, End}
-use Rattle.graph.specs.Growing.{Small, AllSmall}
+use Rattle.entering.specs.Growing.{Small, AllSmall}
 
 -- ---- lists, one after the other
 each-append : {A B : Type 0} (f : A → List B) (a b : List A) → each f (a ++ b) ≡ each f a ++ each f b

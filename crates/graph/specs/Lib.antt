@@ -1,7 +1,5 @@
 pub mod Building
-pub mod Growing
-pub mod EnteredLaws
-pub mod GrowLaws
+pub mod Ending
 pub mod JoinLaws
 pub mod TurnLaws
 pub mod Built

@@ -24,12 +24,14 @@ use Rattle.arrays.specs.ArrayLaws.{unkeyed-length, unkeyed-at}
 use Rattle.budget.specs.declared.Budget.{Budget}
 use Rattle.budget.specs.declared.Spent.{Spent}
 use Rattle.budget.specs.Budget.{spendAt, spendOf}
-use Rattle.graph.specs.declared.Grown as G
-use Rattle.graph.specs.declared.Grown.the-variants as K
+use Rattle.entering.specs.declared.Grown as G
+use Rattle.entering.specs.declared.Grown.the-variants as K
 use Rattle.graph.specs.declared.Built.{Built}
 use Rattle.graph.specs.declared.Built.the-variants.{All, Cut, Full}
-use Rattle.graph.specs.Building.{entered, cleared, Builds}
-use Rattle.graph.specs.Growing.{AllPairs, Graph, Going, Grows, Whole, Ends}
+use Rattle.entering.specs.Entered.{entered, cleared}
+use Rattle.graph.specs.Building.{Builds}
+use Rattle.entering.specs.Growing.{Graph, Going, Grows}
+use Rattle.graph.specs.Ending.{AllPairs, Whole, Ends}
 
 -- ---- a check
 pub check-none : (b : Budget) (x : Spent) → x ≡ spendOf b → not (x .passed) ≡ true → b .left ≡ 0

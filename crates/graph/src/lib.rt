@@ -1,10 +1,9 @@
-// The pair graph in one array over w classes: at l * w + r the number of the pair (l, r); from w * w on, at k, the key of pair k.
-// The array is cleared first, so a pair is known exactly if the pair with its number there has its key.
+// The pair graph: from the queried pair on, pair after pair, the pairs that its actions join are entered.
 ghost use mathlib.Core.Path.{_≡_};
-ghost use mathlib.Core.List.{[], _∷_, map};
+ghost use mathlib.Core.List.{map};
 ghost use Prim.Native.Nat.{_+_, _*_, _≤_, _<_};
 ghost use lib.ListN.{length, replicate};
-ghost use Rattle.spec.specs.Bytes.{any, each, sameTwo};
+ghost use Rattle.spec.specs.Bytes.{each};
 ghost use Rattle.spec.specs.Image.{tablesOf};
 ghost use Rattle.spec.specs.Monomial.{classes, pairOf};
 ghost use Rattle.spec.specs.Action.{structural, transports, cellPairs, joins};
@@ -16,8 +15,9 @@ ghost use Rattle.arrays.specs.Arrays.{pairsIn};
 ghost use Rattle.actions.specs.Remaining.{Stands, actionAt};
 ghost use Rattle.monomial.specs.Terms.{TERMS, NUMBERS, held};
 ghost use Rattle.ac_repr.specs.Walk.{actionsAt};
-ghost use Rattle.graph.specs.Building.{withPair, Builds};
-ghost use Rattle.graph.specs.Growing.{Small, AllSmall, AllPairs, Laid, Graph, Grows, Ends};
+ghost use Rattle.entering.specs.Growing.{AllSmall, Graph, Grows};
+ghost use Rattle.graph.specs.Building.{Builds};
+ghost use Rattle.graph.specs.Ending.{AllPairs, Ends};
 use ac_repr::Step;
 use ac_repr::Walk;
 use ac_repr::first;
@@ -30,19 +30,16 @@ use actions::left_class;
 use actions::right_class;
 use actions::seek;
 use actions::start;
-use arrays::key;
-use arrays::keys;
 use arrays::left_at;
-use arrays::place;
 use arrays::right_at;
 use budget::Budget;
 use clearing::clear_u16;
+use entering::Grown;
+use entering::enter_pair;
 use image::Image;
-use monomial::Padded;
 use monomial::class_at;
-use numbers::at_u16;
-use numbers::put_u16;
 use numbers::size_u64;
+use padding::Padded;
 use query::Limits;
 
 // Built in full: how many pairs, and the budget left; cut short; refusal 12.
@@ -50,49 +47,6 @@ pub enum Built {
     All(usize, Budget),
     Cut,
     Full,
-}
-
-// How many pairs there are; or refusal 12.
-enum Grown {
-    To(usize),
-    Full,
-}
-
-// ---- one pair
-// The pair (l, r) is one of the n.
-fn known(graph: &[u16], w: usize, n: usize, l: usize, r: usize) -> bool
-    requires { ⌜ Laid w n (now graph) × Small w (l, r) ⌝ }
-    ensures { λ x. ⌜ x ≡ any (sameTwo (l, r)) (pairsIn w (now (graph .entry)) n) ⌝ }
-{
-    let k = at_u16(graph, place(w, l, r));
-    if k >= n {
-        return false;
-    }
-    at_u16(graph, keys(w) + k) == key(l, r)
-}
-
-// The pair (l, r) as number n.
-fn append(graph: &mut [u16], w: usize, n: usize, l: usize, r: usize)
-    requires { ⌜ (w ≤ 256) × (n < 4096) × (w * w + n < length (now graph)) × Small w (l, r) ⌝ }
-    ensures { λ _. ⌜ now (graph .exit) ≡ withPair w n (l, r) (now (graph .entry)) ⌝ }
-{
-    put_u16(graph, place(w, l, r), n);
-    put_u16(graph, keys(w) + n, key(l, r));
-}
-
-// "Its n pairs are counted once each."
-fn enter_pair(lim: Limits, w: usize, graph: &mut [u16], n: usize, l: usize, r: usize) -> Grown
-    requires { ⌜ Graph (limitsOf lim) w n (now graph) × Small w (l, r) ⌝ }
-    ensures { λ x. ⌜ Grows (limitsOf lim) w (enterAll (limitsOf lim) (pairsIn w (now (graph .entry)) n) ((l, r) ∷ [])) (now (graph .exit)) x ⌝ }
-{
-    if known(graph, w, n, l, r) {
-        return Grown::To(n);
-    }
-    if n >= lim.pairs {
-        return Grown::Full;
-    }
-    append(graph, w, n, l, r);
-    Grown::To(n + 1)
 }
 
 // ---- structural actions

@@ -1,14 +1,12 @@
 -- What a buffer holds while a member's children are added one by one.
 use mathlib.Core.Path.{_≡_, refl, sym, ap, _∙_}
-use mathlib.Core.Bool.{Bool, true, false}
-use mathlib.Core.List.{List, [], _∷_, _++_}
+use mathlib.Core.List.{List, _∷_}
 use Prim.Native.Nat.{ℕ, suc, _+_, _*_, _-_, _≤_, _<_}
 use native.Mathlib.Numerals.{add-one}
 use native.Mathlib.Omega.{arith}
 use borrow.Author.Tests.{lt-ltb, le-ltb}
-use lib.Dec.{ltb, eqb}
-use lib.ListN.{length, take, drop, getD, set, take-append-drop}
-use lib.Seq.{take-at, take-add, drop-at, drop-append-add, drop-drop, slice, slice-cons, slice-empty, length-take-le, set-split}
+use lib.ListN.{length, getD, set}
+use lib.Seq.{slice, slice-cons, slice-empty, set-split}
 use Rattle.spec.specs.Bytes.{Two, sum}
 use Rattle.spec.specs.Image.{Tables, tablesOf, theClass, theMember, childrenOf}
 use Rattle.spec.specs.Monomial.{Monomial, insertAdd, addAll, monomial, total, itself}
@@ -20,15 +18,8 @@ use Rattle.image.specs.Loaded.{Loaded, childSpan, memberSpan, members-many, chi
 use Rattle.image.specs.declared.Image.{Image}
 use Rattle.image.specs.declared.Span.{Span}
 use Rattle.monomial.specs.Terms.{terms, held, front, Holds, Roomy}
-use Rattle.monomial.specs.Pad.{Made, monomialAt}
-use Rattle.monomial.specs.TermLaws.{terms-length, held-length, held-is, front-front}
-use Rattle.monomial.specs.PadLaws.{Grow, grow}
-
--- nothing written
-pub held-same : (n : ℕ) (s : List ℕ) → length s ≡ 130 → n ≤ 65 → Holds (held n s) s s n
-held-same n s l b =
-    let e : length (held n s) ≡ n = held-length n s l b in
-    record { len = sym e; whole = rw e (sym (take-append-drop n (terms s))) }
+use Rattle.monomial.specs.Places.{Made, monomialAt}
+use Rattle.monomial.specs.TermLaws.{terms-length, held-length, held-is, front-front, Grow, grow}
 
 -- ---- the loop over the children
 pub record Upto (t : Tables) (first to : ℕ) (s₀ s : List ℕ) (n k : ℕ) : Type 0 where

@@ -1,5 +1,3 @@
 pub mod Buffer
 pub mod Insert
-pub mod Scans
 pub mod Children
-pub mod Padding

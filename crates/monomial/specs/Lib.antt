@@ -1,4 +1,3 @@
 pub mod Terms
 pub mod TermLaws
-pub mod Pad
-pub mod PadLaws
+pub mod Places

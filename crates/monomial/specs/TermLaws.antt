@@ -1,13 +1,15 @@
--- Laws of `terms`: a term is read and written at two numbers, and the terms fix the buffer.
+-- Laws of `terms`: a term is read and written at two numbers, the terms fix the buffer, and a class added is a term more at most.
 use mathlib.Core.Path.{_≡_, refl, sym, ap, _∙_}
+use mathlib.Core.Bool.{Bool, true, false}
 use mathlib.Core.List.{List, [], _∷_, _++_}
 use Prim.Native.Nat.{ℕ, zero, suc, _+_, _*_, _-_, _≤_, _<_}
 use native.Mathlib.Nat.{not-suc-le-zero}
 use native.Mathlib.Omega.{arith}
-use lib.ListN.{length, drop, getD, set}
+use lib.Dec.{ltb, eqb}
+use lib.ListN.{length, drop, getD, set, take-append-drop}
 use lib.Seq.{take-at, drop-append-add, drop-drop, length-take-le}
 use Rattle.spec.specs.Bytes.{Two}
-use Rattle.spec.specs.Monomial.{Monomial}
+use Rattle.spec.specs.Monomial.{Monomial, insertAdd}
 use Rattle.monomial.specs.Terms.{terms, held, front, Holds}
 
 twice : (i : ℕ) → 2 * suc i ≡ suc (suc (2 * i))
@@ -69,3 +71,24 @@ front-front m m′ l h =
     ap (λ (k : ℕ). drop k (front m l)) e ∙ drop-append-add m (drop (length m) l) (length m′ - length m)
     ∙ drop-drop (length m′ - length m) (length m) l ∙ ap (λ (k : ℕ). drop k l) (sym e) in
     ap (λ (x : List Two). m′ ++ x) d
+
+-- nothing written
+pub held-same : (n : ℕ) (s : List ℕ) → length s ≡ 130 → n ≤ 65 → Holds (held n s) s s n
+held-same n s l b =
+    let e : length (held n s) ≡ n = held-length n s l b in
+    record { len = sym e; whole = rw e (sym (take-append-drop n (terms s))) }
+
+-- ---- a class added grows a monomial by a term at most
+abbrev pub Grow : ℕ → ℕ → Monomial → Type 0
+Grow c k m = (length m ≤ length (insertAdd c k m)) × (length (insertAdd c k m) ≤ length m + 1)
+
+grow-step : (c k : ℕ) (t : Two) (m : Monomial) (b d : Bool) → ltb (t .0) c ≡ b → eqb (t .0) c ≡ d → Grow c k m → Grow c k (t ∷ m)
+unfolding insertAdd
+grow-step c k t m true d q z ih = rw (q, insertAdd) (omega arith)
+grow-step c k t m false true q z ih = rw (q, insertAdd, z) (omega arith)
+grow-step c k t m false false q z ih = rw (q, insertAdd, z) (omega arith)
+
+pub grow : (c k : ℕ) (m : Monomial) → Grow c k m
+unfolding insertAdd
+grow c k [] = omega arith
+grow c k (t ∷ m) = grow-step c k t m (ltb (t .0) c) (eqb (t .0) c) refl refl (grow c k m)

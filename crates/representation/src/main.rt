@@ -14,7 +14,7 @@ use judge::Verdict;
 use judge::judge;
 use libc::STDIN_FILENO;
 use libc::STDOUT_FILENO;
-use monomial::Padded;
+use padding::Padded;
 
 // of an image that shows every two of its classes
 const SMALL: usize = 12;

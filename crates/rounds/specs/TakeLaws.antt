@@ -19,9 +19,9 @@ use Rattle.terms.specs.Buffers.{poolOf, countIn}
 use Rattle.terms.specs.PoolLaws.{pool-length}
 use Rattle.terms.specs.Chains.{Holds}
 use Rattle.interning.specs.Interning.{poolAfter}
-use Rattle.turns.specs.Taking.{takenOf, Takes}
-use Rattle.turns.specs.declared.Turned.{Turned}
-use Rattle.turns.specs.declared.Taken.the-variants as K
+use Rattle.turn_term.specs.Taking.{takenOf, Takes}
+use Rattle.turn_term.specs.declared.Turned.{Turned}
+use Rattle.turn_term.specs.declared.Taken.the-variants as K
 use Rattle.rounds.specs.Turning.{Moved, turnIn, termMade}
 
 taken-full : (w : Turn) (m : Res Interned) → K.Full ≡ takenOf w m → (n : ℕ) × (m ≡ refused n)

@@ -9,7 +9,7 @@ use outcome::Answer;
 use outcome::Outcome;
 use outcome::Ran;
 use query::Limits;
-use turns::Taken;
+use turn_term::Taken;
 ghost use mathlib.Core.Path.{_≡_};
 ghost use mathlib.Core.Bool.{false};
 ghost use Prim.Native.Nat.{_+_, _*_, _≤_, _<_};

@@ -1,4 +1,3 @@
-pub mod Taking
-pub mod Agreeing
+pub mod Leaving
 pub mod Walking
-pub mod Ending
+pub mod TurnLaws

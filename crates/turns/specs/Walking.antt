@@ -18,8 +18,8 @@ use Rattle.lgg.specs.ReadingsWithin.{joins-within}
 use Rattle.monomial.specs.Terms.{NUMBERS, held}
 use Rattle.ac_repr.specs.Walk.{walks, allWalks, actionsAt, afterOf, leftOf, Within, Stepped, Answered}
 use Rattle.ac_repr.specs.Sides.{action-none, action-one, action-narrow}
-use Rattle.monomial.specs.declared.Padded.{Padded}
-use Rattle.monomial.specs.declared.Padded.the-variants.{Pair, Nothing}
+use Rattle.padding.specs.declared.Padded.{Padded}
+use Rattle.padding.specs.declared.Padded.the-variants.{Pair, Nothing}
 use Rattle.ac_repr.specs.Transports.{actionsLeft, left-first, left-next, left-end}
 use Rattle.ac_repr.specs.declared.Walk.{Walk}
 use Rattle.ac_repr.specs.declared.Step.{Step}

@@ -1,5 +1,5 @@
-use Rattle.monomial.specs.PadLaws.{paddable, pads-made}
-use Rattle.monomial.specs.Pad.{monomialAt}
+use Rattle.padding.specs.PadLaws.{paddable, pads-made}
+use Rattle.monomial.specs.Places.{monomialAt}
 use Rattle.spec.specs.Image.{tablesOf, identityOf}
 use mathlib.Core.Path.{_∙_}
 use borrow.Author.Needs.{needs}

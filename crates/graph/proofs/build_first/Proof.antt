@@ -28,7 +28,7 @@ build-from-requires c κs =
     let many = classes-many (b .args .s .now) (b .args .im) (b .pre .0) in
     let hl : b .args .l < length (t .classes) = omega (arith, b .pre .2, many) in
     let hr : b .args .r < length (t .classes) = omega (arith, b .pre .3, many) in
-    (b .pre .0, b .pre .1, first-graph (limitsOf (b .args .lim)) t (b .args .im .classes) (b .args .l) (b .args .r) (b .args .budget .left) (b .args .graph .now) (c .before .before .before .before .before .before .enter-pair .result) (c .before .before .before .before .before .before .enter-pair .ensures) (c .before .before .n .given .0 .0) (c .before .before .n .given .1), first-pairs (limitsOf (b .args .lim)) t (b .args .im .classes) (b .args .l) (b .args .r) (b .args .budget .left) (b .args .graph .now) (c .before .before .before .before .before .before .enter-pair .result) (c .before .before .before .before .before .before .enter-pair .ensures) (c .before .before .n .given .0 .0) (c .before .before .n .given .1) (hl, hr))
+    (b .pre .0, b .pre .1, first-graph (limitsOf (b .args .lim)) t (b .args .im .classes) (b .args .l) (b .args .r) (b .args .budget .left) (b .args .graph .now) (c .before .before .before .before .before .before .enter-pair .result) (c .before .before .before .before .before .before .enter-pair .ensures .grows) (c .before .before .n .given .0 .0) (c .before .before .n .given .1), first-pairs (limitsOf (b .args .lim)) t (b .args .im .classes) (b .args .l) (b .args .r) (b .args .budget .left) (b .args .graph .now) (c .before .before .before .before .before .before .enter-pair .result) (c .before .before .before .before .before .before .enter-pair .ensures .grows) (c .before .before .n .given .0 .0) (c .before .before .n .given .1) (hl, hr))
 
 same-length : tie.Need-same-length
 same-length c = search needs
@@ -36,7 +36,7 @@ same-length c = search needs
 returns : tie.Need-returns
 returns c =
     let b = c .before .before .before .before .before .before .before .before in
-    first-full (limitsOf (b .args .lim)) (tablesOf (b .args .s .now)) (b .args .im .classes) (b .args .l) (b .args .r) (b .args .budget .left) (b .args .graph .now) (c .before .before .before .before .enter-pair .result) (c .before .before .before .before .enter-pair .ensures) (c .enum-told .given .1)
+    first-full (limitsOf (b .args .lim)) (tablesOf (b .args .s .now)) (b .args .im .classes) (b .args .l) (b .args .r) (b .args .budget .left) (b .args .graph .now) (c .before .before .before .before .enter-pair .result) (c .before .before .before .before .enter-pair .ensures .grows) (c .enum-told .given .1)
 
 same-length-2 : tie.Need-same-length-2
 same-length-2 c = search needs
@@ -44,7 +44,7 @@ same-length-2 c = search needs
 returns-2 : tie.Need-returns-2
 returns-2 c =
     let b = c .before .before .before .before .before .before .before .before .before .before .before .before .before in
-    first-on (limitsOf (b .args .lim)) (tablesOf (b .args .s .now)) (b .args .im .classes) (b .args .l) (b .args .r) (b .args .budget .left) (b .args .graph .now) (c .before .before .before .before .before .before .before .before .before .enter-pair .result) (c .before .before .before .before .before .before .before .before .before .enter-pair .ensures) (c .before .before .before .before .before .n .given .0 .0) (c .before .before .before .before .before .n .given .1) (c .before .before .build-from .result) (c .before .before .build-from .ensures)
+    first-on (limitsOf (b .args .lim)) (tablesOf (b .args .s .now)) (b .args .im .classes) (b .args .l) (b .args .r) (b .args .budget .left) (b .args .graph .now) (c .before .before .before .before .before .before .before .before .before .enter-pair .result) (c .before .before .before .before .before .before .before .before .before .enter-pair .ensures .grows) (c .before .before .before .before .before .n .given .0 .0) (c .before .before .before .before .before .n .given .1) (c .before .before .build-from .result) (c .before .before .build-from .ensures)
 
 pub build-first-spec : {M : Type 1} → statement M
 build-first-spec =

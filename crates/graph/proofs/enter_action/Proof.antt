@@ -1,8 +1,8 @@
 use Prim.Native.Nat.{_+_, _-_, _<_, _≤_}
 use Rattle.actions.specs.Remaining.{actionAt}
 use Rattle.arrays.specs.Arrays.{pairsIn}
-use Rattle.graph.specs.GrowLaws.{going-end, going-full, going-on, going-small, going-start}
-use Rattle.graph.specs.Growing.{Going}
+use Rattle.entering.specs.GrowLaws.{going-end, going-full, going-on, going-small, going-start}
+use Rattle.entering.specs.Growing.{Going}
 use Rattle.graph.specs.JoinLaws.{pair-end, pair-next}
 use Rattle.query.specs.Settings.{limitsOf}
 use Rattle.spec.specs.Graph.{enterAll}
@@ -66,7 +66,7 @@ returns c =
     let l = c .before .before .before .before .before .before .before .left-class .result in
     let r = c .before .before .before .before .before .before .right-class .result in
     let h : k < length ps = omega (arith, c .before .before .before .before .before .before .before .before .before .before .count .ensures .0, c .before .before .before .before .before .before .before .before .loop-test .taken) in
-    going-full (c .before .before .before .before .before .before .before .before .before .loop .inv .1) ((l, r) ∷ []) (drop (k + 1) ps) (pair-next ps k l r h (c .before .before .before .before .before .before .before .left-class .ensures .0) (c .before .before .before .before .before .before .right-class .ensures .0)) (c .before .before .before .before .enter-pair .result) (c .before .before .before .before .enter-pair .ensures) (c .enum-told .given .1)
+    going-full (c .before .before .before .before .before .before .before .before .before .loop .inv .1) ((l, r) ∷ []) (drop (k + 1) ps) (pair-next ps k l r h (c .before .before .before .before .before .before .before .left-class .ensures .0) (c .before .before .before .before .before .before .right-class .ensures .0)) (c .before .before .before .before .enter-pair .result) (c .before .before .before .before .enter-pair .ensures .grows) (c .enum-told .given .1)
 
 enum-known-m : tie.Need-enum-known-m Inv-loop μ-loop
 enum-known-m c = search needs
@@ -85,7 +85,7 @@ loop-again c =
     let l = c .before .before .before .before .before .before .before .before .left-class .result in
     let r = c .before .before .before .before .before .before .before .right-class .result in
     let h : k < length ps = omega (arith, c .before .before .before .before .before .before .before .before .before .before .before .count .ensures .0, c .before .before .before .before .before .before .before .before .before .loop-test .taken) in
-    (omega (arith, c .before .before .before .before .before .before .before .before .before .loop-test .taken), going-on (c .before .before .before .before .before .before .before .before .before .before .loop .inv .1) ((l, r) ∷ []) (drop (k + 1) ps) (pair-next ps k l r h (c .before .before .before .before .before .before .before .before .left-class .ensures .0) (c .before .before .before .before .before .before .before .right-class .ensures .0)) (c .before .before .before .before .before .enter-pair .result) (c .before .before .before .before .before .enter-pair .ensures) (c .before .m .given .1), omega (arith, c .before .before .before .before .before .before .before .before .before .before .loop .inv .2, c .before .before .before .before .before .enter-pair .kept))
+    (omega (arith, c .before .before .before .before .before .before .before .before .before .loop-test .taken), going-on (c .before .before .before .before .before .before .before .before .before .before .loop .inv .1) ((l, r) ∷ []) (drop (k + 1) ps) (pair-next ps k l r h (c .before .before .before .before .before .before .before .before .left-class .ensures .0) (c .before .before .before .before .before .before .before .right-class .ensures .0)) (c .before .before .before .before .before .enter-pair .result) (c .before .before .before .before .before .enter-pair .ensures .grows) (c .before .m .given .1), omega (arith, c .before .before .before .before .before .before .before .before .before .before .loop .inv .2, c .before .before .before .before .before .enter-pair .kept))
 
 same-length-2 : tie.Need-same-length-2 Inv-loop μ-loop
 same-length-2 c = search needs

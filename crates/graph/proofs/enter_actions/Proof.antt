@@ -2,8 +2,8 @@ use Rattle.actions.specs.Remaining.{actionAt, afterOf, listFrom}
 use Rattle.actions.specs.SeekLaws.{found-fewer, found-stands, start-list}
 use Rattle.actions.specs.declared.State.{State}
 use Rattle.arrays.specs.Arrays.{pairsIn}
-use Rattle.graph.specs.GrowLaws.{going-end, going-full, going-on, going-same, going-small, going-start}
-use Rattle.graph.specs.Growing.{Going}
+use Rattle.entering.specs.GrowLaws.{going-end, going-full, going-on, going-same, going-small, going-start}
+use Rattle.entering.specs.Growing.{Going}
 use Rattle.graph.specs.JoinLaws.{actions-end, actions-next, pairsOf, structural-small}
 use Rattle.image.specs.Loaded.{classes-many}
 use Rattle.query.specs.Settings.{limitsOf}

@@ -1,8 +1,8 @@
 use Prim.Native.Nat.{_+_, _-_, _≤_}
 use Rattle.monomial.specs.Terms.{held}
 use Rattle.arrays.specs.Arrays.{pairsIn}
-use Rattle.graph.specs.GrowLaws.{going-end, going-full, going-on, going-same, going-small, going-start}
-use Rattle.graph.specs.Growing.{Going}
+use Rattle.entering.specs.GrowLaws.{going-end, going-full, going-on, going-same, going-small, going-start}
+use Rattle.entering.specs.Growing.{Going}
 use Rattle.graph.specs.JoinLaws.{cells-end, cells-next, cells-start, cellsFrom, rowFrom}
 use Rattle.query.specs.Settings.{limitsOf}
 use Rattle.spec.specs.Action.{cellPairs}

@@ -1,4 +1,4 @@
-use Rattle.graph.specs.GrowLaws.{going-full, going-last, going-on, going-start}
+use Rattle.entering.specs.GrowLaws.{going-full, going-last, going-on, going-start}
 use Rattle.graph.specs.JoinLaws.{cellsOf, joins-are, joins-small, pairsOf}
 use Rattle.image.specs.Loaded.{classes-many}
 use Rattle.spec.specs.Action.{joins, structural, transports}

@@ -1,7 +1,7 @@
 use Prim.Native.Nat.{_+_, _-_, _≤_}
 use Rattle.arrays.specs.Arrays.{pairsIn}
-use Rattle.graph.specs.GrowLaws.{going-end, going-full, going-on, going-small, going-start}
-use Rattle.graph.specs.Growing.{Going}
+use Rattle.entering.specs.GrowLaws.{going-end, going-full, going-on, going-small, going-start}
+use Rattle.entering.specs.Growing.{Going}
 use Rattle.graph.specs.JoinLaws.{row-end, row-next, rowFrom}
 use Rattle.query.specs.Settings.{limitsOf}
 use Rattle.spec.specs.Graph.{enterAll}
@@ -55,7 +55,7 @@ returns c =
     let list = b .args .right .now in
     let j = c .before .before .before .before .before .before .before .before .before .loop .j in
     let r = c .before .before .before .before .before .before .size-u64 .result in
-    going-full (c .before .before .before .before .before .before .before .before .before .loop .inv .1) ((l, r) ∷ []) (rowFrom l cols list (j + 1)) (row-next l cols list (b .pre .0) (b .pre .1) j r (c .before .before .before .before .before .before .before .class-at .result) (c .before .before .before .before .before .before .before .before .loop-test .taken) (c .before .before .before .before .before .before .size-u64 .ensures) (c .before .before .before .before .before .before .before .class-at .ensures)) (c .before .before .before .before .enter-pair .result) (c .before .before .before .before .enter-pair .ensures) (c .enum-told .given .1)
+    going-full (c .before .before .before .before .before .before .before .before .before .loop .inv .1) ((l, r) ∷ []) (rowFrom l cols list (j + 1)) (row-next l cols list (b .pre .0) (b .pre .1) j r (c .before .before .before .before .before .before .before .class-at .result) (c .before .before .before .before .before .before .before .before .loop-test .taken) (c .before .before .before .before .before .before .size-u64 .ensures) (c .before .before .before .before .before .before .before .class-at .ensures)) (c .before .before .before .before .enter-pair .result) (c .before .before .before .before .enter-pair .ensures .grows) (c .enum-told .given .1)
 
 enum-known-m : tie.Need-enum-known-m Inv-loop μ-loop
 enum-known-m c = search needs
@@ -74,7 +74,7 @@ loop-again c =
     let list = b .args .right .now in
     let j = c .before .before .before .before .before .before .before .before .before .before .loop .j in
     let r = c .before .before .before .before .before .before .before .size-u64 .result in
-    (omega (arith, c .before .before .before .before .before .before .before .before .before .loop-test .taken), going-on (c .before .before .before .before .before .before .before .before .before .before .loop .inv .1) ((l, r) ∷ []) (rowFrom l cols list (j + 1)) (row-next l cols list (b .pre .0) (b .pre .1) j r (c .before .before .before .before .before .before .before .before .class-at .result) (c .before .before .before .before .before .before .before .before .before .loop-test .taken) (c .before .before .before .before .before .before .before .size-u64 .ensures) (c .before .before .before .before .before .before .before .before .class-at .ensures)) (c .before .before .before .before .before .enter-pair .result) (c .before .before .before .before .before .enter-pair .ensures) (c .before .m .given .1), omega (arith, c .before .before .before .before .before .before .before .before .before .before .loop .inv .2, c .before .before .before .before .before .enter-pair .kept))
+    (omega (arith, c .before .before .before .before .before .before .before .before .before .loop-test .taken), going-on (c .before .before .before .before .before .before .before .before .before .before .loop .inv .1) ((l, r) ∷ []) (rowFrom l cols list (j + 1)) (row-next l cols list (b .pre .0) (b .pre .1) j r (c .before .before .before .before .before .before .before .before .class-at .result) (c .before .before .before .before .before .before .before .before .before .loop-test .taken) (c .before .before .before .before .before .before .before .size-u64 .ensures) (c .before .before .before .before .before .before .before .before .class-at .ensures)) (c .before .before .before .before .before .enter-pair .result) (c .before .before .before .before .before .enter-pair .ensures .grows) (c .before .m .given .1), omega (arith, c .before .before .before .before .before .before .before .before .before .before .loop .inv .2, c .before .before .before .before .before .enter-pair .kept))
 
 same-length-2 : tie.Need-same-length-2 Inv-loop μ-loop
 same-length-2 c = search needs

@@ -1,5 +1,5 @@
 use Rattle.ac_repr.specs.Walk.{actionsAt}
-use Rattle.graph.specs.GrowLaws.{going-end, going-last, going-same, going-small, going-start}
+use Rattle.entering.specs.GrowLaws.{going-end, going-last, going-same, going-small, going-start}
 use Rattle.graph.specs.JoinLaws.{cellsOf, transport-few, transport-none, transport-one}
 use Rattle.spec.specs.Image.{tablesOf}
 use mathlib.Core.List.{[], append-nil}

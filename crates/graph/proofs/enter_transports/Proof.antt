@@ -2,8 +2,8 @@ use Prim.Native.Nat.{_<_}
 use Rattle.ac_repr.specs.Transports.{actionsLeft}
 use Rattle.ac_repr.specs.Walk.{Within, actionsAt, afterOf, walks}
 use Rattle.arrays.specs.Arrays.{pairsIn}
-use Rattle.graph.specs.GrowLaws.{going-end, going-full, going-on, going-same, going-small, going-start}
-use Rattle.graph.specs.Growing.{Going}
+use Rattle.entering.specs.GrowLaws.{going-end, going-full, going-on, going-same, going-small, going-start}
+use Rattle.entering.specs.Growing.{Going}
 use Rattle.graph.specs.JoinLaws.{cellsOf, transports-end, transports-first, transports-later, transports-small, transports-start, walks-fewer, walksLeft, within-here}
 use Rattle.image.specs.Loaded.{classes-many, operations-many}
 use Rattle.query.specs.Settings.{limitsOf}

@@ -8,7 +8,7 @@ use Rattle.rounds.specs.Graphs.{stateIn, Reads, graphs-length, pair-at, 
 use Rattle.rounds.specs.Idling.{Idles, idle-here, idles-more}
 use Rattle.rounds.specs.Turning.{Turning, turning-none, steps-full, steps-to, turn-cut, turn-refused, turn-moved, quiet-here}
 use Rattle.terms.specs.PoolLaws.{rooms-same}
-use Rattle.turns.specs.Ending.{scratch-kept}
+use Rattle.turns.specs.TurnLaws.{scratch-kept}
 use Rattle.rounds.specs.Spending.{expired, spent}
 use borrow.Author.Needs.{needs}
 use Prim.Native.Nat.{_≤_, _-_, _*_}

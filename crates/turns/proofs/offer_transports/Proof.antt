@@ -3,7 +3,7 @@ use Rattle.query.specs.Settings.{limitsOf}
 use Rattle.image.specs.Loaded.{operations-many, classes-many}
 use Rattle.arrays.specs.Arrays.{qualityIn, termIn}
 use Rattle.offers.specs.Offers.{workOf}
-use Rattle.turns.specs.Ending.{scratch-kept}
+use Rattle.turns.specs.TurnLaws.{scratch-kept}
 use Rattle.turns.specs.Walking.{Walking, walkLeft, all-fitting, walking-first, walking-end, walking-within, walking-sound, walking-next, walking-less}
 use borrow.Author.Needs.{needs}
 use native.Mathlib.Omega.{arith}

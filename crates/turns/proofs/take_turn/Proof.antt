@@ -1,7 +1,7 @@
 use Rattle.spec.specs.Image.{tablesOf}
 use Rattle.query.specs.Settings.{limitsOf}
 use Rattle.arrays.specs.Arrays.{qualityIn, termIn}
-use Rattle.turns.specs.Ending.{turn-leaves}
+use Rattle.turns.specs.TurnLaws.{turn-leaves}
 use native.Mathlib.Omega.{arith}
 use borrow.Author.Needs.{needs}
 use Rattle.turns.proofs.take_turn.Statement.{statement}

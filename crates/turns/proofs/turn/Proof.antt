@@ -4,7 +4,8 @@ use Rattle.image.specs.Loaded.{classes-many}
 use Rattle.arrays.specs.Arrays.{qualityIn, termIn}
 use Rattle.arrays.specs.ArrayLaws.{known-low}
 use Rattle.quality.specs.Offers.{best-aligns}
-use Rattle.turns.specs.Ending.{joined-low, turn-done, turn-left, turn-fits}
+use Rattle.turn_term.specs.Ending.{joined-low}
+use Rattle.turns.specs.TurnLaws.{turn-done, turn-left, turn-fits}
 use mathlib.Core.Path.{sym}
 use borrow.Author.Needs.{needs}
 use Rattle.turns.proofs.turn.Statement.{statement}

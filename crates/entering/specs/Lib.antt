@@ -1,0 +1,4 @@
+pub mod Entered
+pub mod Growing
+pub mod EnteredLaws
+pub mod GrowLaws
