@@ -1,2 +1,1 @@
-pub mod LiteralLaws
 pub mod VerdictLaws

@@ -16,7 +16,7 @@ use Rattle.image.specs.Loaded.{Loaded, loaded}
 use Rattle.image.specs.declared.Image.{Image}
 use Rattle.spec.specs.Meaning.{HoldsDoubled}
 use Rattle.laws.specs.AcceptedLiterals.{doubled-holds}
-use Rattle.judge.specs.Doubled.{doubledAt, doubled-found, doubled-none}
+use Rattle.literals.specs.Doubled.{doubledAt, doubled-found, doubled-none}
 use Rattle.judge.specs.Verdict.{countsWithin, headerOf}
 
 pub within-low : (low high x : ℕ) → x < low → false ≡ within low high x

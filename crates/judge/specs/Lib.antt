@@ -1,3 +1,1 @@
-pub mod Doubled
-pub mod Slots
 pub mod Verdict

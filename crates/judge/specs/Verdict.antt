@@ -9,7 +9,7 @@ use Rattle.spec.specs.Meaning.{HoldsDoubled}
 use Rattle.image.specs.Layout.{layoutOf}
 use Rattle.image.specs.Loaded.{Loaded}
 use Rattle.image.specs.declared.Image.{Image}
-use Rattle.judge.specs.Doubled.{doubledAt}
+use Rattle.literals.specs.Doubled.{doubledAt}
 use Rattle.judge.specs.declared.Verdict.{Verdict}
 use Rattle.judge.specs.declared.Verdict.the-variants.{Accepted, Refused, Doubled}
 

@@ -16,8 +16,6 @@ use numbers::long_size;
 use operation_rules::operations_right;
 use span_rules::spans_right;
 
-mod literals;
-
 pub enum Verdict {
     Accepted(Image),
     // 2 to 9

@@ -15,8 +15,8 @@ use Rattle.laws.specs.AcceptedLists.{both-true, follow-cons}
 use Rattle.laws.specs.AcceptedLiterals.{isLiteral}
 use Rattle.laws.specs.AcceptedSpans.{follow-rule, class-span, class-spans-length, classes-within, part-length, part-at}
 use Rattle.laws.specs.AcceptedTurns.{any-go, any-stop, any-end, later-literals}
-use Rattle.laws.specs.Valid.{Follow, Spans, classSpans}
-use Rattle.image.specs.Loaded.{Loaded, operations-many, classes-many, members-many}
+use Rattle.laws.specs.Valid.{Follow, classSpans}
+use Rattle.image.specs.Loaded.{Loaded, classes-many}
 use Rattle.image.specs.declared.Image.{Image}
 
 -- the spans after span i
@@ -116,13 +116,6 @@ module _ (t : Tables) (c : ℕ) (h : c < length (t .classes)) (f : Follow (lengt
   pub class-end : theClass t c .count ≤ i → any (doubledAfter t c) (drop i (membersOf t c)) ≡ false
   class-end b = any-end (doubledAfter t c) (membersOf t c) i (omega (arith, long))
 
--- ---- numbers of the image
-module _ (s : List ℕ) (im : Image) (l : Loaded s im) (v : Spans (tablesOf s)) where
-  pub op-there : {m o : ℕ} → m < im .members → o ≡ theMember (tablesOf s) m .op → o < im .operations
-  op-there {m} h p = omega (arith, p, operations-many s im l, v .operationWithin m (omega (arith, members-many s im l)))
-
-  pub class-there : {c : ℕ} → c < im .classes → c < length (tablesOf s .classes)
-  class-there h = omega (arith, classes-many s im l)
-
-  pub members-there : {c f n : ℕ} → c < im .classes → f ≡ theClass (tablesOf s) c .first → n ≡ theClass (tablesOf s) c .count → f + n ≤ im .members
-  members-there {c} h p q = omega (arith, p, q, members-many s im l, classes-within (tablesOf s) (v .classesFollow) c (class-there h))
+-- a class of the image
+pub class-there : (s : List ℕ) (im : Image) {c : ℕ} → Loaded s im → c < im .classes → c < length (tablesOf s .classes)
+class-there s im l h = omega (arith, classes-many s im l)

@@ -1,4 +1,5 @@
-use Rattle.judge.proofs.LiteralLaws.{doubledAfter, class-start, class-stop, class-go, class-end, class-there, members-there}
+use Rattle.literals.proofs.LiteralLaws.{doubledAfter, class-start, class-stop, class-go, class-end, class-there}
+use Rattle.span_rules.specs.Within.{class-room}
 use Rattle.spec.specs.Image.{doubledIn, membersOf, tablesOf, theClass}
 use Rattle.spec.specs.Bytes.{any}
 use borrow.Author.Needs.{needs}
@@ -6,8 +7,8 @@ use Prim.Native.Nat.{_≤_, _-_, _+_}
 use native.Mathlib.Omega.{arith}
 use mathlib.Core.Path.{_≡_, sym, _∙_}
 use lib.ListN.{drop}
-use Rattle.judge.proofs.literals.class_doubled.Statement.{statement}
-use Rattle.judge.proofs.literals.class_doubled.Tie as tie
+use Rattle.literals.proofs.class_doubled.Statement.{statement}
+use Rattle.literals.proofs.class_doubled.Tie as tie
 
 abbrev Inv-loop : tie.InvT-loop
 Inv-loop s im last c from n i₀ i = (i ≤ n) × (from + n ≤ im .members) × (doubledIn (tablesOf s) (theClass (tablesOf s) c) (drop (c + 1) (tablesOf s .classes)) ≡ any (doubledAfter (tablesOf s) c) (drop i (membersOf (tablesOf s) c)))
@@ -26,7 +27,7 @@ loop-holds c =
     let a = c .before .before .before in
     let s = a .args .s .now in (
       omega arith,
-      members-there s (a .args .im) (a .pre .0) (a .pre .2) (a .pre .1) (c .before .first-member .ensures .0) (c .member-count .ensures .0),
+      class-room s (a .args .im) (a .pre .0) (a .pre .2 .classesFollow) (a .pre .1) (c .before .first-member .ensures .0) (c .member-count .ensures .0),
       class-start (tablesOf s) (a .args .c),
     )
 
@@ -47,7 +48,7 @@ returns c =
     let a = g .before .before in
     let s = a .args .s .now in
     sym (l .loop .inv .2
-    ∙ class-stop (tablesOf s) (a .args .c) (class-there s (a .args .im) (a .pre .0) (a .pre .2) (a .pre .1)) (a .pre .2 .classesFollow) (l .loop .i) (g .first-member .ensures .0) (l .before .member-count .ensures .0) (omega arith) (c .before .member-doubled .ensures) (c .if1 .taken))
+    ∙ class-stop (tablesOf s) (a .args .c) (class-there s (a .args .im) (a .pre .0) (a .pre .1)) (a .pre .2 .classesFollow) (l .loop .i) (g .first-member .ensures .0) (l .before .member-count .ensures .0) (omega arith) (c .before .member-doubled .ensures) (c .if1 .taken))
 
 add-i : tie.Need-add-i Inv-loop μ-loop
 add-i c = search needs
@@ -64,7 +65,7 @@ loop-again c =
       omega arith,
       omega arith,
       l .loop .inv .2
-          ∙ sym (class-go (tablesOf s) (a .args .c) (class-there s (a .args .im) (a .pre .0) (a .pre .2) (a .pre .1)) (a .pre .2 .classesFollow) (l .loop .i) (g .first-member .ensures .0) (l .before .member-count .ensures .0) (omega arith) (c .before .member-doubled .ensures) (c .if1 .left)),
+          ∙ sym (class-go (tablesOf s) (a .args .c) (class-there s (a .args .im) (a .pre .0) (a .pre .1)) (a .pre .2 .classesFollow) (l .loop .i) (g .first-member .ensures .0) (l .before .member-count .ensures .0) (omega arith) (c .before .member-doubled .ensures) (c .if1 .left)),
     )
 
 returns-2 : tie.Need-returns-2 Inv-loop μ-loop
@@ -73,7 +74,7 @@ returns-2 c =
     let g = l .before .before in
     let a = g .before .before in
     let s = a .args .s .now in
-    sym (l .loop .inv .2 ∙ class-end (tablesOf s) (a .args .c) (class-there s (a .args .im) (a .pre .0) (a .pre .2) (a .pre .1)) (a .pre .2 .classesFollow) (l .loop .i) (omega (arith, l .before .member-count .ensures .0)))
+    sym (l .loop .inv .2 ∙ class-end (tablesOf s) (a .args .c) (class-there s (a .args .im) (a .pre .0) (a .pre .1)) (a .pre .2 .classesFollow) (l .loop .i) (omega (arith, l .before .member-count .ensures .0)))
 
 pub class-doubled-spec : {M : Type 1} → statement M
 class-doubled-spec =

@@ -1,4 +1,4 @@
-// 10: "a literal in two classes"
+// Rule 10 of the table of refusals, "a literal in two classes": the first class with a literal of a later one.
 ghost use mathlib.Core.Path.{_≡_};
 ghost use Prim.Native.Nat.{_+_, _<_, _≤_};
 ghost use lib.ListN.{drop, getD, length, set};
@@ -8,8 +8,8 @@ ghost use Rattle.spec.specs.Image.{Lit, doubledIn, kindOf, tablesOf, theClass, 
 ghost use Rattle.laws.specs.Valid.{Spans};
 ghost use Rattle.laws.specs.AcceptedLiterals.{isLiteral};
 ghost use Rattle.image.specs.Loaded.{Loaded};
-ghost use Rattle.judge.specs.Doubled.{doubledAt};
-ghost use Rattle.judge.specs.Slots.{Marks, SLOTS, slotOf};
+ghost use Rattle.literals.specs.Doubled.{doubledAt};
+ghost use Rattle.literals.specs.Slots.{Marks, SLOTS, slotOf};
 use id::LIT;
 use image::Image;
 use image::first_member;

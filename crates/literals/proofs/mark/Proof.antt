@@ -1,4 +1,4 @@
-use Rattle.judge.specs.Slots.{SLOTS, Marked, mark-next, slot-is}
+use Rattle.literals.specs.Slots.{SLOTS, Marked, mark-next, slot-is}
 use Rattle.image.specs.Loaded.{members-many}
 use Rattle.spec.specs.Image.{tablesOf}
 use borrow.Author.Needs.{needs}
@@ -6,8 +6,8 @@ use Prim.Native.Nat.{_≤_, _-_}
 use native.Mathlib.Omega.{arith}
 use mathlib.Core.Path.{_≡_, _∙_}
 use lib.ListN.{length}
-use Rattle.judge.proofs.literals.mark.Statement.{statement}
-use Rattle.judge.proofs.literals.mark.Tie as tie
+use Rattle.literals.proofs.mark.Statement.{statement}
+use Rattle.literals.proofs.mark.Tie as tie
 
 abbrev Inv-loop : tie.InvT-loop
 Inv-loop s im last₀ m₀ last m = (m ≤ im .members) × (length last ≡ SLOTS) × Marked (tablesOf s) m last

@@ -1,4 +1,4 @@
-use Rattle.judge.specs.Doubled.{doubledAt, doubled-here, doubled-later, doubled-end}
+use Rattle.literals.specs.Doubled.{doubledAt, doubled-here, doubled-later, doubled-end}
 use Rattle.image.specs.Loaded.{classes-many}
 use Rattle.spec.specs.Image.{tablesOf}
 use borrow.Author.Needs.{needs}
@@ -6,8 +6,8 @@ use Prim.Native.Nat.{_≤_, _-_, _+_}
 use native.Mathlib.Omega.{arith}
 use mathlib.Core.Path.{_≡_, sym, _∙_}
 use lib.ListN.{drop}
-use Rattle.judge.proofs.literals.first_doubled.Statement.{statement}
-use Rattle.judge.proofs.literals.first_doubled.Tie as tie
+use Rattle.literals.proofs.first_doubled.Statement.{statement}
+use Rattle.literals.proofs.first_doubled.Tie as tie
 
 abbrev Inv-loop : tie.InvT-loop
 Inv-loop s im last c₀ c = (c ≤ im .classes) × (doubledAt (tablesOf s) (tablesOf s .classes) ≡ c + doubledAt (tablesOf s) (drop c (tablesOf s .classes)))

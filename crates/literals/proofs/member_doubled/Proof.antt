@@ -1,17 +1,18 @@
-use Rattle.judge.proofs.LiteralLaws.{op-there, no-literal, a-literal}
-use Rattle.judge.specs.Slots.{unmarked, slot-low}
+use Rattle.literals.proofs.LiteralLaws.{no-literal, a-literal}
+use Rattle.span_rules.specs.Within.{op-room}
+use Rattle.literals.specs.Slots.{unmarked, slot-low}
 use Rattle.spec.specs.Image.{tablesOf, theMember}
 use mathlib.Core.Path.{sym, _∙_}
 use borrow.Author.Needs.{needs}
-use Rattle.judge.proofs.literals.member_doubled.Statement.{statement}
-use Rattle.judge.proofs.literals.member_doubled.Tie as tie
+use Rattle.literals.proofs.member_doubled.Statement.{statement}
+use Rattle.literals.proofs.member_doubled.Tie as tie
 
 member-op-requires : tie.Need-member-op-requires
 member-op-requires c κs = search needs
 
 kind-requires : tie.Need-kind-requires
 kind-requires c κs =
-    let a = c .before .before in (a .pre .0, op-there (a .args .s .now) (a .args .im) (a .pre .0) (a .pre .2) (a .pre .1) (c .member-op .ensures .0))
+    let a = c .before .before in (a .pre .0, op-room (a .args .s .now) (a .args .im) (a .pre .0) (a .pre .2) (a .pre .1) (c .member-op .ensures .0))
 
 returns : tie.Need-returns
 returns c =
