@@ -12,9 +12,9 @@ use Rattle.spec.specs.Bytes.{both, be2, be4, text, decimal, Res, ok, refused}
 use Rattle.spec.specs.Listing.{line}
 use Rattle.spec.specs.Merge.{INPUT, OUTPUT, mergeOf, outputAfter, printed, answerTo, programOf}
 use Rattle.lgg.specs.Results.{refused-ok, refused-inj}
-use Rattle.listing.specs.Writing.{Wrote}
-use Rattle.listing.specs.WriteLaws.{wrote-then, wrote-length, wrote-as}
-use Rattle.listing.specs.DecimalLaws.{decimal-short}
+use Rattle.decimals.specs.Writing.{Wrote}
+use Rattle.decimals.specs.WriteLaws.{wrote-then, wrote-length, wrote-as}
+use Rattle.decimals.specs.DecimalLaws.{decimal-short}
 use Rattle.au.specs.declared.Answer.{Answer}
 use Rattle.au.specs.declared.Answer.the-variants.{Listing, Refused, Doubled}
 use Rattle.au.specs.Merges.{answerOf, Merges, Cleared}

@@ -4,7 +4,7 @@ ghost use mathlib.Core.Bool.{true};
 ghost use Prim.Native.Nat.{_+_, _≤_, _<_};
 ghost use lib.ListN.{length};
 ghost use Rattle.spec.specs.Bytes as b;
-ghost use Rattle.listing.specs.Writing.{Wrote};
+ghost use Rattle.decimals.specs.Writing.{Wrote};
 ghost use Rattle.answer.specs.Responding.{framed, refusalBytes, Prints, Asks, Rooms, Responds};
 ghost use Rattle.au.specs.Merges.{fitOf, Cleared};
 use au::Answer;
@@ -63,8 +63,8 @@ fn refusal(out: &mut [u8], k: u64) -> usize
     requires { ⌜ (29 ≤ length (now out)) × (k < 256) ⌝ }
     ensures { λ r. ⌜ Wrote (refusalBytes k) (now (out .entry)) 0 (now (out .exit)) r ⌝ }
 {
-    let a = listing::labelled(out, 0, b"refused ", k);
-    listing::text(out, a, b"\n")
+    let a = decimals::labelled(out, 0, b"refused ", k);
+    decimals::text(out, a, b"\n")
 }
 
 // the answer's bytes, in the output buffer

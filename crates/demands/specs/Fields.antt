@@ -9,7 +9,7 @@ use lib.Dec.{ltb}
 use borrow.Author.Tests.{ltb-true}
 use Rattle.spec.specs.Bytes.{all, decimal}
 use Rattle.spec.specs.Listing.{line}
-use Rattle.listing.specs.DecimalLaws.{decimal-one, decimal-more}
+use Rattle.decimals.specs.DecimalLaws.{decimal-one, decimal-more}
 
 -- ---- bytes of a kind
 unfoldable pub All : (ℕ → Type 0) → List ℕ → Type 0

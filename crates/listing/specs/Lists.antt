@@ -10,8 +10,8 @@ use borrow.Author.Tests.{le-leb, lt-leb}
 use Rattle.spec.specs.Bytes.{pick}
 use Rattle.spec.specs.Listing.{listingOf}
 use Rattle.numbering.specs.Numbering.{numbersOf}
-use Rattle.listing.specs.Lines.{outcomeOf}
-use Rattle.listing.specs.declared.Report.{Report}
+use Rattle.widths.specs.Lines.{outcomeOf}
+use Rattle.widths.specs.declared.Report.{Report}
 use Rattle.listing.specs.declared.Written.{Written}
 use Rattle.listing.specs.declared.Written.the-variants as W
 

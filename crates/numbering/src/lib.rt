@@ -1,7 +1,7 @@
 // The subterms of a root numbered, "in the order a left-to-right walk finishes it".
 ghost use mathlib.Core.Path.{_≡_};
-ghost use Prim.Native.Nat.{suc, _+_, _*_, _≤_, _<_};
-ghost use lib.ListN.{length};
+ghost use Prim.Native.Nat.{suc, _+_, _*_, _-_, _≤_, _<_};
+ghost use lib.ListN.{length, getD};
 ghost use Rattle.spec.specs.Listing.{visitTerm};
 ghost use Rattle.terms.specs.Buffers.{countIn, poolOf};
 ghost use Rattle.terms.specs.Chains.{Holds};
@@ -52,4 +52,21 @@ pub fn number_all(terms: &[u32], runs: &[u64], marks: &mut [u16], root: usize) -
     let m = terms::count(terms);
     clear_marks(marks, 2 * m);
     number(terms, runs, marks, 0, root)
+}
+
+// ---- reading
+// the number of term t
+pub fn number_of(marks: &[u16], t: usize) -> u64
+    requires { ⌜ 0 < getD (now marks) (2 * t) 0 ⌝ }
+    ensures { λ r. ⌜ r ≡ getD (now (marks .entry)) (2 * t) 0 - 1 ⌝ }
+{
+    numbers::long_size(numbers::at_u16(marks, 2 * t) - 1)
+}
+
+// the term of line k
+pub fn term_at(marks: &[u16], k: usize) -> usize
+    requires { ⌜ 2 * k + 1 < length (now marks) ⌝ }
+    ensures { λ r. ⌜ r ≡ getD (now (marks .entry)) (2 * k + 1) 0 ⌝ }
+{
+    numbers::at_u16(marks, 2 * k + 1)
 }

@@ -12,9 +12,9 @@ use Rattle.spec.specs.Bytes.{pick, Res, ok, refused, _>>=_, rule}
 use Rattle.spec.specs.Run as run
 use Rattle.spec.specs.Listing.{listingOf}
 use Rattle.spec.specs.Merge.{outputAfter}
-use Rattle.listing.specs.Lines.{outcomeOf}
+use Rattle.widths.specs.Lines.{outcomeOf}
 use Rattle.listing.specs.Lists as L
-use Rattle.listing.specs.declared.Report.{Report}
+use Rattle.widths.specs.declared.Report.{Report}
 use Rattle.listing.specs.declared.Written.{Written}
 use Rattle.listing.specs.declared.Written.the-variants as W
 use Rattle.outcome.specs.Answers.{outcomeIn, listedOf, answerOf, Answers, Cleared}

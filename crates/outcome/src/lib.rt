@@ -1,8 +1,8 @@
 // The end of a run: what it came to, its listing or its refusal, and the work buffers cleared.
-use listing::Report;
 use listing::Written;
 use numbers::long_size;
 use numbers::long_u32;
+use widths::Report;
 ghost use Prim.Native.Nat.{_*_, _≤_, _<_};
 ghost use lib.ListN.{length};
 ghost use Rattle.spec.specs.Bytes.{ok};

@@ -5,8 +5,8 @@ use Rattle.listing.proofs.list.Statement.{statement}
 use Rattle.listing.proofs.list.Tie as tie
 use Rattle.listing.proofs.list.Reads as reads
 use Rattle.listing.proofs.list.Lts as lts
-use Rattle.listing.proofs.measure.Reads as measure-reads
-use Rattle.listing.proofs.write.Reads as write-reads
+use Rattle.widths.proofs.measure.Reads as measure-reads
+use Rattle.lines.proofs.write.Reads as write-reads
 use Rattle.numbering.proofs.number_all.Reads as number-all-reads
 
 number-all-requires : tie.Need-number-all-requires

@@ -1,0 +1,3 @@
+pub mod Writing
+pub mod DecimalLaws
+pub mod WriteLaws

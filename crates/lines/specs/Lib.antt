@@ -1,0 +1,2 @@
+pub mod PieceWriting
+pub mod LineWriting
