@@ -15,9 +15,11 @@ use Rattle.spec.specs.Transport.{solveCells, rowsOf, colsOf}
 use Rattle.augment.specs.Solved.{isPlan}
 use Rattle.augment.specs.SolvedLaws.{plan-small, plan-begins, plan-long}
 use Rattle.quality.specs.declared.Best.{Best}
-use Rattle.offers.specs.Cells.{sidesOf, Sides}
-use Rattle.offers.specs.Laying.{problemAt, problem-wide, supplies-small}
-use Rattle.offers.specs.Offers.{workOf, actionOf, laidAt, bestAfter, listAfter, offerIn, Tried}
+use Rattle.cells.specs.Cells.{sidesOf, Sides}
+use Rattle.cells.specs.Problem.{problemAt, problem-wide, supplies-small}
+use Rattle.laying.specs.Tried.{Tried}
+use Rattle.plan_offer.specs.Plans.{actionOf, bestAfter, listAfter}
+use Rattle.offers.specs.Offers.{workOf, laidAt, offerIn}
 
 no-plan : (z : Option (List ℕ)) → isPlan z ≡ false → z ≡ none
 no-plan none e = refl

@@ -24,12 +24,13 @@ use Rattle.quality.specs.declared.How.the-variants as H
 use Rattle.quality.specs.declared.Best.{Best}
 use Rattle.quality.specs.Runs.{packed, runsOver}
 use Rattle.cost_matrix.specs.Matrix.{costsAfter}
-use Rattle.offers.specs.Laying.{problemAt}
-use Rattle.offers.specs.Listing.{runsAt}
+use Rattle.cells.specs.Problem.{problemAt}
+use Rattle.plan_offer.specs.Listing.{runsAt}
+use Rattle.plan_offer.specs.Plans.{qualityAt, planned, bestAfter, listAfter}
 use Rattle.turn_term.specs.Agreeing.{Chosen, Agrees}
 use Rattle.turn_term.specs.Taking.{termList}
 use Rattle.turns.specs.Leaving.{Leaves, turnIn}
-use Rattle.offers.specs.Offers.{Work, workOf, laidAt, qualityAt, planned, bestAfter, listAfter, offerIn, offersIn}
+use Rattle.offers.specs.Offers.{Work, workOf, laidAt, offerIn, offersIn}
 
 -- as many runs as places at most
 pub runs-few : (of : Two → ℕ) (ps : List Two) (x : List ℕ) → length (runsOver of ps x) ≤ length ps

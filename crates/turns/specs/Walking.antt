@@ -24,8 +24,9 @@ use Rattle.ac_repr.specs.Transports.{actionsLeft, left-first, left-next, left-e
 use Rattle.ac_repr.specs.declared.Walk.{Walk}
 use Rattle.ac_repr.specs.declared.Step.{Step}
 use Rattle.ac_repr.specs.declared.Step.the-variants.{At, End}
-use Rattle.offers.specs.Cells.{sidesOf, Sides, Joined, cell-count}
-use Rattle.offers.specs.Offers.{Work, actionOf, offerIn, offersIn}
+use Rattle.cells.specs.Cells.{sidesOf, Sides, Joined, cell-count}
+use Rattle.plan_offer.specs.Plans.{actionOf}
+use Rattle.offers.specs.Offers.{Work, offerIn, offersIn}
 
 -- ---- one offer after the other
 pub offers-append : (k : ℕ) (q : Two → Two) (of : Two → ℕ) (l m : List TransportAction) (w : Work) → offersIn k q of (l ++ m) w ≡ offersIn k q of m (offersIn k q of l w)

@@ -1,0 +1,124 @@
+-- The cells of a transport action by their numbers: row by row.
+use mathlib.Core.Path.{_≡_, refl, sym, ap, _∙_}
+use mathlib.Core.Bool.{true}
+use mathlib.Core.List.{List, [], _∷_, _++_, map}
+use Prim.Native.Nat.{ℕ, zero, suc, _+_, _*_, _/_, _%_, _≤_, _<_}
+use native.Mathlib.Nat.{suc-mul, div-add-mod'}
+use native.Mathlib.Omega.{arith}
+use lib.ListN.{length, getD, length-append}
+use lib.Seq.{getD-take, getD-append-add}
+use Rattle.spec.specs.Bytes.{Two, each}
+use Rattle.spec.specs.Monomial.{Monomial, MonomialPair, pairOf, classes, narrow}
+use Rattle.spec.specs.Action.{cellPairs}
+use Rattle.spec.specs.Meaning.{In}
+use Rattle.lgg.specs.Lists.{length-map, get-in}
+use Rattle.monomial.specs.Terms.{TERMS, NUMBERS, terms, held}
+use Rattle.monomial.specs.TermLaws.{held-length}
+use Rattle.cost_matrix.specs.Places.{cells-fit, div-in}
+
+-- ---- each row with each column
+abbrev key : Two → ℕ
+key t = t .0
+
+front-at : (l m : List Two) (k : ℕ) → k < length l → getD (l ++ m) k (0, 0) ≡ getD l k (0, 0)
+front-at [] m k h = absurd (omega arith)
+front-at (x ∷ l) m zero h = refl
+front-at (x ∷ l) m (suc k) h = front-at l m k (omega arith)
+
+abbrev pub with : ℕ → ℕ → Two
+with a b = (a, b)
+
+beside : (x : ℕ) (ys : List ℕ) (j : ℕ) → j < length ys → _≡_ {A = Two} (getD (map (with x) ys) j (0, 0)) (x, getD ys j 0)
+beside x [] j h = absurd (omega arith)
+beside x (y ∷ ys) zero h = refl
+beside x (y ∷ ys) (suc j) h = beside x ys j (omega arith)
+
+abbrev crossing : List ℕ → List ℕ → List Two
+crossing xs ys = each (λ a. map (with a) ys) xs
+
+crossing-length : (xs ys : List ℕ) → length (crossing xs ys) ≡ length xs * length ys
+unfolding each
+crossing-length [] ys = omega arith
+crossing-length (x ∷ xs) ys =
+    length-append (map (with x) ys) (crossing xs ys)
+    ∙ omega (arith, length-map (with x) ys, crossing-length xs ys, suc-mul (length xs) (length ys))
+
+crossing-at : (xs ys : List ℕ) (i j : ℕ) → i < length xs → j < length ys → getD (crossing xs ys) (i * length ys + j) (0, 0) ≡ with (getD xs i 0) (getD ys j 0)
+unfolding each
+crossing-at [] ys i j h k = absurd (omega arith)
+crossing-at (x ∷ xs) ys zero j h k =
+    let e : 0 * length ys + j ≡ j = omega arith in
+    ap (λ (n : ℕ). getD (crossing (x ∷ xs) ys) n (0, 0)) e ∙ front-at (map (with x) ys) (crossing xs ys) j (omega (arith, length-map (with x) ys)) ∙ beside x ys j k
+crossing-at (x ∷ xs) ys (suc i) j h k =
+    let e : suc i * length ys + j ≡ length (map (with x) ys) + (i * length ys + j) = omega (arith, length-map (with x) ys, suc-mul i (length ys)) in
+    ap (λ (n : ℕ). getD (crossing (x ∷ xs) ys) n (0, 0)) e
+    ∙ getD-append-add (map (with x) ys) (crossing xs ys) (i * length ys + j) (0, 0)
+    ∙ crossing-at xs ys i j (omega arith) k
+
+pub cells-length : (m : MonomialPair) → length (cellPairs m) ≡ length (m .rows) * length (m .cols)
+unfolding cellPairs
+cells-length m =
+    crossing-length (classes (m .rows)) (classes (m .cols))
+    ∙ (λ i. length-map key (m .rows) i * length-map key (m .cols) i)
+
+-- ---- in the buffers of two monomials
+abbrev pub sidesOf : List ℕ → ℕ → List ℕ → ℕ → MonomialPair
+sidesOf left rows right cols = pairOf (held rows left) (held cols right)
+
+-- each cell is a pair of two of w classes
+abbrev pub Joined : ℕ → MonomialPair → Type 0
+Joined w m = (p : Two) → In p (cellPairs m) → (p .0 < w) × (p .1 < w)
+
+-- Two monomials of at most 65 terms each, with 32-bit counts.
+pub record Sides (left : List ℕ) (rows : ℕ) (right : List ℕ) (cols : ℕ) : Type 0 where
+  pub leftLong : length left ≡ NUMBERS
+  pub rightLong : length right ≡ NUMBERS
+  pub fewRows : rows ≤ TERMS
+  pub fewCols : cols ≤ TERMS
+  pub narrowRows : narrow (held rows left) ≡ true
+  pub narrowCols : narrow (held cols right) ≡ true
+
+class-in : (s : List ℕ) (n i : ℕ) → length s ≡ NUMBERS → n ≤ TERMS → i < n → getD (classes (held n s)) i 0 ≡ getD (terms s) i (0, 0) .0
+class-in s n i e h k = at (held n s) i (omega (arith, held-length n s e h)) ∙ ap (λ (t : Two). t .0) (getD-take n (terms s) i (0, 0) k)
+  where
+    at : (m : Monomial) (i : ℕ) → i < length m → getD (classes m) i 0 ≡ getD m i (0, 0) .0
+    at [] i h = absurd (omega arith)
+    at (t ∷ m) zero h = refl
+    at (t ∷ m) (suc i) h = at m i (omega arith)
+
+module _ (left : List ℕ) (r : ℕ) (right : List ℕ) (c : ℕ) (S : Sides left r right c) where
+  pub cell-count : length (cellPairs (sidesOf left r right c)) ≡ r * c
+  cell-count = cells-length (sidesOf left r right c) ∙ (λ i. held-length r left (S .leftLong) (S .fewRows) i * held-length c right (S .rightLong) (S .fewCols) i)
+
+  -- "At most 65 rows and 65 columns"
+  pub cells-few : r * c ≤ 4225
+  cells-few = cells-fit r c (S .fewRows) (S .fewCols)
+
+  module _ (k : ℕ) (h : k < r * c) where
+    pub row-lt : k / c < TERMS
+    row-lt = omega (arith, div-in r c k h .0, S .fewRows)
+
+    pub col-lt : k % c < TERMS
+    col-lt = omega (arith, div-in r c k h .1, S .fewCols)
+
+    pub some-col : 0 < c
+    some-col = omega (arith, div-in r c k h .1)
+
+    pub cell-is : with (getD (terms left) (k / c) (0, 0) .0) (getD (terms right) (k % c) (0, 0) .0) ≡ getD (cellPairs (sidesOf left r right c)) k (0, 0)
+    unfolding cellPairs
+    cell-is =
+        let u : length (classes (held r left)) ≡ r = length-map key (held r left) ∙ held-length r left (S .leftLong) (S .fewRows) in
+        let v : length (classes (held c right)) ≡ c = length-map key (held c right) ∙ held-length c right (S .rightLong) (S .fewCols) in
+        let (hi, hj) = div-in r c k h in
+        let e : k / c * length (classes (held c right)) + k % c ≡ k = ap (λ (n : ℕ). k / c * n + k % c) v ∙ div-add-mod' k c in
+        sym (
+        ap (λ (n : ℕ). getD (cellPairs (sidesOf left r right c)) n (0, 0)) (sym e)
+        ∙ crossing-at (classes (held r left)) (classes (held c right)) (k / c) (k % c) (omega (arith, hi)) (omega (arith, hj))
+        ∙ (λ i. (class-in left r (k / c) (S .leftLong) (S .fewRows) hi i, class-in right c (k % c) (S .rightLong) (S .fewCols) hj i))
+        )
+
+    -- a cell's pair is of classes that the index has
+    pub cell-within : {w : ℕ} → Joined w (sidesOf left r right c) → (a b : ℕ) → with a b ≡ getD (cellPairs (sidesOf left r right c)) k (0, 0) → (a < w) × (b < w)
+    cell-within J a b e =
+        let (x, y) = J (getD (cellPairs (sidesOf left r right c)) k (0, 0)) (get-in (cellPairs (sidesOf left r right c)) k (omega (arith, cell-count))) in
+        (omega (arith, x, ap (λ (t : Two). t .0) e), omega (arith, y, ap (λ (t : Two). t .1) e))

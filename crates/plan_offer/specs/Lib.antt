@@ -1,0 +1,5 @@
+pub mod Sums
+pub mod Better
+pub mod Listing
+pub mod Plans
+pub mod PlanLaws
