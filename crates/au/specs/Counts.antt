@@ -24,9 +24,9 @@ use Rattle.pair_table.specs.From.{counts-all, counts-none}
 use Rattle.entering.specs.Entered.{entered}
 use Rattle.graph.specs.Building.{graphAfter}
 use Rattle.graph.specs.Built.{built-apart, built-first, built-some, built-few, built-pairs}
-use Rattle.exact_fixed.specs.Beginning.{begunOf, Ready}
-use Rattle.exact_fixed.specs.declared.Begun.{Begun}
-use Rattle.exact_fixed.specs.declared.Begun.the-variants as B
+use Rattle.beginning.specs.Beginning.{begunOf, Ready}
+use Rattle.beginning.specs.declared.Begun.{Begun}
+use Rattle.beginning.specs.declared.Begun.the-variants as B
 use Rattle.au.specs.declared.Prepared.{Prepared}
 use Rattle.au.specs.declared.Prepared.the-variants.{Stop, Go, Large}
 use Rattle.au.specs.Prepared.{Goes}

@@ -19,9 +19,9 @@ use Rattle.terms.specs.Chains.{Rooms}
 use Rattle.outcome.specs.Answers.{listedOf}
 use Rattle.outcome.specs.declared.Answer as O
 use Rattle.outcome.specs.declared.Answer.the-variants as O′
-use Rattle.exact_fixed.specs.Beginning.{Ready}
-use Rattle.exact_fixed.specs.declared.Begun.{Begun}
-use Rattle.exact_fixed.specs.declared.Begun.the-variants as B
+use Rattle.beginning.specs.Beginning.{Ready}
+use Rattle.beginning.specs.declared.Begun.{Begun}
+use Rattle.beginning.specs.declared.Begun.the-variants as B
 use Rattle.au.specs.declared.Answer.{Answer}
 use Rattle.au.specs.declared.Answer.the-variants.{Listing, Refused, Doubled}
 use Rattle.au.specs.declared.Prepared.{Prepared}

@@ -32,8 +32,8 @@ use Rattle.graph.specs.Built.{after-again}
 use Rattle.outcome.specs.Answers as X
 use Rattle.outcome.specs.declared.Answer as O
 use Rattle.outcome.specs.declared.Answer.the-variants as O′
-use Rattle.exact_fixed.specs.Beginning.{ifRooted, Begins, Lengths, Ready}
-use Rattle.exact_fixed.specs.declared.Begun.{Begun}
+use Rattle.beginning.specs.Beginning.{ifRooted, Begins, Lengths, Ready}
+use Rattle.beginning.specs.declared.Begun.{Begun}
 use Rattle.au.specs.declared.Answer.{Answer}
 use Rattle.au.specs.declared.Answer.the-variants.{Listing, Refused, Doubled}
 use Rattle.au.specs.declared.Prepared.{Prepared}

@@ -14,7 +14,7 @@ ghost use Rattle.au.specs.declared.Answer.the-variants.{Refused};
 ghost use Rattle.au.specs.Merges.{fitOf, fits, Merges, Cleared, Table};
 ghost use Rattle.au.specs.Engine.{smallLimits, Roomy, roomFor, Prepares, pairsBegun, pairsOf, keysOf, countedAs, answerAs, Runs, limited};
 ghost use Rattle.au.specs.Assembled.{Wide, Full};
-use exact_fixed::Begun;
+use beginning::Begun;
 use image::Image;
 use judge::Verdict;
 use judge::judge;
@@ -148,7 +148,7 @@ fn start(
         return Prepared::Stop(Answer::Refused(11));
     }
     if has_room(lim, im, graph.len()) {
-        let b = exact_fixed::begin(lim, s, im, q, graph, terms, runs);
+        let b = beginning::begin(lim, s, im, q, graph, terms, runs);
         return Prepared::Go(im, b);
     }
     Prepared::Large(im)

@@ -1,4 +1,4 @@
--- `finish`, by what `begin` answered.
+-- `start`, by what `begin` and starting terms answered.
 use mathlib.Core.Path.{_≡_, refl, sym, ap, ap₂, _∙_}
 use mathlib.Core.List.{List, []}
 use Prim.Native.Nat.{ℕ, _+_, _*_, _≤_, _<_}
@@ -8,7 +8,7 @@ use Rattle.spec.specs.Bytes.{Two, Limits, Res, ok, refused, Checked, passed, cu
 use Rattle.spec.specs.Image.{Tables}
 use Rattle.spec.specs.Graph.{build}
 use Rattle.spec.specs.Pool.{Interned, interned, startingTerm}
-use Rattle.spec.specs.Run.{runOf, afterBuilding}
+use Rattle.spec.specs.Run.{startingTerms, runOf, afterBuilding}
 use Rattle.laws.specs.Valid.{Valid}
 use Rattle.lgg.specs.BestMembers.{IsPair}
 use Rattle.lgg.specs.Pool.{empty-valid}
@@ -25,17 +25,20 @@ use Rattle.terms.specs.Chains.{Holds}
 use Rattle.entering.specs.Entered.{entered}
 use Rattle.graph.specs.Building.{graphAfter}
 use Rattle.graph.specs.Built.{built-pairs}
-use Rattle.outcome.specs.Answers.{Answers}
 use Rattle.outcome.specs.Outcomes.{RanTo}
 use Rattle.outcome.specs.declared.Outcome.{Outcome}
+use Rattle.outcome.specs.declared.Ran.{Ran}
 use Rattle.outcome.specs.declared.Ran.the-variants as R
-use Rattle.outcome.specs.declared.Answer.{Answer}
 use Rattle.rounds.specs.Graphs.{Graphs}
 use Rattle.exact_fixed.specs.GraphLaws.{graphs-built}
-use Rattle.exact_fixed.specs.RunLaws.{startedIn, ran-started}
-use Rattle.exact_fixed.specs.Beginning.{begunOf, Ready}
-use Rattle.exact_fixed.specs.declared.Begun.{Begun}
-use Rattle.exact_fixed.specs.declared.Begun.the-variants as N
+use Rattle.exact_fixed.specs.Starting.{StartsAll}
+use Rattle.exact_fixed.specs.RunLaws.{startedIn, ran-started, starts-full, starts-cut, starts-holds, starts-within, starts-stands, starts-rounds}
+use Rattle.exact_fixed.specs.Following.{ToRounds}
+use Rattle.exact_fixed.specs.declared.Started.{Started}
+use Rattle.exact_fixed.specs.declared.Started.the-variants as S
+use Rattle.beginning.specs.Beginning.{begunOf, Ready}
+use Rattle.beginning.specs.declared.Begun.{Begun}
+use Rattle.beginning.specs.declared.Begun.the-variants as N
 
 graphs-as : (lim : Limits) (t : Tables) (w : ℕ) (ps qs : List Two) (m n : ℕ) (graph : List ℕ) → ps ≡ qs → m ≡ n → Graphs lim t w ps m graph → Graphs lim t w qs n graph
 graphs-as lim t w ps qs m n graph e f G = rw (← e, ← f) G
@@ -117,5 +120,24 @@ module _ (lim : Limits) (t : Tables) (p : Two) (budget w : ℕ) (graph ts us : L
             let r : a ≡ interned (poolOf ts us) root = λ j. record { pool = sym (X .pool a e) j; term = f j } in
             run-after a (passed ps c) e g ∙ ap₂ (λ (y : Interned) (z : Checked (List Two)). afterBuilding lim t p y z) r (ap₂ (λ (y : List Two) (z : ℕ). passed y z) q (sym k))
 
-        pub all-answers : (out out′ : List ℕ) (r : Answer) → Answers (afterBuilding lim t p (interned (poolOf ts us) root) (passed (pairsIn w graph n) (b .left))) out out′ r → Answers (runOf lim t p budget) out out′ r
-        all-answers out out′ r Y = rw all-runs Y
+        -- by what starting terms answer
+        module _ (pairs′ terms′ runs′ : List ℕ) (x : Started) (Y : StartsAll lim t (pairsIn w graph n) (startingTerms lim t (pairsIn w graph n) (b .left) (poolOf ts us)) (poolOf ts us) pairs′ terms′ runs′ x) where
+          as-run : (y : Ran) → RanTo (afterBuilding lim t p (interned (poolOf ts us) root) (passed (pairsIn w graph n) (b .left))) graph terms′ runs′ y → RanTo (runOf lim t p budget) graph terms′ runs′ y
+          as-run y Z = rw all-runs Z
+
+          pub all-full : x ≡ S.Full → RanTo (runOf lim t p budget) graph terms′ runs′ (R.Stopped 13)
+          all-full q = as-run (R.Stopped 13) (starts-full lim t p (pairsIn w graph n) n (all-graphs .many) (b .left) (poolOf ts us) root pairs′ terms′ runs′ x Y graph q)
+
+          pub all-cut : 2 * lim .terms ≤ length graph → x ≡ S.Cut → (o : Outcome) → o ≡ startedIn t p n root → RanTo (runOf lim t p budget) graph terms′ runs′ (R.Done o)
+          all-cut room q o e = as-run (R.Done o) (starts-cut lim t p (pairsIn w graph n) n (all-graphs .many) (b .left) (poolOf ts us) root pairs′ terms′ runs′ x Y graph room (all-holds .valid) (omega (arith, all-root, pool-length ts us)) q o e)
+
+          pub all-rounds : (c : Budget) → x ≡ S.All c → ToRounds lim t (runOf lim t p budget) w n graph pairs′ terms′ runs′ (c .left)
+          all-rounds c q =
+              let G = all-graphs in
+              record {
+                graphs = G;
+                holds = starts-holds lim t p (pairsIn w graph n) n (G .many) (b .left) (poolOf ts us) root pairs′ terms′ runs′ x Y c q;
+                within = starts-within lim t p (pairsIn w graph n) n (G .many) (b .left) (poolOf ts us) root pairs′ terms′ runs′ x Y c q;
+                stands = starts-stands lim t p (pairsIn w graph n) n (G .many) (b .left) (poolOf ts us) root pairs′ terms′ runs′ x Y c q v (G .pairs);
+                is = all-runs ∙ starts-rounds lim t p (pairsIn w graph n) n (G .many) (b .left) (poolOf ts us) root pairs′ terms′ runs′ x Y c q;
+              }

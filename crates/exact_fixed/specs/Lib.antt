@@ -1,8 +1,6 @@
 pub mod StartSizes
 pub mod Starting
 pub mod RunLaws
-pub mod Beginning
+pub mod Following
 pub mod GraphLaws
-pub mod BeginLaws
 pub mod FinishLaws
-pub mod ReadyLaws

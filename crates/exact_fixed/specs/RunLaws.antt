@@ -20,11 +20,9 @@ use Rattle.arrays.specs.Arrays.{termsIn}
 use Rattle.terms.specs.Buffers.{poolOf, countIn}
 use Rattle.terms.specs.PoolLaws.{pool-length}
 use Rattle.terms.specs.Chains.{Holds}
-use Rattle.outcome.specs.Answers.{Answers}
 use Rattle.outcome.specs.Outcomes.{RanTo}
 use Rattle.outcome.specs.declared.Outcome.{Outcome}
 use Rattle.outcome.specs.declared.Ran.the-variants as R
-use Rattle.outcome.specs.declared.Answer.{Answer}
 use Rattle.rounds.specs.Graphs.{InRange, stateIn}
 use Rattle.budget.specs.declared.Budget.{Budget}
 use Rattle.exact_fixed.specs.Starting.{Starting, CutStarting, StartsAll, start-done, start-qualities}
@@ -103,5 +101,5 @@ module _ (lim : Limits) (t : Tables) (p : Two) (ps : List Two) (n : ℕ) (many :
       pub starts-stands : Valid t → InRange t ps → Standing t ps (stateIn pairs terms runs n 0 (c .left))
       starts-stands = built-stands pairs terms runs (c .left) begun
 
-      pub starts-rounds : (out out′ : List ℕ) (r : Answer) → Answers (roundsOf lim t ps (stateIn pairs terms runs n 0 (c .left))) out out′ r → Answers built out out′ r
-      starts-rounds out out′ r Z = rw (built-rounds pairs terms runs (c .left) begun) Z
+      pub starts-rounds : built ≡ roundsOf lim t ps (stateIn pairs terms runs n 0 (c .left))
+      starts-rounds = built-rounds pairs terms runs (c .left) begun

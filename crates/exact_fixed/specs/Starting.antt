@@ -1,10 +1,10 @@
 -- Starting terms, pair by pair: "one [check] a pair in starting terms".
 use mathlib.Core.Path.{_≡_, refl, sym, ap, _∙_}
 use mathlib.Core.List.{List, [], _∷_, _++_, map}
-use Prim.Native.Nat.{ℕ, zero, suc, _+_, _*_, _≤_, _<_}
+use Prim.Native.Nat.{ℕ, _+_, _*_, _≤_, _<_}
 use native.Mathlib.Omega.{arith}
 use native.Mathlib.Numerals.{add-one}
-use lib.ListN.{length, getD, take, replicate}
+use lib.ListN.{length, getD, take}
 use lib.Seq.{take-suc, take-all}
 use Rattle.spec.specs.Bytes.{Two, Limits, Res, ok, refused, Checked, passed, cutShort}
 use Rattle.spec.specs.Image.{Tables}
@@ -110,15 +110,6 @@ module _ (lim : Limits) (t : Tables) (ps : List Two) (whole : Res (Checked Terms
 
   pub start-qualities : qualitiesIn pairs 0 (length ps) ≡ map (startingQuality t) ps
   start-qualities = X .qualities ∙ ap (map (startingQuality t)) (take-all (length ps) ps (omega arith))
-
--- no best term is kept yet
-pub kept-none : (lim : Limits) (t : Tables) (p : Pool) (n : ℕ) → Kept lim t p (replicate n 0)
-kept-none lim t p n c h k = absurd (omega (arith, zeros n c))
-  where
-    zeros : (n i : ℕ) → _≡_ {A = ℕ} (getD (replicate n 0) i 0) 0
-    zeros zero i = refl
-    zeros (suc n) zero = refl
-    zeros (suc n) (suc i) = zeros n i
 
 -- ---- one pair, from what `evaluate_generalize_action` says
 pub one-refused : (lim : Limits) (t : Tables) (c : Two) (terms runs best terms′ runs′ best′ : List ℕ) → Starts lim t c terms runs best terms′ runs′ best′ E.Full → (n : ℕ) × (startingTerm lim t (poolOf terms runs) c ≡ refused n)

@@ -1,7 +1,7 @@
-// A run: the root's starting term, building, starting terms, then its rounds, with one budget of checks through all of it; and its listing (`run`, `run_in` of exact_fixed.rs).
+// A run from its graph: starting terms, then its rounds, with the budget of checks that `begin` left; and its listing (`run`, `run_in` of exact_fixed.rs).
 use arrays::WIDTH;
+use beginning::Begun;
 use budget::Budget;
-use graph::Built;
 use image::Image;
 use interning::Entered;
 use numbers::short_size;
@@ -15,23 +15,22 @@ use query::Query;
 ghost use mathlib.Core.Path.{_≡_};
 ghost use Prim.Native.Nat.{_+_, _*_, _≤_, _<_};
 ghost use lib.ListN.{length};
-ghost use Rattle.spec.specs.Bytes.{passed};
 ghost use Rattle.spec.specs.Image.{tablesOf};
-ghost use Rattle.spec.specs.Pool.{interned};
 ghost use Rattle.spec.specs.Round.{startingQuality};
-ghost use Rattle.spec.specs.Run.{startingTerms, afterBuilding, runOf};
+ghost use Rattle.spec.specs.Run.{startingTerms, runOf};
 ghost use Rattle.laws.specs.Valid.{Valid};
 ghost use Rattle.query.specs.Settings.{limitsOf, askedOf};
 ghost use Rattle.arrays.specs.Arrays.{pairsIn};
 ghost use Rattle.image.specs.Loaded.{Loaded};
+ghost use Rattle.beginning.specs.Beginning.{Lengths, Ready};
 ghost use Rattle.terms.specs.Buffers.{countIn, poolOf};
 ghost use Rattle.terms.specs.Chains.{Holds, Rooms};
 ghost use Rattle.best_terms.specs.Bests.{Kept};
 ghost use Rattle.outcome.specs.Answers.{Answers, Cleared};
-ghost use Rattle.rounds.specs.Graphs.{InRange, Graphs};
+ghost use Rattle.rounds.specs.Graphs.{InRange};
 ghost use Rattle.exact_fixed.specs.Starting.{BeginsOne, StartsAll};
 ghost use Rattle.exact_fixed.specs.RunLaws.{startedIn};
-ghost use Rattle.exact_fixed.specs.Beginning.{Begins, Lengths, Ready};
+ghost use Rattle.exact_fixed.specs.Following.{Follows};
 
 // a pair's starting term is entered; or refusal 13
 enum One {
@@ -46,11 +45,10 @@ enum Started {
     Full,
 }
 
-// a refusal, 13 or 12; cut short in building, with the root's starting term; the root's starting term, the number of pairs, the budget left
-pub enum Begun {
-    Stopped(u8),
-    Cut(usize),
-    All(usize, usize, Budget),
+// the rounds follow, over so many pairs, with the budget left; or the run ends without one
+enum Next {
+    Rounds(usize, Budget),
+    Ended(Ran),
 }
 
 // ---- starting qualities
@@ -166,77 +164,41 @@ fn report_started(s: &[u8], im: Image, q: Query, n: usize, root: usize) -> Outco
     }
 }
 
-// starting terms and rounds over a graph that is built in full; root is the root's starting term, b the budget left
-fn run_built(
+// Starting terms over a graph that is built in full; b is what `begin` answered for the query q.
+fn start(
     lim: Limits,
     s: &[u8],
     im: Image,
     q: Query,
-    root: usize,
-    n: usize,
-    b: Budget,
-    graph: &mut [u16],
+    b: Begun,
+    graph: &[u16],
     pairs: &mut [u32],
-    work: &mut [u64],
-    flow: &mut [u64],
     terms: &mut [u32],
     runs: &mut [u64],
-    out: &mut [u8],
-) -> Answer
-    requires { ⌜ Loaded (now s) im × Valid (tablesOf (now s)) × (q .left < im .classes) × (q .right < im .classes) × Lengths (limitsOf lim) (im .classes) (now graph) (now pairs) (now work) (now flow) (now terms) (now runs) × Graphs (limitsOf lim) (tablesOf (now s)) (im .classes) (pairsIn (im .classes) (now graph) n) n (now graph) × Holds (now terms) (now runs) × (countIn (now terms) ≤ lim .terms) × (root < countIn (now terms)) ⌝ }
-    ensures { λ r. ⌜ Answers (afterBuilding (limitsOf lim) (tablesOf (now (s .entry))) (askedOf q) (interned (poolOf (now (terms .entry)) (now (runs .entry))) root) (passed (pairsIn (im .classes) (now (graph .entry)) n) (b .left))) (now (out .entry)) (now (out .exit)) r
-        × Cleared (now (graph .entry)) (now (pairs .entry)) (now (work .entry)) (now (flow .entry)) (now (terms .entry)) (now (runs .entry)) (now (graph .exit)) (now (pairs .exit)) (now (work .exit)) (now (flow .exit)) (now (terms .exit)) (now (runs .exit)) ⌝ }
+) -> Next
+    requires { ⌜ Loaded (now s) im × Valid (tablesOf (now s)) × (q .left < im .classes) × (q .right < im .classes) × (im .classes * im .classes + lim .pairs ≤ length (now graph)) × (2 * lim .terms ≤ length (now graph)) × (lim .pairs ≤ 4096) × (6 * lim .pairs ≤ length (now pairs)) × Rooms (limitsOf lim) (now terms) (now runs) × Ready (limitsOf lim) (tablesOf (now s)) (askedOf q) (q .budget) (im .classes) b (now graph) (now terms) (now runs) ⌝ }
+    ensures { λ x. ⌜ Follows (limitsOf lim) (tablesOf (now (s .entry))) (runOf (limitsOf lim) (tablesOf (now (s .entry))) (askedOf q) (q .budget)) (im .classes) (now (graph .entry)) (now (pairs .exit)) (now (terms .exit)) (now (runs .exit)) x ⌝ }
 {
-    let x = start_all(lim, s, im, graph, n, pairs, terms, runs, b);
-    match x {
-        Started::Full => {
-            return outcome::conclude(Ran::Stopped(13), graph, pairs, work, flow, terms, runs, out);
+    match b {
+        Begun::Stopped(k) => {
+            return Next::Ended(Ran::Stopped(k));
         }
-        Started::Cut => {
-            let o = report_started(s, im, q, n, root);
-            return outcome::conclude(Ran::Done(o), graph, pairs, work, flow, terms, runs, out);
+        Begun::Cut(root) => {
+            let o = report_started(s, im, q, 1, root);
+            return Next::Ended(Ran::Done(o));
         }
-        Started::All(c) => {
-            return rounds::run_rounds(lim, s, im, n, graph, pairs, work, flow, terms, runs, out, c);
-        }
-    }
-}
-
-// ---- the run in two parts, with the table of pairs between them
-// An empty pool, the root's starting term and the graph.
-pub fn begin(
-    lim: Limits,
-    s: &[u8],
-    im: Image,
-    q: Query,
-    graph: &mut [u16],
-    terms: &mut [u32],
-    runs: &mut [u64],
-) -> Begun
-    requires { ⌜ Loaded (now s) im × Valid (tablesOf (now s)) × (q .left < im .classes) × (q .right < im .classes) × Rooms (limitsOf lim) (now terms) (now runs) × (im .classes * im .classes + lim .pairs ≤ length (now graph)) × (lim .pairs ≤ 4096) ⌝ }
-    ensures { λ x. ⌜ Begins (limitsOf lim) (tablesOf (now (s .entry))) (askedOf q) (q .budget) (im .classes) (now (graph .entry)) (now (terms .entry)) (now (runs .entry)) (now (graph .exit)) (now (terms .exit)) (now (runs .exit)) x ⌝ }
-{
-    let mut best = [0u16; 256];
-    let l = size_u16(q.left);
-    let r = size_u16(q.right);
-    terms::empty(terms);
-    let e = best_terms::evaluate_generalize_action(lim, s, im, terms, runs, &mut best, l, r);
-    match e {
-        Entered::Full => {
-            return Begun::Stopped(13);
-        }
-        Entered::Term(root) => {
-            let b = Budget { left: q.budget };
-            let g = graph::build(lim, s, im, l, r, b, graph);
-            match g {
-                Built::Full => {
-                    return Begun::Stopped(12);
+        Begun::All(root, n, c) => {
+            let x = start_all(lim, s, im, graph, n, pairs, terms, runs, c);
+            match x {
+                Started::Full => {
+                    return Next::Ended(Ran::Stopped(13));
                 }
-                Built::Cut => {
-                    return Begun::Cut(root);
+                Started::Cut => {
+                    let o = report_started(s, im, q, n, root);
+                    return Next::Ended(Ran::Done(o));
                 }
-                Built::All(n, c) => {
-                    return Begun::All(root, n, c);
+                Started::All(d) => {
+                    return Next::Rounds(n, d);
                 }
             }
         }
@@ -262,31 +224,13 @@ pub fn finish(
     ensures { λ r. ⌜ Answers (runOf (limitsOf lim) (tablesOf (now (s .entry))) (askedOf q) (q .budget)) (now (out .entry)) (now (out .exit)) r
         × Cleared (now (graph .entry)) (now (pairs .entry)) (now (work .entry)) (now (flow .entry)) (now (terms .entry)) (now (runs .entry)) (now (graph .exit)) (now (pairs .exit)) (now (work .exit)) (now (flow .exit)) (now (terms .exit)) (now (runs .exit)) ⌝ }
 {
-    match b {
-        Begun::Stopped(k) => {
-            return outcome::conclude(Ran::Stopped(k), graph, pairs, work, flow, terms, runs, out);
+    let x = start(lim, s, im, q, b, graph, pairs, terms, runs);
+    match x {
+        Next::Ended(y) => {
+            return outcome::conclude(y, graph, pairs, work, flow, terms, runs, out);
         }
-        Begun::Cut(root) => {
-            let o = report_started(s, im, q, 1, root);
-            return outcome::conclude(Ran::Done(o), graph, pairs, work, flow, terms, runs, out);
-        }
-        Begun::All(root, n, c) => {
-            return run_built(
-                lim,
-                s,
-                im,
-                q,
-                root,
-                n,
-                c,
-                graph,
-                pairs,
-                work,
-                flow,
-                terms,
-                runs,
-                out,
-            );
+        Next::Rounds(n, c) => {
+            return rounds::run_rounds(lim, s, im, n, graph, pairs, work, flow, terms, runs, out, c);
         }
     }
 }

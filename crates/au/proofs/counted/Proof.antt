@@ -1,5 +1,5 @@
-use Rattle.exact_fixed.specs.declared.Begun.{Begun}
-use Rattle.exact_fixed.specs.declared.Begun.the-variants.{All}
+use Rattle.beginning.specs.declared.Begun.{Begun}
+use Rattle.beginning.specs.declared.Begun.the-variants.{All}
 use Rattle.au.specs.Engine.{countedAs}
 use Prim.Native.Nat.{ℕ, _-_}
 use mathlib.Core.Path.{ap, sym, _∙_}

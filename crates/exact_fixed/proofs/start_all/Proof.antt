@@ -1,4 +1,5 @@
-use Rattle.exact_fixed.specs.Starting.{Starting, starting-none, start-cut, start-full, start-more, kept-none}
+use Rattle.exact_fixed.specs.Starting.{Starting, starting-none, start-cut, start-full, start-more}
+use Rattle.best_terms.specs.Starting.{kept-none}
 use Rattle.rounds.specs.Graphs.{pair-at, pair-ranged}
 use Rattle.rounds.specs.Spending.{expired, spent}
 use Rattle.best_terms.specs.Bests.{Kept}

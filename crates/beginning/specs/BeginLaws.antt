@@ -19,9 +19,9 @@ use Rattle.best_terms.specs.Building.{full-told, term-told}
 use Rattle.best_terms.specs.Starting.{Starts}
 use Rattle.interning.specs.declared.Entered.the-variants as E
 use Rattle.graph.specs.Building.{builtOf, Builds}
-use Rattle.exact_fixed.specs.Beginning.{begunOf, Begins}
-use Rattle.exact_fixed.specs.declared.Begun.{Begun}
-use Rattle.exact_fixed.specs.declared.Begun.the-variants as B
+use Rattle.beginning.specs.Beginning.{begunOf, Begins}
+use Rattle.beginning.specs.declared.Begun.{Begun}
+use Rattle.beginning.specs.declared.Begun.the-variants as B
 use Rattle.graph.specs.declared.Built.{Built}
 use Rattle.graph.specs.declared.Built.the-variants as G
 

@@ -1,5 +1,5 @@
-use Rattle.exact_fixed.specs.BeginLaws.{begin-refused, begin-full, begin-cut, begin-all}
-use Rattle.exact_fixed.specs.Starting.{kept-none}
+use Rattle.beginning.specs.BeginLaws.{begin-refused, begin-full, begin-cut, begin-all}
+use Rattle.best_terms.specs.Starting.{kept-none}
 use Rattle.terms.specs.Emptying.{emptied-holds}
 use Rattle.terms.specs.Chains.{Holds}
 use Rattle.query.specs.Settings.{limitsOf, askedOf}
@@ -7,8 +7,8 @@ use Rattle.spec.specs.Image.{tablesOf}
 use native.Mathlib.Omega.{arith}
 use mathlib.Core.Path.{refl}
 use borrow.Author.Needs.{needs}
-use Rattle.exact_fixed.proofs.begin.Statement.{statement}
-use Rattle.exact_fixed.proofs.begin.Tie as tie
+use Rattle.beginning.proofs.begin.Statement.{statement}
+use Rattle.beginning.proofs.begin.Tie as tie
 
 size-u16-requires : tie.Need-size-u16-requires
 size-u16-requires c κs = search needs

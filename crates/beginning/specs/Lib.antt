@@ -1,0 +1,3 @@
+pub mod Beginning
+pub mod BeginLaws
+pub mod ReadyLaws
