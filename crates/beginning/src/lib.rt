@@ -5,7 +5,7 @@ use image::Image;
 use numbers::size_u16;
 use query::Limits;
 use query::Query;
-use terms::Entered;
+use interning::Entered;
 ghost use Prim.Native.Nat.{_+_, _*_, _≤_, _<_};
 ghost use lib.ListN.{length};
 ghost use Rattle.spec.specs.Image.{tablesOf};
