@@ -1,5 +1,6 @@
 use Rattle.labels.specs.Net.{joined}
 use Prim.Native.Nat.{_-_}
+use mathlib.Core.Path.{refl}
 use borrow.Author.Needs.{needs}
 use Rattle.labels.proofs.join.Statement.{statement}
 use Rattle.labels.proofs.join.Tie as tie
@@ -43,7 +44,8 @@ put-requires-3 c κs = search needs
 
 returns : tie.Need-returns
 unfolding joined
-returns c = cc
+returns c =
+    rw (c .put3 .ensures, c .before .before .put2 .ensures, c .before .before .before .before .put .ensures, c .before .before .before .before .before .before .wrapping-add-u642 .ensures, c .before .before .before .before .before .before .before .before .wrapping-add-u64 .ensures) refl
 
 pub join-spec : {M : Type 1} → statement M
 join-spec =

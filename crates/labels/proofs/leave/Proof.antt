@@ -1,5 +1,8 @@
-use Rattle.labels.specs.Net.{left}
-use Prim.Native.Nat.{_-_}
+use Rattle.labels.specs.Net.{NODES, HEAD, COUNT, headOf, countOf, left}
+use Prim.Native.Nat.{ℕ, _+_, _-_, _%_}
+use mathlib.Core.Path.{refl, ap, _∙_}
+use mathlib.Core.List.{List}
+use lib.ListN.{set}
 use borrow.Author.Needs.{needs}
 use Rattle.labels.proofs.leave.Statement.{statement}
 use Rattle.labels.proofs.leave.Tie as tie
@@ -45,7 +48,13 @@ put-requires-3 c κs = search needs
 
 returns : tie.Need-returns
 unfolding left
-returns c = (cc, cc)
+returns c =
+    let m = c .before .before .before .before .before .before .before .before .before .args .net .now in (
+      refl,
+      c .put3 .ensures
+          ∙ ap (λ (l : List ℕ). set l COUNT (countOf m - 1)) (c .before .before .put2 .ensures
+          ∙ ap (λ (l : List ℕ). set l HEAD ((headOf m + 1) % NODES)) (c .before .before .before .before .put .ensures)),
+    )
 
 pub leave-spec : {M : Type 1} → statement M
 leave-spec =

@@ -1,4 +1,8 @@
-use Prim.Native.Nat.{_-_}
+use Rattle.labels.specs.Net.{HIGH, PRED}
+use Prim.Native.Nat.{ℕ, _+_, _-_}
+use mathlib.Core.Path.{ap, _∙_}
+use mathlib.Core.List.{List}
+use lib.ListN.{set}
 use borrow.Author.Needs.{needs}
 use Rattle.labels.proofs.put_label.Statement.{statement}
 use Rattle.labels.proofs.put_label.Tie as tie
@@ -22,7 +26,11 @@ put-requires-3 : tie.Need-put-requires-3
 put-requires-3 c κs = search needs
 
 returns : tie.Need-returns
-returns c = cc
+returns c =
+    let a = c .before .before .before .before .before .before .args in
+    c .put3 .ensures
+    ∙ ap (λ (m : List ℕ). set m (PRED + a .v) (a .u)) (c .before .before .put2 .ensures
+    ∙ ap (λ (m : List ℕ). set m (HIGH + a .v) (a .d .hi)) (c .before .before .before .before .put .ensures))
 
 pub put-label-spec : {M : Type 1} → statement M
 put-label-spec =
