@@ -14,7 +14,7 @@ use Rattle.spec.specs.Transport.{solveCells}
 use Rattle.spec.specs.Action.{TransportAction, transports, cellPairs}
 use Rattle.spec.specs.Meaning.{In, here, there}
 use Rattle.spec.specs.Round.{better, ofPlan, Choice, stay, act, Turn, offerPlan, offerTransports, turnOf, planRuns}
-use Rattle.actions.specs.Remaining.{Stands}
+use Rattle.actions.specs.Place.{Stands}
 use Rattle.laws.specs.Buffers.{over}
 use Rattle.quality.specs.Aligned.{actAt, choiceAt, StandsAt, afterAligned, Aligns}
 use Rattle.quality.specs.declared.How.{How}

@@ -6,10 +6,11 @@ use lib.ListN.{length}
 use Rattle.spec.specs.Bytes.{pick}
 use Rattle.spec.specs.Image.{Tables, theClass}
 use Rattle.spec.specs.Action.{alignMembers}
-use Rattle.actions.specs.Remaining.{actionsAt, endOf}
+use Rattle.actions.specs.Place.{actionsAt}
+use Rattle.enumeration.specs.Remaining.{endOf}
 use Rattle.actions.specs.declared.State.{State}
-use Rattle.actions.specs.declared.Sought.{Sought}
-use Rattle.actions.specs.declared.Sought.the-variants.{At, End}
+use Rattle.enumeration.specs.declared.Sought.{Sought}
+use Rattle.enumeration.specs.declared.Sought.the-variants.{At, End}
 
 -- Before the first action. "A class paired with itself has no actions."
 abbrev pub startOf : Tables → ℕ → ℕ → State

@@ -1,20 +1,31 @@
 -- The walk, for each way out of a turn of its loops.
 use mathlib.Core.Path.{_≡_, refl, sym, ap, _∙_}
 use mathlib.Core.Bool.{Bool}
+use mathlib.Core.List.{List}
 use Prim.Native.Nat.{ℕ, suc, _+_, _-_, _≤_, _<_}
 use native.Mathlib.Omega.{arith}
 use borrow.Author.Tests.{lt-ltb, le-ltb}
 use lib.Dec.{eqb}
 use lib.ListN.{length}
 use Rattle.spec.specs.Bytes.{pick}
-use Rattle.spec.specs.Image.{Tables, theClass}
-use Rattle.image.specs.Loaded.{memberSpan}
+use Rattle.spec.specs.Image.{Tables, tablesOf, theClass}
+use Rattle.laws.specs.Valid.{Valid}
+use Rattle.laws.specs.AcceptedUses.{membersWithin}
+use Rattle.image.specs.Loaded.{Loaded, memberSpan, classes-many, members-many}
+use Rattle.image.specs.declared.Image.{Image}
 use Rattle.image.specs.declared.Span.{Span}
-use Rattle.actions.specs.Remaining.{actionsAt, endOf}
-use Rattle.actions.specs.Seek.{startOf, nextRight, seekRow, seekRightOf, nextLeft, orElse, seekRows, seekOf}
+use Rattle.actions.specs.Place.{actionsAt}
+use Rattle.enumeration.specs.Remaining.{endOf}
+use Rattle.enumeration.specs.Seek.{startOf, nextRight, seekRow, seekRightOf, nextLeft, orElse, seekRows, seekOf}
 use Rattle.actions.specs.declared.State.{State}
-use Rattle.actions.specs.declared.Sought.{Sought}
-use Rattle.actions.specs.declared.Sought.the-variants.{At, End}
+use Rattle.enumeration.specs.declared.Sought.{Sought}
+use Rattle.enumeration.specs.declared.Sought.the-variants.{At, End}
+
+-- ---- the members of a class are the image's
+pub span-end : (s : List ℕ) (im : Image) → Loaded s im → Valid (tablesOf s) → (c : ℕ) (p : Span) → c < im .classes → p ≡ memberSpan (theClass (tablesOf s) c) → p .to ≤ im .members
+span-end s im l v c p h e =
+    let q : p .to ≡ endOf (tablesOf s) c = ap (λ (x : Span). x .to) e in
+    omega (arith, membersWithin (tablesOf s) v c (omega (arith, classes-many s im l)), members-many s im l)
 
 -- ---- the start, by the span that the image gives
 pub start-at : (t : Tables) (l r : ℕ) {p : Span} {x : ℕ} {b : Bool} → p ≡ memberSpan (theClass t l) → x ≡ theClass t r .first → eqb l r ≡ b → _≡_ {A = State} (record { left = pick b (p .to) (p .from); right = x; past = 0 }) (startOf t l r)

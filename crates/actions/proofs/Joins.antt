@@ -1,90 +1,19 @@
--- The actions of two members: how many there are, and what each joins.
+-- What each action of two members joins.
 use mathlib.Core.Path.{_≡_, refl, sym, ap, _∙_}
 use mathlib.Core.Bool.{Bool, true, false}
 use mathlib.Core.List.{List, [], _∷_}
-use Prim.Native.Nat.{ℕ, zero, suc, _+_, _-_, _<_}
+use Prim.Native.Nat.{ℕ, zero, suc, _-_, _<_}
 use native.Mathlib.Nat.{not-suc-le-zero, le-of-suc-le-suc, suc-inj}
 use native.Mathlib.Omega.{arith}
-use borrow.Author.Tests.{eq-eqb, ne-eqb, eqb-true}
+use borrow.Author.Tests.{eqb-true}
 use lib.Dec.{eqb}
-use lib.ListN.{length, getD, length-map, List·getD-map}
+use lib.ListN.{length, getD}
 use Rattle.spec.specs.Bytes.{Two, pick, either}
-use Rattle.spec.specs.Image.{Tables, Member, arities, FREE, SPair, Lit, isAC, kindOf, theMember, childrenOf}
-use Rattle.spec.specs.Monomial.{classes}
+use Rattle.spec.specs.Image.{Tables, SPair, Lit, isAC, kindOf, theMember}
 use Rattle.spec.specs.Action.{Action, zip, byPosition, straightAndCrossed, alignments, alignMembers}
 use Rattle.laws.specs.Valid.{Valid}
-use Rattle.laws.specs.AcceptedLists.{in-at}
-use Rattle.laws.specs.AcceptedUses.{child-of-at, children-length-at}
-use Rattle.actions.specs.Remaining.{childClasses}
+use Rattle.alignment.specs.Members.{childClasses, many-classes, two-children}
 
--- ---- the child classes of a member, by their numbers in the image
-module _ (t : Tables) (v : Valid t) (m : ℕ) (h : m < length (t .members)) where
-  pub many-classes : length (childClasses t m) ≡ theMember t m .count
-  many-classes = length-map (childrenOf t (theMember t m)) (λ (c : Two). c .0) ∙ children-length-at t v m h
-
-  pub class-at : (k : ℕ) → k < theMember t m .count → getD (childClasses t m) k 0 ≡ getD (t .children) (theMember t m .first + k) (0, 0) .0
-  class-at k b = List·getD-map (λ (c : Two). c .0) (childrenOf t (theMember t m)) k (0, 0) ∙ ap (λ (c : Two). c .0) (child-of-at t v m k (0, 0) b)
-
-  pub class-within : (k : ℕ) → k < theMember t m .count → getD (childClasses t m) k 0 < length (t .classes)
-  class-within k b =
-      let e : getD (childClasses t m) k 0 ≡ getD (childrenOf t (theMember t m)) k (0, 0) .0 = List·getD-map (λ (c : Two). c .0) (childrenOf t (theMember t m)) k (0, 0) in
-      let i = in-at (childrenOf t (theMember t m)) k (0, 0) (omega (arith, children-length-at t v m h)) in
-      omega (arith, e, v .children .childClass m (getD (childrenOf t (theMember t m)) k (0, 0)) h i)
-
-  -- "SPair have 2"
-  pub two-children : kindOf t (theMember t m .op) ≡ SPair → theMember t m .count ≡ 2
-  unfolding arities
-  two-children e = rw e at (v .children .arity m h) (λ z. let y : _≡_ {A = ℕ} 2 FREE = z in absurd (omega arith))
-
--- ---- how many actions: straight, and crossed where neither side's two classes are equal
-module _ (o : ℕ) (xs ys : List ℕ) where
-  pub ways-left : true ≡ eqb (getD xs 0 0) (getD xs 1 0) → 1 ≡ length (straightAndCrossed o xs ys)
-  unfolding straightAndCrossed
-  ways-left e = rw (← e) refl
-
-  pub ways-right : false ≡ eqb (getD xs 0 0) (getD xs 1 0) → true ≡ eqb (getD ys 0 0) (getD ys 1 0) → 1 ≡ length (straightAndCrossed o xs ys)
-  unfolding straightAndCrossed
-  ways-right e f = rw (← e, ← f) refl
-
-  pub ways-both : false ≡ eqb (getD xs 0 0) (getD xs 1 0) → false ≡ eqb (getD ys 0 0) (getD ys 1 0) → 2 ≡ length (straightAndCrossed o xs ys)
-  unfolding straightAndCrossed
-  ways-both e f = rw (← e, ← f) refl
-
--- ---- by kind
-module _ (t : Tables) (a b : Member) where
-  pub other-op : (b .op ≡ a .op → ⊥) → 0 ≡ length (alignMembers t a b)
-  unfolding alignMembers
-  other-op n = rw (ne-eqb (a .op) (b .op) (λ e. n (sym e)), alignMembers) refl
-
-  module _ {k : ℕ} (kind : k ≡ kindOf t (a .op)) (same : b .op ≡ a .op) where
-    by-kind : alignMembers t a b ≡ alignments k (a .op) (classes (childrenOf t a)) (classes (childrenOf t b))
-    unfolding alignMembers
-    by-kind = rw (eq-eqb (a .op) (b .op) (sym same), alignMembers, kind) refl
-
-    pub spair-many : {n : ℕ} → k ≡ SPair → n ≡ length (straightAndCrossed (a .op) (classes (childrenOf t a)) (classes (childrenOf t b))) → n ≡ length (alignMembers t a b)
-    unfolding alignments
-    spair-many e f = f ∙ sym (rw (by-kind, alignments, eq-eqb k SPair e) refl)
-
-    module _ (n : k ≡ SPair → ⊥) where
-      pub ac-many : true ≡ isAC k → 0 ≡ length (alignMembers t a b)
-      unfolding alignments
-      ac-many e = rw (by-kind, alignments, ne-eqb k SPair n, ← e) refl
-
-      module _ (f : false ≡ isAC k) where
-        pub lit-many : k ≡ Lit → 0 ≡ length (alignMembers t a b)
-        unfolding alignments
-        lit-many e = rw (by-kind, alignments, ne-eqb k SPair n, ← f, eq-eqb k Lit e) refl
-
-        module _ (g : k ≡ Lit → ⊥) where
-          pub unequal-many : (length (classes (childrenOf t a)) ≡ length (classes (childrenOf t b)) → ⊥) → 0 ≡ length (alignMembers t a b)
-          unfolding alignments byPosition
-          unequal-many e = rw (by-kind, alignments, ne-eqb k SPair n, ← f, ne-eqb k Lit g, byPosition, ne-eqb _ _ e) refl
-
-          pub equal-many : length (classes (childrenOf t a)) ≡ length (classes (childrenOf t b)) → 1 ≡ length (alignMembers t a b)
-          unfolding alignments byPosition
-          equal-many e = rw (by-kind, alignments, ne-eqb k SPair n, ← f, ne-eqb k Lit g, byPosition, eq-eqb _ _ e) refl
-
--- ---- what action n of two members joins
 pub record Joined (o n : ℕ) (xs ys : List ℕ) (x : Action) : Type 0 where
   pub op : x .op ≡ o
   pub many : length (x .pairs) ≡ length xs

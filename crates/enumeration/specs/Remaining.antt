@@ -1,39 +1,19 @@
 -- "Action." The structural actions that are left at a state of their enumeration: members in stored order, the left class's outermost, straight before crossed.
 use mathlib.Core.List.{List, [], _∷_, _++_}
-use Prim.Native.Nat.{ℕ, _+_, _<_}
-use lib.ListN.{length, getD, drop}
+use Prim.Native.Nat.{ℕ, _+_}
+use lib.ListN.{drop}
 use lib.Seq.{slice}
 use Rattle.spec.specs.Bytes.{each}
-use Rattle.spec.specs.Image.{Tables, Member, theClass, theMember, membersOf, childrenOf}
-use Rattle.spec.specs.Monomial.{classes}
+use Rattle.spec.specs.Image.{Tables, Member, theClass, membersOf}
 use Rattle.spec.specs.Action.{Action, alignMembers}
 use Rattle.actions.specs.declared.State.{State}
-use Rattle.actions.specs.declared.Sought.{Sought}
-use Rattle.actions.specs.declared.Sought.the-variants.{At, End}
-
-abbrev pub childClasses : Tables → ℕ → List ℕ
-childClasses t m = classes (childrenOf t (theMember t m))
+use Rattle.actions.specs.Place.{Stands, actionAt, afterOf}
+use Rattle.enumeration.specs.declared.Sought.{Sought}
+use Rattle.enumeration.specs.declared.Sought.the-variants.{At, End}
 
 -- where the members of class c end
 abbrev pub endOf : Tables → ℕ → ℕ
 endOf t c = theClass t c .first + theClass t c .count
-
--- ---- the actions of the two members at a state, and the one that follows those that are past
-abbrev pub actionsAt : Tables → State → List Action
-actionsAt t v = alignMembers t (theMember t (v .left)) (theMember t (v .right))
-
-abbrev pub actionAt : Tables → State → Action
-actionAt t v = getD (actionsAt t v) (v .past) (record { op = 0; pairs = [] })
-
--- An action stands at v: its members are the image's, and not all of their actions, two at most, are past.
-pub record Stands (t : Tables) (v : State) : Type 0 where
-  pub left : v .left < length (t .members)
-  pub right : v .right < length (t .members)
-  pub more : v .past < length (actionsAt t v)
-  pub few : v .past < 2
-
-abbrev pub afterOf : State → State
-afterOf v = record { left = v .left; right = v .right; past = v .past + 1 }
 
 -- ---- what is left
 -- of member a with right members, n actions with the first of them past

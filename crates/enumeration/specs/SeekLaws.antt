@@ -18,11 +18,12 @@ use Rattle.laws.specs.AcceptedUses.{membersWithin}
 use Rattle.laws.specs.Scans.{part-slice, slice-over}
 use Rattle.image.specs.Loaded.{Loaded, classes-many}
 use Rattle.image.specs.declared.Image.{Image}
-use Rattle.actions.specs.Remaining.{Stands, actionsAt, actionAt, afterOf, endOf, rowFrom, rowsFrom, listFrom, foundIn, StandsFound}
-use Rattle.actions.specs.Seek.{startOf, nextRight, seekRow, seekRightOf, nextLeft, orElse, seekRows, seekOf}
+use Rattle.actions.specs.Place.{Stands, actionsAt, actionAt, afterOf}
+use Rattle.enumeration.specs.Remaining.{endOf, rowFrom, rowsFrom, listFrom, foundIn, StandsFound}
+use Rattle.enumeration.specs.Seek.{startOf, nextRight, seekRow, seekRightOf, nextLeft, orElse, seekRows, seekOf}
 use Rattle.actions.specs.declared.State.{State}
-use Rattle.actions.specs.declared.Sought.{Sought}
-use Rattle.actions.specs.declared.Sought.the-variants.{At, End}
+use Rattle.enumeration.specs.declared.Sought.{Sought}
+use Rattle.enumeration.specs.declared.Sought.the-variants.{At, End}
 
 -- what `theMember` gives past the table
 abbrev none : Member

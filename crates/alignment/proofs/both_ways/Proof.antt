@@ -1,10 +1,10 @@
-use Rattle.actions.proofs.Members.{ways-left, ways-right, ways-both}
-use Rattle.actions.specs.Remaining.{childClasses}
+use Rattle.alignment.proofs.Many.{ways-left, ways-right, ways-both}
+use Rattle.alignment.specs.Members.{childClasses}
 use Rattle.spec.specs.Image.{tablesOf, theMember}
 use mathlib.Core.Path.{sym, _∙_}
 use borrow.Author.Needs.{needs}
-use Rattle.actions.proofs.both_ways.Statement.{statement}
-use Rattle.actions.proofs.both_ways.Tie as tie
+use Rattle.alignment.proofs.both_ways.Statement.{statement}
+use Rattle.alignment.proofs.both_ways.Tie as tie
 
 twins-requires : tie.Need-twins-requires
 twins-requires c κs = search needs

@@ -1,13 +1,12 @@
-use Rattle.actions.proofs.Turns.{seek-here, seek-next, seek-over}
-use Rattle.actions.proofs.Readers.{span-end}
-use Rattle.actions.specs.Seek.{seekOf}
+use Rattle.enumeration.proofs.Turns.{span-end, seek-here, seek-next, seek-over}
+use Rattle.enumeration.specs.Seek.{seekOf}
 use Rattle.spec.specs.Image.{tablesOf}
 use Prim.Native.Nat.{_-_}
 use native.Mathlib.Omega.{arith}
 use mathlib.Core.Path.{_≡_, refl, sym, _∙_}
 use borrow.Author.Needs.{needs}
-use Rattle.actions.proofs.seek.Statement.{statement}
-use Rattle.actions.proofs.seek.Tie as tie
+use Rattle.enumeration.proofs.seek.Statement.{statement}
+use Rattle.enumeration.proofs.seek.Tie as tie
 
 abbrev Inv-loop : tie.InvT-loop
 Inv-loop s im l r to right v₀ v = seekOf (tablesOf s) l r v ≡ seekOf (tablesOf s) l r v₀

@@ -1,9 +1,9 @@
-use Rattle.actions.proofs.Turns.{start-at}
+use Rattle.enumeration.proofs.Turns.{start-at}
 use Rattle.spec.specs.Image.{tablesOf}
 use mathlib.Core.Path.{sym, _∙_}
 use borrow.Author.Needs.{needs}
-use Rattle.actions.proofs.start.Statement.{statement}
-use Rattle.actions.proofs.start.Tie as tie
+use Rattle.enumeration.proofs.start.Statement.{statement}
+use Rattle.enumeration.proofs.start.Tie as tie
 
 members-of-requires : tie.Need-members-of-requires
 members-of-requires c κs = search needs

@@ -1,7 +1,7 @@
-use Rattle.actions.proofs.Readers.{first-of-two, second-of-two, twins-are}
+use Rattle.alignment.specs.Members.{first-of-two, second-of-two, twins-are}
 use borrow.Author.Needs.{needs}
-use Rattle.actions.proofs.twins.Statement.{statement}
-use Rattle.actions.proofs.twins.Tie as tie
+use Rattle.alignment.proofs.twins.Statement.{statement}
+use Rattle.alignment.proofs.twins.Tie as tie
 
 first-child-requires : tie.Need-first-child-requires
 first-child-requires c κs = search needs

@@ -1,12 +1,12 @@
-use Rattle.actions.proofs.Turns.{row-here, row-next, row-over}
-use Rattle.actions.specs.Seek.{seekRightOf}
+use Rattle.enumeration.proofs.Turns.{row-here, row-next, row-over}
+use Rattle.enumeration.specs.Seek.{seekRightOf}
 use Rattle.spec.specs.Image.{tablesOf}
 use Prim.Native.Nat.{_-_}
 use native.Mathlib.Omega.{arith}
 use mathlib.Core.Path.{_≡_, refl, sym, _∙_}
 use borrow.Author.Needs.{needs}
-use Rattle.actions.proofs.seek_right.Statement.{statement}
-use Rattle.actions.proofs.seek_right.Tie as tie
+use Rattle.enumeration.proofs.seek_right.Statement.{statement}
+use Rattle.enumeration.proofs.seek_right.Tie as tie
 
 abbrev Inv-loop : tie.InvT-loop
 Inv-loop s im to w j₀ n₀ j n = seekRightOf (tablesOf s) to (record { left = w .left; right = j; past = n }) ≡ seekRightOf (tablesOf s) to w

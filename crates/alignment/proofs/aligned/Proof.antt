@@ -1,10 +1,10 @@
-use Rattle.actions.proofs.Members.{other-op, spair-many, ac-many, lit-many, unequal-many, equal-many}
-use Rattle.actions.proofs.Readers.{op-number, count-number}
+use Rattle.alignment.proofs.Many.{other-op, spair-many, ac-many, lit-many, unequal-many, equal-many}
+use Rattle.alignment.specs.Members.{op-number, count-number}
 use Rattle.spec.specs.Image.{SPair, tablesOf, theMember, kindOf}
 use mathlib.Core.Path.{_≡_, sym, ap, _∙_}
 use borrow.Author.Needs.{needs}
-use Rattle.actions.proofs.aligned.Statement.{statement}
-use Rattle.actions.proofs.aligned.Tie as tie
+use Rattle.alignment.proofs.aligned.Statement.{statement}
+use Rattle.alignment.proofs.aligned.Tie as tie
 
 member-op-requires : tie.Need-member-op-requires
 member-op-requires c κs = search needs
