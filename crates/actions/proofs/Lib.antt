@@ -1,3 +1,2 @@
-pub mod Turns
-pub mod Members
+pub mod Joins
 pub mod Readers

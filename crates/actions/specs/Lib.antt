@@ -1,4 +1,1 @@
-pub mod Remaining
-pub mod Seek
-pub mod SeekLaws
-pub mod Itself
+pub mod Place

@@ -17,8 +17,8 @@ use types.Tokens.{lft-new, lft-end}
 use denote.RattleType.{RattleType}
 use denote.Ref.{RefT}
 use denote.Slice.{sliceVal, MutSlice, ShrSlice, Room, finally, heres, codedHoleys, res-finally}
-use Rattle.pair_table.proofs.Again.{LentAgain, lends-again, comes-back}
-use Rattle.pair_table.proofs.Shared.{LentShared, lends-shared, shared-back}
+use Rattle.walks.specs.Again.{LentAgain, lends-again, comes-back}
+use Rattle.walks.specs.Shared.{LentShared, lends-shared, shared-back}
 
 module _ (R : RattleType) where
   -- a parameter that is a `&mut [T]`: its lifetime, the share of its token, the reference

@@ -9,8 +9,8 @@ use lib.ListN.{length, replicate}
 use borrow.Author.Tests.{leb-true}
 use Rattle.spec.specs.Bytes.{both, workAfter}
 use Rattle.spec.specs.Merge.{mergeUnder, mergeOf, outputAfter}
-use Rattle.pair_table.specs.declared.Pair.{Pair}
-use Rattle.pair_table.specs.Table.{none}
+use Rattle.pair_search.specs.declared.Pair.{Pair}
+use Rattle.pair_search.specs.Records.{none}
 use Rattle.au.specs.declared.Answer.{Answer}
 use Rattle.au.specs.declared.Answer.the-variants.{Refused}
 use Rattle.spec.specs.Run.{documentLimits}

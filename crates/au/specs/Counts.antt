@@ -18,9 +18,9 @@ use Rattle.image.specs.declared.Image.{Image}
 use Rattle.query.specs.Settings.{askedOf}
 use Rattle.query.specs.declared.Query.{Query}
 use Rattle.arrays.specs.Arrays.{unkeyed}
-use Rattle.pair_table.specs.declared.Pair.{Pair}
+use Rattle.pair_search.specs.declared.Pair.{Pair}
 use Rattle.pair_table.specs.Table.{enteredOf, countedOf}
-use Rattle.pair_table.specs.From.{counts-all, counts-none}
+use Rattle.pair_count.specs.From.{counts-all, counts-none}
 use Rattle.entering.specs.Entered.{entered}
 use Rattle.graph.specs.Building.{graphAfter}
 use Rattle.graph.specs.Built.{built-apart, built-first, built-some, built-few, built-pairs}

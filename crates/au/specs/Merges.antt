@@ -10,8 +10,8 @@ use Rattle.spec.specs.Bytes.{both, workAfter, Res, ok, refused}
 use Rattle.spec.specs.Image.{tablesOf}
 use Rattle.spec.specs.Merge.{mergeOf, outputAfter}
 use Rattle.spec.specs.Meaning.{HoldsDoubled}
-use Rattle.pair_table.specs.declared.Pair.{Pair}
-use Rattle.pair_table.specs.Table.{none}
+use Rattle.pair_search.specs.declared.Pair.{Pair}
+use Rattle.pair_search.specs.Records.{none}
 use Rattle.au.specs.declared.Answer.{Answer}
 use Rattle.au.specs.declared.Answer.the-variants.{Listing, Refused, Doubled}
 

@@ -9,7 +9,7 @@ ghost use Rattle.spec.specs.Run.{documentLimits};
 ghost use Rattle.image.specs.Loaded.{Loaded};
 ghost use Rattle.query.specs.Settings.{limitsOf};
 ghost use Rattle.terms.specs.Chains.{Rooms};
-ghost use Rattle.pair_table.specs.Table.{none};
+ghost use Rattle.pair_search.specs.Records.{none};
 ghost use Rattle.au.specs.declared.Answer.the-variants.{Refused};
 ghost use Rattle.au.specs.Merges.{fitOf, fits, Merges, Cleared, Table};
 ghost use Rattle.au.specs.Engine.{smallLimits, Roomy, roomFor, Prepares, pairsBegun, pairsOf, keysOf, countedAs, answerAs, Runs, limited};
@@ -19,8 +19,8 @@ use image::Image;
 use judge::Verdict;
 use judge::judge;
 use numbers::size_u16;
-use pair_table::Count;
-use pair_table::Pair;
+use pair_count::Count;
+use pair_search::Pair;
 use query::Limits;
 use query::Query;
 
@@ -254,7 +254,7 @@ fn keys_of(p: Prepared) -> usize
 fn counted(b: Begun, c: Count) -> Begun
     ensures { λ r. ⌜ r ≡ countedAs b (c .pairs) ⌝ }
 {
-    let n = pair_table::pairs_in(c);
+    let n = pair_count::pairs_in(c);
     match b {
         Begun::Stopped(k) => Begun::Stopped(k),
         Begun::Cut(root) => Begun::Cut(root),
@@ -399,7 +399,7 @@ fn run_full(
     let p = prepare_full(s, left, right, budget, graph, terms, runs);
     let from = keys_of(p);
     let n = pairs_of(p);
-    let c = pair_table::enter_graph(&mut table, graph, from, n, left, right);
+    let c = pair_count::enter_graph(&mut table, graph, from, n, left, right);
     conclude_full(
         s,
         left,
@@ -537,7 +537,7 @@ pub fn merge(
     let p = prepare_small(s, left, right, budget, graph, terms, runs);
     let from = keys_of(p);
     let n = pairs_of(p);
-    let c = pair_table::enter_graph(table, graph, from, n, left, right);
+    let c = pair_count::enter_graph(table, graph, from, n, left, right);
     let a = conclude(
         s,
         left,

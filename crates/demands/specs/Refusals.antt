@@ -24,8 +24,8 @@ use Rattle.lgg.specs.Demand3 as D
 use Rattle.au.specs.declared.Answer.{Answer}
 use Rattle.au.specs.declared.Answer.the-variants.{Listing, Refused, Doubled}
 use Rattle.au.specs.Merges.{answerOf, Merges, Cleared, Table}
-use Rattle.pair_table.specs.declared.Pair.{Pair}
-use Rattle.pair_table.specs.Table.{none}
+use Rattle.pair_search.specs.declared.Pair.{Pair}
+use Rattle.pair_search.specs.Records.{none}
 use Rattle.demands.specs.Calls.{Asked, Sound, Taken, Way, short, unsound, outside, stopped, over, listed, read-of, taken-is, way, refused-iff, doubled-iff, listing-iff}
 
 module _ (image : List ℕ) (left right budget : ℕ) (fit : Bool) (out out′ : List ℕ) (r : Answer) (m : Merges image left right budget fit out out′ r) where

@@ -17,11 +17,12 @@ use Rattle.lgg.specs.ReadingsWithin.{joins-within}
 use Rattle.image.specs.Loaded.{Loaded}
 use Rattle.image.specs.declared.Image.{Image}
 use Rattle.actions.specs.declared.State.{State}
-use Rattle.actions.specs.declared.Sought.{Sought}
-use Rattle.actions.specs.declared.Sought.the-variants as S
-use Rattle.actions.specs.Remaining as R
-use Rattle.actions.specs.Seek.{seekOf}
-use Rattle.actions.specs.SeekLaws.{seek-list}
+use Rattle.enumeration.specs.declared.Sought.{Sought}
+use Rattle.enumeration.specs.declared.Sought.the-variants as S
+use Rattle.actions.specs.Place as P
+use Rattle.enumeration.specs.Remaining as R
+use Rattle.enumeration.specs.Seek.{seekOf}
+use Rattle.enumeration.specs.SeekLaws.{seek-list}
 use Rattle.monomial.specs.Terms.{TERMS, NUMBERS, terms, held}
 use Rattle.monomial.specs.TermLaws.{terms-length}
 use Rattle.padding.specs.Pad.{Few}
@@ -56,7 +57,7 @@ module _ {s : List ℕ} {im : Image} (L : Loaded s im) (ok : Valid (tablesOf s))
   found : {y : Sought} → x ≡ y → R.listFrom (tablesOf s) l r v ≡ R.foundIn (tablesOf s) l r y
   found q = seek-list L ok hl hr v e ∙ ap (R.foundIn (tablesOf s) l r) q
 
-  pub actions-next : (w : State) → x ≡ S.At w → pairsOf (R.listFrom (tablesOf s) l r v) ≡ R.actionAt (tablesOf s) w .pairs ++ pairsOf (R.listFrom (tablesOf s) l r (R.afterOf w))
+  pub actions-next : (w : State) → x ≡ S.At w → pairsOf (R.listFrom (tablesOf s) l r v) ≡ P.actionAt (tablesOf s) w .pairs ++ pairsOf (R.listFrom (tablesOf s) l r (P.afterOf w))
   unfolding each
   actions-next w q = ap pairsOf (found q)
 

@@ -3,8 +3,8 @@ use mathlib.Core.Path.{_≡_, refl, sym, ap, _∙_}
 use mathlib.Core.List.{List, [], _∷_, _++_, append-assoc}
 use Prim.Native.Nat.{ℕ, zero, suc, _+_}
 use lib.ListN.{length, set, replicate, length-append}
-use Rattle.pair_table.specs.declared.Pair.{Pair}
-use Rattle.pair_table.specs.Table.{none}
+use Rattle.pair_search.specs.declared.Pair.{Pair}
+use Rattle.pair_search.specs.Records.{none}
 
 -- n records from place i on are cleared
 abbrev pub clearFrom : List Pair → ℕ → ℕ → List Pair

@@ -1,8 +1,8 @@
 -- What the search, the writing and the outcome come to. Assumes nothing.
 use mathlib.Core.Path.{_≡_, refl, sym, ap, _∙_}
 use mathlib.Core.Bool.{Bool, true, false}
-use mathlib.Core.List.{List, [], _∷_, _++_, map}
-use Prim.Native.Nat.{ℕ, suc, _≤_, _<_, min}
+use mathlib.Core.List.{List}
+use Prim.Native.Nat.{ℕ, _≤_, _<_, min}
 use native.Mathlib.Nat.{min-eq-left, min-eq-right}
 use native.Mathlib.Decide.{decLt}
 use native.Mathlib.Omega.{arith}
@@ -10,10 +10,11 @@ use lib.ListN.{length, getD, take, set, length-map, length-take, List·getD-map}
 use borrow.Author.Tests.{lt-ltb, le-ltb}
 use Rattle.spec.specs.Bytes.{pick, any, Two, sameTwo}
 use Rattle.spec.specs.Graph.{PAIRS}
-use Rattle.pair_table.specs.declared.Pair.{Pair}
+use Rattle.pair_search.specs.declared.Pair.{Pair}
+use Rattle.pair_search.specs.Records.{none, twoOf, recordOf, held, findOf}
 use Rattle.pair_table.specs.declared.Entered.the-variants.{At, New, Full}
-use Rattle.pair_table.specs.Table.{none, twoOf, recordOf, held, findOf, hasRoom, enterOf, tableAfter, notNew, putIn, outcomeOf}
-use Rattle.pair_table.specs.Lists.{clash, same-eq, getD-take, take-set, set-same, set-past, place-some, place-none, place-passes}
+use Rattle.pair_table.specs.Table.{hasRoom, enterOf, tableAfter, putIn, outcomeOf}
+use Rattle.pair_table.specs.Lists.{same-eq, getD-take, set-same, set-past, place-some, place-none, place-passes}
 
 -- ---- the outcome, by the ends that the code computes
 pub outcome-at : (at count len m : ℕ) → m ≡ min count len → at < m → At at ≡ outcomeOf at count len
@@ -71,20 +72,3 @@ module _ (s : List Pair) (count : ℕ) (p : Two) where
       go : (t : Bool) → any (sameTwo p) (held s count) ≡ t → putIn s (findOf s count p) (recordOf p) ≡ pick t s (pick (hasRoom count (length s)) (set s count (recordOf p)) s)
       go true e = unchanged (hasRoom (findOf s count p) (length s)) _ (found-set e)
       go false e = missed (hasRoom count (length s)) refl (missed-at e) (decLt count (length s))
-
-  -- a pair that is not new leaves the table as it was
-  pub not-new-says : notNew (enterOf s count p) ≡ true → tableAfter s count p ≡ s
-  not-new-says = go (any (sameTwo p) (held s count)) (hasRoom count (length s))
-    where
-      go : (t u : Bool) → notNew (pick t (At (findOf s count p)) (pick u (New count) Full)) ≡ true → pick t s (pick u (set s count (recordOf p)) s) ≡ s
-      go true u q = refl
-      go false true q = absurd (clash (sym q))
-      go false false q = refl
-
--- ---- one record more is held
-map-last : (f : Pair → Two) (l : List Pair) (y : Pair) → map f (l ++ (y ∷ [])) ≡ map f l ++ (f y ∷ [])
-map-last f [] y = refl
-map-last f (x ∷ l) y = ap (λ (r : List Two). f x ∷ r) (map-last f l y)
-
-pub held-set : (s : List Pair) (count : ℕ) (p : Two) → count < length s → held (set s count (recordOf p)) (suc count) ≡ held s count ++ (p ∷ [])
-held-set s count p h = ap (map twoOf) (take-set s count (recordOf p) h) ∙ map-last twoOf (take count s) (recordOf p)

@@ -1,7 +1,4 @@
 pub mod Clear
-pub mod Code
 pub mod Enter
-pub mod From
 pub mod Lists
-pub mod Search
 pub mod Table

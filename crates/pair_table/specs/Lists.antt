@@ -1,39 +1,17 @@
--- Laws of lists and numbers that the table rests on. Assumes nothing.
+-- Laws of lists that entering rests on. Assumes nothing.
 use mathlib.Core.Path.{_≡_, refl, sym, ap, _∙_}
-use mathlib.Core.Bool.{Bool, true, false, not, _||_}
-use mathlib.Core.List.{List, [], _∷_, _++_}
-use Prim.Native.Nat.{ℕ, zero, suc, _≤_, _<_, min}
-use native.Mathlib.Nat.{zero-min, min-zero, suc-min-suc, not-suc-le-zero, le-of-suc-le-suc}
+use mathlib.Core.Bool.{Bool, true, false}
+use mathlib.Core.List.{List, [], _∷_}
+use Prim.Native.Nat.{ℕ, zero, suc, _≤_, _<_}
+use native.Mathlib.Nat.{not-suc-le-zero, le-of-suc-le-suc}
 use native.Mathlib.Omega.{arith}
-use lib.Dec.{T, eqb}
-use lib.ListN.{length, getD, take, drop, set}
-use borrow.Author.Tests.{eqb-true, eq-eqb}
-use Rattle.spec.specs.Bytes.{either, any, place, Two, sameTwo}
-
--- ---- truth values
-pub is-true : (t : Bool) → T t → t ≡ true
-is-true true _ = refl
-is-true false a = absurd a
-
-pub is-false : (t : Bool) → T (not t) → t ≡ false
-is-false true a = absurd a
-is-false false _ = refl
-
-pub or-either : (a b c : Bool) → b ≡ c → (a || b) ≡ either a c
-or-either true b c e = refl
-or-either false b c e = e
-
-pub either-false : (t : Bool) → either t false ≡ t
-either-false true = refl
-either-false false = refl
-
-pub clash : true ≡ false → ⊥
-clash e = let y : _≡_ {A = ℕ} 0 1 = cc in omega arith
+use lib.Dec.{eqb}
+use lib.ListN.{length, getD, take, set}
+use borrow.Author.Tests.{eqb-true}
+use Rattle.spec.specs.Bytes.{any, place, Two, sameTwo}
+use Rattle.pair_search.specs.Lists.{clash}
 
 -- ---- pairs of numbers
-pub same-refl : (p : Two) → sameTwo p p ≡ true
-same-refl p = rw (eq-eqb (p .0) (p .0) refl, eq-eqb (p .1) (p .1) refl) refl
-
 pub same-eq : (p q : Two) → sameTwo p q ≡ true → p ≡ q
 same-eq p q e = go (eqb (p .0) (q .0)) refl (eqb (p .1) (q .1)) refl
   where
@@ -44,16 +22,6 @@ same-eq p q e = go (eqb (p .0) (q .0)) refl (eqb (p .1) (q .1)) refl
 
 module _ {A : Type 0} where
   -- ---- reading, taking and setting
-  pub drop-cons : (s : List A) (i : ℕ) (d : A) → i < length s → drop i s ≡ getD s i d ∷ drop (suc i) s
-  drop-cons [] i d h = absurd (not-suc-le-zero h)
-  drop-cons (x ∷ s) zero d h = refl
-  drop-cons (x ∷ s) (suc i) d h = drop-cons s i d (le-of-suc-le-suc h)
-
-  pub take-min : (c : ℕ) (s : List A) → take (min c (length s)) s ≡ take c s
-  take-min zero s = ap (λ (k : ℕ). take k s) (zero-min (length s))
-  take-min (suc c) [] = ap (λ (k : ℕ). take {A = A} k []) (min-zero (suc c))
-  take-min (suc c) (x ∷ s) = ap (λ (k : ℕ). take k (x ∷ s)) (suc-min-suc c (length s)) ∙ ap (λ (r : List A). x ∷ r) (take-min c s)
-
   pub getD-take : (c : ℕ) (s : List A) (k : ℕ) (d : A) → k < length (take c s) → getD (take c s) k d ≡ getD s k d
   getD-take zero s k d h = absurd (not-suc-le-zero h)
   getD-take (suc c) [] k d h = refl
@@ -70,22 +38,6 @@ module _ {A : Type 0} where
   set-past [] i y l = refl
   set-past (x ∷ s) zero y l = absurd (not-suc-le-zero l)
   set-past (x ∷ s) (suc i) y l = ap (λ (r : List A). x ∷ r) (set-past s i y (le-of-suc-le-suc l))
-
-  pub take-set : (s : List A) (i : ℕ) (y : A) → i < length s → take (suc i) (set s i y) ≡ take i s ++ (y ∷ [])
-  take-set [] i y l = absurd (not-suc-le-zero l)
-  take-set (x ∷ s) zero y l = refl
-  take-set (x ∷ s) (suc i) y l = ap (λ (r : List A). x ∷ r) (take-set s i y (le-of-suc-le-suc l))
-
-  pub take-all : (s : List A) (i : ℕ) → length s ≤ i → take i s ≡ s
-  take-all [] zero l = refl
-  take-all [] (suc i) l = refl
-  take-all (x ∷ s) zero l = absurd (not-suc-le-zero l)
-  take-all (x ∷ s) (suc i) l = ap (λ (r : List A). x ∷ r) (take-all s i (le-of-suc-le-suc l))
-
-  pub take-next : (s : List A) (i : ℕ) (d : A) → i < length s → take (suc i) s ≡ take i s ++ (getD s i d ∷ [])
-  take-next [] i d l = absurd (not-suc-le-zero l)
-  take-next (x ∷ s) zero d l = refl
-  take-next (x ∷ s) (suc i) d l = ap (λ (r : List A). x ∷ r) (take-next s i d (le-of-suc-le-suc l))
 
   -- ---- the first entry that passes
   module _ (f : A → Bool) where

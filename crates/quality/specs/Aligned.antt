@@ -6,11 +6,11 @@ use Rattle.spec.specs.Bytes.{pick, Two}
 use Rattle.spec.specs.Image.{Tables}
 use Rattle.spec.specs.Action.{Action, structural}
 use Rattle.spec.specs.Round.{better, ofAction, worth, Choice, stay, act, Turn, offerActions}
-use Rattle.actions.specs.Remaining.{Stands, actionAt, afterOf}
-use Rattle.actions.specs.Seek.{startOf, seekRows, seekOf}
+use Rattle.actions.specs.Place.{Stands, actionAt, afterOf}
+use Rattle.enumeration.specs.Seek.{startOf, seekRows, seekOf}
 use Rattle.actions.specs.declared.State.{State}
-use Rattle.actions.specs.declared.Sought.{Sought}
-use Rattle.actions.specs.declared.Sought.the-variants.{At, End}
+use Rattle.enumeration.specs.declared.Sought.{Sought}
+use Rattle.enumeration.specs.declared.Sought.the-variants.{At, End}
 use Rattle.quality.specs.declared.How.{How}
 use Rattle.quality.specs.declared.How.the-variants.{Stay, Aligned, Plan}
 use Rattle.quality.specs.declared.Best.{Best}

@@ -12,12 +12,13 @@ use Rattle.spec.specs.Round.{better, Turn, offerActions}
 use Rattle.laws.specs.Valid.{Valid}
 use Rattle.image.specs.Loaded.{Loaded}
 use Rattle.image.specs.declared.Image.{Image}
-use Rattle.actions.specs.Remaining.{StandsFound, actionAt, afterOf, listFrom, foundIn}
-use Rattle.actions.specs.Seek.{startOf, seekOf}
-use Rattle.actions.specs.SeekLaws.{start-list, seek-list, seek-stands}
+use Rattle.actions.specs.Place.{actionAt, afterOf}
+use Rattle.enumeration.specs.Remaining.{StandsFound, listFrom, foundIn}
+use Rattle.enumeration.specs.Seek.{startOf, seekOf}
+use Rattle.enumeration.specs.SeekLaws.{start-list, seek-list, seek-stands}
 use Rattle.actions.specs.declared.State.{State}
-use Rattle.actions.specs.declared.Sought.{Sought}
-use Rattle.actions.specs.declared.Sought.the-variants.{At, End}
+use Rattle.enumeration.specs.declared.Sought.{Sought}
+use Rattle.enumeration.specs.declared.Sought.the-variants.{At, End}
 use Rattle.quality.specs.declared.How.the-variants.{Stay, Aligned}
 use Rattle.quality.specs.declared.Best.{Best}
 use Rattle.quality.specs.Aligned.{structuralQuality, offerAt, atFound, bestFrom, bestAligned, choiceAt, StandsAt, afterAligned, Aligns}

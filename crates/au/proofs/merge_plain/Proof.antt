@@ -1,20 +1,20 @@
 -- `au::merge_plain` meets its contract: a walk of its MIR, by hand: the pair table is an array in a local, lent to `merge` for a lifetime of the call; all else is given away.
 -- Assumes nothing.
-use Rattle.pair_table.proofs.Walk.{_≡_, refl, subst, ℕ, _<_, _^_, List, [], _∷_, length, lit<, URA, fullShare, named, w16, Val, vint}
-use Rattle.pair_table.proofs.Walk.{SProp, ent, emp, fst∗, id⊢, via, GName, Fml, ftrue, fsep, froom, flft, Memory, Routine, Heap, Calls, Loops, WpFn, Tables, Atoms, Fun, fact, givenOf, tables, tablesOf}
-use Rattle.pair_table.proofs.Walk.{Given, ‵, raw, some, later, _⊛_, ⋆, _$_, _∵_, !, qed, by, move, keep, drop, use0, use1, use2, use3, split, join, group, pick, await, fsplit, fjoin, feqL, suffices, frame, done}
-use Rattle.pair_table.proofs.Walk.{whole, sub, look-in, agg, look, init, forget, stop, hop, fld, from, load, lit, of-opd, addr, and-then, no-more, assigns, land, returns, enter, alloc1, alloc0, params1, pass1, pass0, WpFn-mono, FmC, fmOf}
-use Rattle.pair_table.proofs.Walk.{RattleType, Is, shows, uint-vals, uint-tells, uint-makes, u16, RefT, now, MutSlice, ShrSlice, Room, finally, slice-vals, mut-slice-tells, shr-slice-tells, plain, nothing, owned, peeks, heard}
-use Rattle.pair_table.proofs.Walk.{Contract, Triple, calls-at, ensured, lasts, Vals, onEntry, Meets, tripleOf, entered, cited, says, Stays, gave-slice, walkOf, Walks, ends-at, walked, goes-gave-slice, walk-meets, yes}
+use Rattle.walks.specs.Walk.{_≡_, refl, subst, ℕ, _<_, _^_, List, [], _∷_, length, lit<, URA, fullShare, named, w16, Val, vint}
+use Rattle.walks.specs.Walk.{SProp, ent, emp, fst∗, id⊢, via, GName, Fml, ftrue, fsep, froom, flft, Memory, Routine, Heap, Calls, Loops, WpFn, Tables, Atoms, Fun, fact, givenOf, tables, tablesOf}
+use Rattle.walks.specs.Walk.{Given, ‵, raw, some, later, _⊛_, ⋆, _$_, _∵_, !, qed, by, move, keep, drop, use0, use1, use2, use3, split, join, group, pick, await, fsplit, fjoin, feqL, suffices, frame, done}
+use Rattle.walks.specs.Walk.{whole, sub, look-in, agg, look, init, forget, stop, hop, fld, from, load, lit, of-opd, addr, and-then, no-more, assigns, land, returns, enter, alloc1, alloc0, params1, pass1, pass0, WpFn-mono, FmC, fmOf}
+use Rattle.walks.specs.Walk.{RattleType, Is, shows, uint-vals, uint-tells, uint-makes, u16, RefT, now, MutSlice, ShrSlice, Room, finally, slice-vals, mut-slice-tells, shr-slice-tells, plain, nothing, owned, peeks, heard}
+use Rattle.walks.specs.Walk.{Contract, Triple, calls-at, ensured, lasts, Vals, onEntry, Meets, tripleOf, entered, cited, says, Stays, gave-slice, walkOf, Walks, ends-at, walked, goes-gave-slice, walk-meets, yes}
 use mir.Syntax.{w32}
 use types.Kit as Kit
 use denote.Builtin.{u8, u32, u64}
 use denote.Signature.{shrSliceOf}
 use denote.Triple.Walked.{stay-dropped, goes-dropped}
 use denote.Enum.Laws as NL
-use Rattle.pair_table.specs.declared.Pair.{Pair}
-use Rattle.pair_table.specs.Table.{none}
-use Rattle.pair_table.proofs.Pair as P
+use Rattle.pair_search.specs.declared.Pair.{Pair}
+use Rattle.pair_search.specs.Records.{none}
+use Rattle.pair_search.proofs.Pair as P
 use Rattle.au.specs.declared.Answer.{Answer}
 use Rattle.au.specs.Merges.{fitOf, fits, Merges, Cleared, Table}
 use Rattle.au.proofs.Slices.{Param, val, has, tok, kept}
@@ -27,7 +27,7 @@ use types.Tokens.{lft-new, lft-end}
 use denote.Array.{Array, array-typed}
 use denote.Struct.Laws as LL
 use denote.Slice.{sliceVal}
-use Rattle.pair_table.proofs.Pair.Laws as P′
+use Rattle.pair_search.proofs.Pair.Laws as P′
 use Rattle.au.proofs.LocalArray.{Lent, lends-array, array-room}
 use Rattle.au.proofs.empty as empty′
 use Rattle.au.proofs.empty.Symbol as empty-def

@@ -1,5 +1,5 @@
 use Prim.Native.Nat.{_+_, _-_, _<_, _≤_}
-use Rattle.actions.specs.Remaining.{actionAt}
+use Rattle.actions.specs.Place.{actionAt}
 use Rattle.arrays.specs.Arrays.{pairsIn}
 use Rattle.entering.specs.GrowLaws.{going-end, going-full, going-on, going-small, going-start}
 use Rattle.entering.specs.Growing.{Going}

@@ -1,5 +1,6 @@
-use Rattle.actions.specs.Remaining.{actionAt, afterOf, listFrom}
-use Rattle.actions.specs.SeekLaws.{found-fewer, found-stands, start-list}
+use Rattle.actions.specs.Place.{actionAt, afterOf}
+use Rattle.enumeration.specs.Remaining.{listFrom}
+use Rattle.enumeration.specs.SeekLaws.{found-fewer, found-stands, start-list}
 use Rattle.actions.specs.declared.State.{State}
 use Rattle.arrays.specs.Arrays.{pairsIn}
 use Rattle.entering.specs.GrowLaws.{going-end, going-full, going-on, going-same, going-small, going-start}

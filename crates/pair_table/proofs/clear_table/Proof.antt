@@ -1,20 +1,20 @@
 -- `pair_table::clear_table` meets its contract: a walk of its MIR, by hand, with a loop. The slice is opened and closed again in each turn.
 -- Assumes nothing.
-use Rattle.pair_table.proofs.Walk.{_≡_, refl, sym, _∙_, ap, subst, ℕ, zero, suc, _+_, _<_, _*_, _^_, lt-suc-self, arith, Bool, List, [], _∷_, length, set, length-set, Nat·lt-wfRel, lit<, URA, fullShare}
-use Rattle.pair_table.proofs.Walk.{Ty, named, mut, w64, tyInt, tyBool, tyPtr, tyRef, Val, vint, vptr, vbool, vunit, SProp, ent, emp, fst∗, via, exI, guardI, Lft, GName, Share, Fml, ftrue, fsep, fat, froom, fdies, flft, fobs, fbor}
-use Rattle.pair_table.proofs.Walk.{Memory, Routine, Heap, Calls, Loops, Env, Wp, WpFn, Tables, atReturn, afterSeq, afterBlock, afterTurn, Atoms, Fun, givenOf, tables, tablesOf, Given, Item, ‵, some, given, _⊛_, ⋆, anyQ, atRet, runs, Sq, _$_, _∵_, !, qed, by, move, drop, use1, split, join, group, pick, learn, rewrite, fsplit, fjoin, feqI, suffices, frame, done}
-use Rattle.pair_table.proofs.Walk.{whole, sub, look-in, agg, look, store, store-raw, init, forget, stop, hop, fld, from, load, lit, unit-lit, of-opd, bin, and-then, no-more, assigns, assigns-last, first, blocks, stays, leaves-loop, exec, returns, Below, again, loops, enter, alloc1, alloc0, params1, pass1, pass0, free1, free0, WpFn-mono}
-use Rattle.pair_table.proofs.Walk.{RattleType, pureI, Is, shows, pointee, RefT, now, sliceTy, sliceVal, MutSlice, heres, Room, slice-vals, mut-slice-tells, at-slice, codedHoleys, Held, place-is, elem-out, elem-put, opens-slice, closes-slice, plain, nothing, owned}
-use Rattle.pair_table.proofs.Walk.{Vals, onEntry, Meets, tripleOf, entered, says, Stays, stay-slice, walkOf, Walks, ends-at, walked, goes-slice, walk-meets, lt-ltb, le-ltb}
+use Rattle.walks.specs.Walk.{_≡_, refl, sym, _∙_, ap, subst, ℕ, zero, suc, _+_, _<_, _*_, _^_, lt-suc-self, arith, Bool, List, [], _∷_, length, set, length-set, Nat·lt-wfRel, lit<, URA, fullShare}
+use Rattle.walks.specs.Walk.{Ty, named, mut, w64, tyInt, tyBool, tyPtr, tyRef, Val, vint, vptr, vbool, vunit, SProp, ent, emp, fst∗, via, exI, guardI, Lft, GName, Share, Fml, ftrue, fsep, fat, froom, fdies, flft, fobs, fbor}
+use Rattle.walks.specs.Walk.{Memory, Routine, Heap, Calls, Loops, Env, Wp, WpFn, Tables, atReturn, afterSeq, afterBlock, afterTurn, Atoms, Fun, givenOf, tables, tablesOf, Given, Item, ‵, some, given, _⊛_, ⋆, anyQ, atRet, runs, Sq, _$_, _∵_, !, qed, by, move, drop, use1, split, join, group, pick, learn, rewrite, fsplit, fjoin, feqI, suffices, frame, done}
+use Rattle.walks.specs.Walk.{whole, sub, look-in, agg, look, store, store-raw, init, forget, stop, hop, fld, from, load, lit, unit-lit, of-opd, bin, and-then, no-more, assigns, assigns-last, first, blocks, stays, leaves-loop, exec, returns, Below, again, loops, enter, alloc1, alloc0, params1, pass1, pass0, free1, free0, WpFn-mono}
+use Rattle.walks.specs.Walk.{RattleType, pureI, Is, shows, pointee, RefT, now, sliceTy, sliceVal, MutSlice, heres, Room, slice-vals, mut-slice-tells, at-slice, codedHoleys, Held, place-is, elem-out, elem-put, opens-slice, closes-slice, plain, nothing, owned}
+use Rattle.walks.specs.Walk.{Vals, onEntry, Meets, tripleOf, entered, says, Stays, stay-slice, walkOf, Walks, ends-at, walked, goes-slice, walk-meets, lt-ltb, le-ltb}
 use mir.Syntax.{tyUnit}
 use types.Kit as Kit
 use denote.Struct.Laws as LL
-use Rattle.pair_table.specs.Table.{none}
+use Rattle.pair_search.specs.Records.{none}
 use Rattle.pair_table.specs.Clear.{clearFrom, cleared}
-use Rattle.pair_table.specs.declared.Pair.{Pair}
-use Rattle.pair_table.proofs.Numbers.{offset-fits, below-end, at-end, next-fits, step-on}
-use Rattle.pair_table.proofs.Pair as P
-use Rattle.pair_table.proofs.Pair.Laws as P′
+use Rattle.pair_search.specs.declared.Pair.{Pair}
+use Rattle.walks.specs.Numbers.{offset-fits, below-end, at-end, next-fits, step-on}
+use Rattle.pair_search.proofs.Pair as P
+use Rattle.pair_search.proofs.Pair.Laws as P′
 use Rattle.pair_table.proofs.clear_table.Key.{name as #clear-table}
 use Rattle.pair_table.proofs.clear_table as f
 use Rattle.pair_table.proofs.clear_table.Statement as stated

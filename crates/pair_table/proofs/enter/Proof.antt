@@ -1,25 +1,26 @@
 -- `pair_table::enter` meets its contract: a walk of its MIR, by hand, with no branch: three calls. `find` has the slice as a `&` for a lifetime of the call; `put_in`, the last to use it, has it at its own lifetime; `outcome` is covered.
 -- Assumes nothing.
-use Rattle.pair_table.proofs.Walk.{_≡_, refl, _∙_, ap, subst, ℕ, _<_, _^_, List, [], _∷_, length, URA, fullShare, named, w16, w64, tyInt, Val, vint, SProp, ent, sep, emp, fst∗, id⊢, via, snd∗, exE, Lft, GName, Share, Fml, ftrue, fsep, fat, flft}
-use Rattle.pair_table.proofs.Walk.{Memory, Routine, Heap, Calls, Loops, WpFn, Tables, Atoms, sem, Fun, fact, givenOf, tables, tablesOf, Given, ‵, raw, some, later, _⊛_, ⋆, _$_, _∵_, !, qed, by, move, keep, drop, use0, use1, use2, split, join, pick, await, rewrite, fsplit, fjoin, feqL, suffices, frame, done}
-use Rattle.pair_table.proofs.Walk.{whole, sub, look-in, agg, look, init, forget, stop, hop, fld, from, load, addr, and-then, no-more, assigns, land, returns, enter, alloc1, alloc0, params1, pass1, pass0, free1, free0, lft-new, lft-end, WpFn-mono, FmC, fmOf}
-use Rattle.pair_table.proofs.Walk.{RattleType, owns, Is, shows, uint-vals, uint-tells, uint-makes, uint-lawful, u16, usize, RefT, now, sliceVal, MutSlice, ShrSlice, Room, finally, slice-vals, mut-slice-tells, plain, only, nothing, owned, facts, peeks, heard}
-use Rattle.pair_table.proofs.Walk.{Contract, Triple, calls-at, ensured, lasts, Vals, onEntry, Meets, tripleOf, entered, cited, says, Stays, gave-slice, stay-none, walkOf, Walks, ends-at, walked, goes-gave-slice, goes-none, walk-meets, yes}
+use Rattle.walks.specs.Walk.{_≡_, refl, _∙_, ap, subst, ℕ, _<_, _^_, List, [], _∷_, length, URA, fullShare, named, w16, w64, tyInt, Val, vint, SProp, ent, sep, emp, fst∗, id⊢, via, snd∗, exE, Lft, GName, Share, Fml, ftrue, fsep, fat, flft}
+use Rattle.walks.specs.Walk.{Memory, Routine, Heap, Calls, Loops, WpFn, Tables, Atoms, sem, Fun, fact, givenOf, tables, tablesOf, Given, ‵, raw, some, later, _⊛_, ⋆, _$_, _∵_, !, qed, by, move, keep, drop, use0, use1, use2, split, join, pick, await, rewrite, fsplit, fjoin, feqL, suffices, frame, done}
+use Rattle.walks.specs.Walk.{whole, sub, look-in, agg, look, init, forget, stop, hop, fld, from, load, addr, and-then, no-more, assigns, land, returns, enter, alloc1, alloc0, params1, pass1, pass0, free1, free0, lft-new, lft-end, WpFn-mono, FmC, fmOf}
+use Rattle.walks.specs.Walk.{RattleType, owns, Is, shows, uint-vals, uint-tells, uint-makes, uint-lawful, u16, usize, RefT, now, sliceVal, MutSlice, ShrSlice, Room, finally, slice-vals, mut-slice-tells, plain, only, nothing, owned, facts, peeks, heard}
+use Rattle.walks.specs.Walk.{Contract, Triple, calls-at, ensured, lasts, Vals, onEntry, Meets, tripleOf, entered, cited, says, Stays, gave-slice, stay-none, walkOf, Walks, ends-at, walked, goes-gave-slice, goes-none, walk-meets, yes}
 use denote.Struct.Laws as LL
 use denote.Enum.Laws as NL
-use Rattle.pair_table.specs.Table.{findOf, putIn, outcomeOf}
+use Rattle.pair_search.specs.Records.{findOf}
+use Rattle.pair_table.specs.Table.{putIn, outcomeOf}
 use Rattle.pair_table.specs.Enter.{outcome-is, put-is}
-use Rattle.pair_table.specs.declared.Pair.{Pair}
+use Rattle.pair_search.specs.declared.Pair.{Pair}
 use Rattle.pair_table.specs.declared.Entered.{Entered}
-use Rattle.pair_table.proofs.Shared.{LentShared, lends-shared, shared-back}
-use Rattle.pair_table.proofs.Pair as P
-use Rattle.pair_table.proofs.Pair.Laws as P′
+use Rattle.walks.specs.Shared.{LentShared, lends-shared, shared-back}
+use Rattle.pair_search.proofs.Pair as P
+use Rattle.pair_search.proofs.Pair.Laws as P′
 use Rattle.pair_table.proofs.Entered as N
 use Rattle.pair_table.proofs.Entered.Laws as N′
-use Rattle.pair_table.proofs.find as find′
-use Rattle.pair_table.proofs.find.Symbol as find-def
-use Rattle.pair_table.proofs.find.Symbol.{name as #find}
-use Rattle.pair_table.proofs.find.Met as find-thm
+use Rattle.pair_search.proofs.find as find′
+use Rattle.pair_search.proofs.find.Symbol as find-def
+use Rattle.pair_search.proofs.find.Symbol.{name as #find}
+use Rattle.pair_search.proofs.find.Met as find-thm
 use Rattle.pair_table.proofs.put_in as put′
 use Rattle.pair_table.proofs.put_in.Symbol as put-def
 use Rattle.pair_table.proofs.put_in.Symbol.{name as #put-in}
@@ -200,6 +201,6 @@ enter-spec 𝓤 H 𝓜 𝓖 𝓡 =
     entered 𝓤 H (tripleOf 𝓤 H (𝓖 .A) f.signature (f.spec 𝓤 H (𝓖 .A) (𝓜 .mem) (𝓡 .run)))
     (tables 𝓤 H 𝓜 𝓡 code.env .C) (tables 𝓤 H 𝓜 𝓡 code.env .Λ) #enter code.function (code.unfolded 𝓤 H 𝓜 𝓡)
     (enter-meets 𝓤 H (𝓖 .A) (givenOf 𝓤 H 𝓜 𝓖) (𝓜 .mem) (𝓡 .run) (tablesOf 𝓤 H 𝓜 (tables 𝓤 H 𝓜 𝓡 code.env))
-    (cited 𝓤 H (Find 𝓤 H (𝓖 .A) (𝓜 .mem) (𝓡 .run)) 𝓜 𝓡 code.env #find find-def.routine code.calls-pair-table·find (find-thm.met 𝓤 H 𝓜 𝓖 𝓡))
+    (cited 𝓤 H (Find 𝓤 H (𝓖 .A) (𝓜 .mem) (𝓡 .run)) 𝓜 𝓡 code.env #find find-def.routine code.calls-pair-search·find (find-thm.met 𝓤 H 𝓜 𝓖 𝓡))
     (cited 𝓤 H (PutIn 𝓤 H (𝓖 .A) (𝓜 .mem) (𝓡 .run)) 𝓜 𝓡 code.env #put-in put-def.routine code.calls-pair-table·put-in (put-thm.met 𝓤 H 𝓜 𝓖 𝓡))
     (cited 𝓤 H (Outcome 𝓤 H (𝓖 .A) (𝓜 .mem) (𝓡 .run)) 𝓜 𝓡 code.env #outcome out-def.routine code.calls-pair-table·outcome (out-thm.met 𝓤 H 𝓜 𝓖 𝓡)))

@@ -1,22 +1,23 @@
 -- `pair_table::put_in` meets its contract: a walk of its MIR, by hand, with a branch whose arms meet. The rest of the body after the branch is walked once (`leaves`).
 -- Assumes nothing.
-use Rattle.pair_table.proofs.Walk.{_≡_, refl, sym, _∙_, ap, subst, ℕ, _<_, _^_, Bool, true, false, List, [], _∷_, length, set, length-set, T, ltb, ltb→lt, URA, fullShare}
-use Rattle.pair_table.proofs.Walk.{Ty, named, mut, w64, tyInt, tyBool, tyPtr, tyRef, Val, vint, vptr, vbool, SProp, ent, emp, fst∗, id⊢, via, snd∗, exE, Lft, GName, Share, Fml, ftrue, fsep, fat, froom, fdies, flft, fobs, fbor}
-use Rattle.pair_table.proofs.Walk.{Memory, Routine, Heap, Calls, Loops, Env, WpFn, Tables, Atoms, sem, Fun, fact, givenOf, tables, tablesOf, FmC, fmOf, Given, Item, ‵, raw, some, later, _⊛_, ⋆, atRet, runs, Sq, _$_, _∵_, !, qed, by, move, drop, use0, use1, split, join, pick, await, rewrite, fsplit, fjoin, suffices, frame, done}
-use Rattle.pair_table.proofs.Walk.{whole, sub, look-in, look, store-raw, init, forget, stop, hop, fld, from, load, lit, of-opd, bin, and-then, no-more, land, assigns, assigns-last, first, branches, skips, exec, returns, enter, alloc1, alloc0, params1, pass1, pass0, free1, free0, WpFn-mono}
-use Rattle.pair_table.proofs.Walk.{RattleType, owns, pureI, Is, shows, pointee, uint-vals, uint-tells, uint-makes, uint-lawful, usize, RefT, now, sliceTy, sliceVal, MutSlice, heres, Room, slice-vals, mut-slice-tells, at-slice, codedHoleys, Held, place-is, elem-out, elem-put, opens-slice, closes-slice, plain, only, nothing, owned, facts, heard}
-use Rattle.pair_table.proofs.Walk.{Contract, Triple, calls-at, ensured, lasts, Vals, onEntry, Meets, tripleOf, entered, cited, says, Stays, stay-slice, stay-none, walkOf, Walks, ends-at, walked, goes-slice, goes-none, walk-meets, yes}
+use Rattle.walks.specs.Walk.{_≡_, refl, sym, _∙_, ap, subst, ℕ, _<_, _^_, Bool, true, false, List, [], _∷_, length, set, length-set, T, ltb, ltb→lt, URA, fullShare}
+use Rattle.walks.specs.Walk.{Ty, named, mut, w64, tyInt, tyBool, tyPtr, tyRef, Val, vint, vptr, vbool, SProp, ent, emp, fst∗, id⊢, via, snd∗, exE, Lft, GName, Share, Fml, ftrue, fsep, fat, froom, fdies, flft, fobs, fbor}
+use Rattle.walks.specs.Walk.{Memory, Routine, Heap, Calls, Loops, Env, WpFn, Tables, Atoms, sem, Fun, fact, givenOf, tables, tablesOf, FmC, fmOf, Given, Item, ‵, raw, some, later, _⊛_, ⋆, atRet, runs, Sq, _$_, _∵_, !, qed, by, move, drop, use0, use1, split, join, pick, await, rewrite, fsplit, fjoin, suffices, frame, done}
+use Rattle.walks.specs.Walk.{whole, sub, look-in, look, store-raw, init, forget, stop, hop, fld, from, load, lit, of-opd, bin, and-then, no-more, land, assigns, assigns-last, first, branches, skips, exec, returns, enter, alloc1, alloc0, params1, pass1, pass0, free1, free0, WpFn-mono}
+use Rattle.walks.specs.Walk.{RattleType, owns, pureI, Is, shows, pointee, uint-vals, uint-tells, uint-makes, uint-lawful, usize, RefT, now, sliceTy, sliceVal, MutSlice, heres, Room, slice-vals, mut-slice-tells, at-slice, codedHoleys, Held, place-is, elem-out, elem-put, opens-slice, closes-slice, plain, only, nothing, owned, facts, heard}
+use Rattle.walks.specs.Walk.{Contract, Triple, calls-at, ensured, lasts, Vals, onEntry, Meets, tripleOf, entered, cited, says, Stays, stay-slice, stay-none, walkOf, Walks, ends-at, walked, goes-slice, goes-none, walk-meets, yes}
 use Prim.Native.Nat.{min}
 use native.Mathlib.Nat.{min-le-right}
 use denote.Struct.Laws as LL
 use Rattle.spec.specs.Bytes.{pick as choose}
 use Rattle.spec.specs.Graph.{PAIRS}
-use Rattle.pair_table.specs.Table.{none, hasRoom, putIn}
-use Rattle.pair_table.specs.Lists.{is-true, is-false}
-use Rattle.pair_table.specs.declared.Pair.{Pair}
-use Rattle.pair_table.proofs.Numbers.{offset-fits, lt-le}
-use Rattle.pair_table.proofs.Pair as P
-use Rattle.pair_table.proofs.Pair.Laws as P′
+use Rattle.pair_search.specs.Records.{none}
+use Rattle.pair_table.specs.Table.{hasRoom, putIn}
+use Rattle.pair_search.specs.Lists.{is-true, is-false}
+use Rattle.pair_search.specs.declared.Pair.{Pair}
+use Rattle.walks.specs.Numbers.{offset-fits, lt-le}
+use Rattle.pair_search.proofs.Pair as P
+use Rattle.pair_search.proofs.Pair.Laws as P′
 use Rattle.pair_table.proofs.room as room′
 use Rattle.pair_table.proofs.room.Symbol as room-def
 use Rattle.pair_table.proofs.room.Symbol.{name as #room}

@@ -1,8 +1,8 @@
 use Rattle.arrays.specs.Arrays.{qualityIn}
 use Rattle.quality.specs.Aligned.{bestFrom, bestAligned}
 use Rattle.quality.specs.Offers.{best-first, best-last, best-next}
-use Rattle.actions.specs.Remaining.{listFrom}
-use Rattle.actions.specs.SeekLaws.{found-stands, found-fewer}
+use Rattle.enumeration.specs.Remaining.{listFrom}
+use Rattle.enumeration.specs.SeekLaws.{found-stands, found-fewer}
 use Rattle.spec.specs.Image.{tablesOf}
 use mathlib.Core.Path.{_≡_, sym, _∙_}
 use lib.ListN.{length}

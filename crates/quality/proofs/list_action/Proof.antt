@@ -2,7 +2,7 @@ use Rattle.arrays.specs.Arrays.{termIn}
 use Rattle.quality.specs.Sums.{Listed, listed-more, listed-all, many-runs}
 use Rattle.quality.specs.Runs.{runsOf}
 use Rattle.laws.specs.Buffers.{filled-none}
-use Rattle.actions.specs.Remaining.{actionAt}
+use Rattle.actions.specs.Place.{actionAt}
 use Rattle.spec.specs.Image.{tablesOf}
 use Prim.Native.Nat.{_-_}
 use native.Mathlib.Omega.{arith}

@@ -1,6 +1,6 @@
 use Rattle.arrays.specs.Arrays.{qualityIn}
 use Rattle.quality.specs.Sums.{Summed, summed-none, summed-more, summed-all}
-use Rattle.actions.specs.Remaining.{actionAt}
+use Rattle.actions.specs.Place.{actionAt}
 use Rattle.spec.specs.Image.{tablesOf}
 use Prim.Native.Nat.{_-_}
 use native.Mathlib.Omega.{arith}

@@ -3,7 +3,7 @@ use Rattle.spec.specs.Round.{ofAction, turnOf}
 use Rattle.lgg.specs.TurnPlaces.{turn-placed}
 use Rattle.query.specs.Settings.{limitsOf}
 use Rattle.image.specs.Loaded.{operations-many, classes-many}
-use Rattle.actions.specs.Remaining.{actionAt}
+use Rattle.actions.specs.Place.{actionAt}
 use Rattle.arrays.specs.Arrays.{qualityIn, termIn}
 use Rattle.terms.specs.Buffers.{countIn}
 use Rattle.quality.specs.Runs.{runsOver}

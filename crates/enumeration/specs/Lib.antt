@@ -1,0 +1,4 @@
+pub mod Itself
+pub mod Remaining
+pub mod Seek
+pub mod SeekLaws

@@ -1,0 +1,4 @@
+pub mod Code
+pub mod Lists
+pub mod Records
+pub mod Search

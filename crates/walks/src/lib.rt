@@ -1,0 +1,1 @@
+// what the proofs that walk a function's MIR by hand share: see specs/
