@@ -7,8 +7,7 @@ use Prim.Native.Nat.{ℕ, zero, suc, _+_, _*_, _≤_, _<_}
 use native.Mathlib.Nat.{not-suc-le-zero, eq-or-lt-of-le}
 use native.Mathlib.Omega.{arith}
 use lib.Dec.{ltb}
-use lib.ListN.{length, getD, set, replicate, getD-replicate}
-use lib.Seq.{set-getD}
+use lib.ListN.{length, getD, replicate, getD-replicate}
 use Rattle.spec.specs.Bytes.{both, Two}
 use Rattle.spec.specs.Image.{Tables}
 use Rattle.laws.specs.Valid.{Valid}
@@ -17,33 +16,14 @@ use Rattle.arrays.specs.Arrays.{given}
 use Rattle.arrays.specs.ArrayLaws.{given-other, given-size, given-mass, given-term}
 use Rattle.settling.specs.Settling.{liveIn, settledAt, settled, Ends}
 use Rattle.settling.specs.SettleLaws.{settled-length, settled-new}
+use Rattle.visits.specs.Visiting.{Idle}
 use Rattle.rounds.specs.Graphs.{InRange}
 
--- what the round gives pair k is what it has
-abbrev pub Idle : List ℕ → ℕ → Type 0
-Idle pairs k = (getD pairs (6 * k + 3) 0 ≡ getD pairs (6 * k) 0) × (getD pairs (6 * k + 4) 0 ≡ getD pairs (6 * k + 1) 0) × (getD pairs (6 * k + 5) 0 ≡ getD pairs (6 * k + 2) 0)
-
--- so it is for every pair of ps from k on that is not live
+-- every pair of ps from k on that is not live has what the round gives it
 abbrev pub Idles : List Two → List ℕ → List ℕ → List ℕ → ℕ → Type 0
 Idles ps pairs llive rlive k = (j : ℕ) → k ≤ j → j < length ps → liveIn llive rlive (getD ps j (0, 0)) ≡ false → Idle pairs j
 
 -- ---- one pair
--- to give what is there changes nothing
-given-same : (pairs : List ℕ) (i : ℕ) → given pairs i (getD pairs i 0) (getD pairs (i + 1) 0) (getD pairs (i + 2) 0) ≡ pairs
-unfolding given
-given-same pairs i =
-    ap (λ (l : List ℕ). set (set l (i + 1) (getD pairs (i + 1) 0)) (i + 2) (getD pairs (i + 2) 0)) (set-getD pairs i 0)
-    ∙ ap (λ (l : List ℕ). set l (i + 2) (getD pairs (i + 2) 0)) (set-getD pairs (i + 1) 0)
-    ∙ set-getD pairs (i + 2) 0
-
-pub idle-given : (pairs : List ℕ) (k : ℕ) → Idle pairs k → pairs ≡ given pairs (6 * k + 3) (getD pairs (6 * k) 0) (getD pairs (6 * k + 1) 0) (getD pairs (6 * k + 2) 0)
-idle-given pairs k (a, b, c) =
-    let x : 6 * k + 3 + 1 ≡ 6 * k + 4 = omega arith in
-    let y : 6 * k + 3 + 2 ≡ 6 * k + 5 = omega arith in
-    let b′ : getD pairs (6 * k + 3 + 1) 0 ≡ getD pairs (6 * k + 1) 0 = ap (λ (i : ℕ). getD pairs i 0) x ∙ b in
-    let c′ : getD pairs (6 * k + 3 + 2) 0 ≡ getD pairs (6 * k + 2) 0 = ap (λ (i : ℕ). getD pairs i 0) y ∙ c in
-    sym (given-same pairs (6 * k + 3)) ∙ (λ i. given pairs (6 * k + 3) (a i) (b′ i) (c′ i))
-
 pub idle-here : (ps : List Two) (pairs llive rlive : List ℕ) (k : ℕ) → Idles ps pairs llive rlive k → k < length ps → (p : Two) → p ≡ getD ps k (0, 0) → liveIn llive rlive p ≡ false → Idle pairs k
 idle-here ps pairs llive rlive k I h p is e = I k (omega arith) h (ap (liveIn llive rlive) (sym is) ∙ e)
 

@@ -2,5 +2,4 @@ pub mod Graphs
 pub mod Spending
 pub mod Idling
 pub mod Turning
-pub mod TakeLaws
 pub mod Running

@@ -9,8 +9,8 @@ use lib.ListN.{length, getD, take}
 use lib.Seq.{take-suc, take-all}
 use Rattle.spec.specs.Bytes.{Limits, any, either, Two, Res, ok, refused, Checked, passed, cutShort}
 use Rattle.spec.specs.Image.{Tables}
-use Rattle.spec.specs.Pool.{Pool, Interned, interned}
-use Rattle.spec.specs.Round.{lookUp, Turn, changes, turnOf, choiceTerm, Terms}
+use Rattle.spec.specs.Pool.{Interned}
+use Rattle.spec.specs.Round.{lookUp, Turn, changes, turnOf, Terms}
 use Rattle.spec.specs.Run.{State}
 use Rattle.lgg.specs.Refusals.{choice-only}
 use Rattle.lgg.specs.PoolIntern.{Extends}
@@ -18,49 +18,19 @@ use Rattle.lgg.specs.PoolLimits.{choice-within}
 use Rattle.lgg.specs.TurnsFrom.{turns-length, turn-at, changedBy, changed-begin, changed-turn, changed-end, turnTerm, RoundAt, round-begin, round-cut, round-turn, round-refused, round-end}
 use Rattle.lgg.specs.RoundsFrom.{turnsAt, roundAt}
 use Rattle.lgg.specs.Standing.{Midway, midway-begin, turn-midway, Standing}
-use Rattle.arrays.specs.Arrays.{NEW, qualitiesFrom, termsFrom, qualitiesIn, termsIn, given, numberIn, qualityIn, termIn}
+use Rattle.arrays.specs.Arrays.{NEW, qualitiesFrom, termsFrom, qualitiesIn, termsIn, qualityIn, termIn}
 use Rattle.arrays.specs.ArrayLaws.{given-length, qualities-more, terms-more, old-kept}
 use Rattle.terms.specs.Buffers.{poolOf, countIn}
 use Rattle.terms.specs.PoolLaws.{pool-length}
 use Rattle.terms.specs.Chains.{Holds}
 use Rattle.settling.specs.Settling.{liveIn}
 use Rattle.settling.specs.Quiet.{unturned, Quiet}
+use Rattle.visits.specs.Visiting.{turnIn, termMade}
+use Rattle.visits.specs.VisitLaws.{Moved}
 use Rattle.rounds.specs.Graphs.{Graphs, Reads, turn-here, choice-here, agree-quality, among}
-use Rattle.rounds.specs.Idling.{Idle, idle-given}
 use Rattle.budget.specs.declared.Budget.{Budget}
-use Rattle.rounds.specs.declared.Step.{Step}
-use Rattle.rounds.specs.declared.Step.the-variants as P
 use Rattle.rounds.specs.declared.Round.{Round}
 use Rattle.rounds.specs.declared.Round.the-variants as R
-
--- ---- one turn
--- the turn w of pair k, whose term is m: its new numbers, and whether it changes
-pub record Moved (w : Turn) (m : Res Interned) (k : ℕ) (pairs pairs′ terms′ runs′ : List ℕ) (c : Bool) : Type 0 where
-  pub made : Interned
-  pub is : m ≡ ok made
-  pub numbers : pairs′ ≡ given pairs (6 * k + 3) (w .quality .0) (w .quality .1) (made .term)
-  pub pool : poolOf terms′ runs′ ≡ made .pool
-  pub holds : Holds terms′ runs′
-  pub changed : c ≡ changes w
-
-abbrev pub Steps : Turn → Res Interned → ℕ → List ℕ → List ℕ → List ℕ → List ℕ → Step → Type 0
-Steps w m k pairs pairs′ terms′ runs′ (P.To c) = Moved w m k pairs pairs′ terms′ runs′ c
-Steps w m k pairs pairs′ terms′ runs′ P.Full = (n : ℕ) × (m ≡ refused n)
-
--- by what the turn answered
-module _ (w : Turn) (m : Res Interned) (k : ℕ) (pairs pairs′ terms′ runs′ : List ℕ) (r : Step) (X : Steps w m k pairs pairs′ terms′ runs′ r) where
-  pub steps-full : r ≡ P.Full → (n : ℕ) × (m ≡ refused n)
-  steps-full e = rw e at X
-
-  pub steps-to : (c : Bool) → r ≡ P.To c → Moved w m k pairs pairs′ terms′ runs′ c
-  steps-to c e = rw e at X
-
--- what the code reads for pair p's turn, and the term that it gives
-abbrev pub turnIn : Tables → ℕ → List ℕ → List ℕ → Two → Turn
-turnIn t w graph pairs p = turnOf t (qualityIn w graph pairs) p
-
-abbrev pub termMade : Limits → Tables → ℕ → List ℕ → List ℕ → Pool → Two → Res Interned
-termMade lim t w graph pairs pool p = choiceTerm lim t (termIn w graph pairs) pool (termIn w graph pairs p) (turnIn t w graph pairs p .choice)
 
 -- ---- a round
 -- the first k pairs of a round from state s have had their turn, and b checks are left; `whole` is what the round comes to
@@ -192,15 +162,3 @@ quiet-here lim t w ps n graph G k h p is s pairs R llive rlive Q e =
     ∙ ap (turnOf t (lookUp (0, 0) ps (s .qualities))) (sym is)
     ∙ Q p i e
     ∙ ap unturned (sym (agree-quality lim t w ps n graph G s pairs R p i))
-
-pub idle-moves : (lim : Limits) (t : Tables) (w : ℕ) (graph pairs : List ℕ) (p : Two) (k : ℕ) (terms runs : List ℕ) → numberIn w graph p ≡ k → turnIn t w graph pairs p ≡ unturned (qualityIn w graph pairs p) → Holds terms runs → Idle pairs k
-    → Moved (turnIn t w graph pairs p) (termMade lim t w graph pairs (poolOf terms runs) p) k pairs pairs terms runs false
-unfolding choiceTerm
-idle-moves lim t w graph pairs p k terms runs n e h idle = record {
-  made = interned (poolOf terms runs) (termIn w graph pairs p);
-  is = ap (λ (u : Turn). choiceTerm lim t (termIn w graph pairs) (poolOf terms runs) (termIn w graph pairs p) (u .choice)) e;
-  numbers = idle-given pairs k idle ∙ ap (λ (i : ℕ). given pairs (6 * k + 3) (getD pairs (6 * i) 0) (getD pairs (6 * i + 1) 0) (getD pairs (6 * i + 2) 0)) (sym n) ∙ ap (λ (u : Turn). given pairs (6 * k + 3) (u .quality .0) (u .quality .1) (termIn w graph pairs p)) (sym e);
-  pool = refl;
-  holds = h;
-  changed = ap changes (sym e);
-}

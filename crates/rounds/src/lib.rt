@@ -1,110 +1,39 @@
 // Rounds over the pairs of a graph, with the budget that starting terms left, and their listing (`run_in` of exact_fixed.rs).
 use arrays::MASS;
-use arrays::NEW;
 use arrays::TERM;
-use arrays::WIDTH;
 use budget::Budget;
 use image::Image;
 use outcome::Answer;
 use outcome::Outcome;
 use outcome::Ran;
 use query::Limits;
-use turn_term::Taken;
+use visits::Step;
 ghost use mathlib.Core.Path.{_≡_};
-ghost use mathlib.Core.Bool.{false};
-ghost use Prim.Native.Nat.{_+_, _*_, _≤_, _<_};
-ghost use lib.ListN.{length, getD};
+ghost use Prim.Native.Nat.{_*_, _≤_};
+ghost use lib.ListN.{length};
 ghost use Rattle.spec.specs.Image.{tablesOf};
 ghost use Rattle.laws.specs.Valid.{Valid};
 ghost use Rattle.image.specs.Loaded.{Loaded};
 ghost use Rattle.spec.specs.Bytes as bytes;
-ghost use Rattle.lgg.specs.Cells.{CellsFit};
 ghost use Rattle.lgg.specs.RoundsFrom.{roundAt, roundsOf};
 ghost use Rattle.lgg.specs.Standing.{Standing};
 ghost use Rattle.query.specs.Settings.{limitsOf};
-ghost use Rattle.arrays.specs.Arrays.{pairsIn, qualitiesIn, numberIn, qualityIn, Known, TermsBelow, Scratch};
-ghost use Rattle.terms.specs.Buffers.{countIn, poolOf};
+ghost use Rattle.arrays.specs.Arrays.{pairsIn, qualitiesIn, Scratch};
+ghost use Rattle.terms.specs.Buffers.{countIn};
 ghost use Rattle.terms.specs.Chains.{Holds, Rooms};
 ghost use Rattle.outcome.specs.Answers.{Answers, Cleared};
 ghost use Rattle.outcome.specs.Outcomes.{RanTo};
-ghost use Rattle.settling.specs.Settling.{liveIn};
-ghost use Rattle.settling.specs.Quiet.{unturned, Quiet};
+ghost use Rattle.settling.specs.Quiet.{Quiet};
 ghost use Rattle.rounds.specs.Graphs.{stateIn, Graphs};
-ghost use Rattle.rounds.specs.Idling.{Idle, Idles};
-ghost use Rattle.rounds.specs.Turning.{turnIn, termMade, Steps, Relaxes};
+ghost use Rattle.rounds.specs.Idling.{Idles};
+ghost use Rattle.rounds.specs.Turning.{Relaxes};
 ghost use Rattle.rounds.specs.Running.{reportedIn};
-
-// a pair's turn: whether it changed; or refusal 13
-enum Step {
-    To(bool),
-    Full,
-}
 
 // a round: whether a pair changed, with the budget left; cut short; refusal 13
 enum Round {
     Finished(bool, Budget),
     Cut,
     Full,
-}
-
-// ---- a pair's turn
-// pair k's turn over the previous round: its new size, mass and term
-fn take_one(
-    lim: Limits,
-    s: &[u8],
-    im: Image,
-    graph: &[u16],
-    l: usize,
-    r: usize,
-    k: usize,
-    pairs: &mut [u32],
-    work: &mut [u64],
-    flow: &mut [u64],
-    terms: &mut [u32],
-    runs: &mut [u64],
-) -> Step
-    requires { ⌜ Loaded (now s) im × Valid (tablesOf (now s)) × (l < im .classes) × (r < im .classes) × Known (im .classes) (now graph) (now pairs) × TermsBelow (im .classes) (now graph) (now pairs) (countIn (now terms)) × CellsFit (limitsOf lim) (tablesOf (now s)) (l, r) × Scratch (limitsOf lim) (now work) (now flow) × Holds (now terms) (now runs) × Rooms (limitsOf lim) (now terms) (now runs) × (k < 65536) × (6 * k + 6 ≤ length (now pairs)) ⌝ }
-    ensures { λ x. ⌜ Steps (turnIn (tablesOf (now (s .entry))) (im .classes) (now (graph .entry)) (now (pairs .entry)) (l, r)) (termMade (limitsOf lim) (tablesOf (now (s .entry))) (im .classes) (now (graph .entry)) (now (pairs .entry)) (poolOf (now (terms .entry)) (now (runs .entry))) (l, r)) k (now (pairs .entry)) (now (pairs .exit)) (now (terms .exit)) (now (runs .exit)) x ⌝ }
-{
-    let x = turns::take_turn(lim, s, im, graph, pairs, l, r, work, flow, terms, runs);
-    match x {
-        Taken::Full => {
-            return Step::Full;
-        }
-        Taken::To(y) => {
-            let term = numbers::short_size(y.term);
-            arrays::give(pairs, WIDTH * k + NEW, y.size, y.mass, term);
-            return Step::To(y.changed);
-        }
-    }
-}
-
-// pair k's turn; a pair that is not live keeps what it has, and the round gives it that already
-fn visit(
-    lim: Limits,
-    s: &[u8],
-    im: Image,
-    graph: &[u16],
-    l: usize,
-    r: usize,
-    k: usize,
-    llive: &[u8; 256],
-    rlive: &[u8; 256],
-    pairs: &mut [u32],
-    work: &mut [u64],
-    flow: &mut [u64],
-    terms: &mut [u32],
-    runs: &mut [u64],
-) -> Step
-    requires { ⌜ Loaded (now s) im × Valid (tablesOf (now s)) × (l < im .classes) × (r < im .classes) × Known (im .classes) (now graph) (now pairs) × TermsBelow (im .classes) (now graph) (now pairs) (countIn (now terms)) × CellsFit (limitsOf lim) (tablesOf (now s)) (l, r) × Scratch (limitsOf lim) (now work) (now flow) × Holds (now terms) (now runs) × Rooms (limitsOf lim) (now terms) (now runs) × (k < 65536) × (6 * k + 6 ≤ length (now pairs))
-        × (numberIn (im .classes) (now graph) (l, r) ≡ k) × (liveIn (now llive) (now rlive) (l, r) ≡ false → turnIn (tablesOf (now s)) (im .classes) (now graph) (now pairs) (l, r) ≡ unturned (qualityIn (im .classes) (now graph) (now pairs) (l, r)))
-        × (liveIn (now llive) (now rlive) (l, r) ≡ false → Idle (now pairs) k) ⌝ }
-    ensures { λ x. ⌜ Steps (turnIn (tablesOf (now (s .entry))) (im .classes) (now (graph .entry)) (now (pairs .entry)) (l, r)) (termMade (limitsOf lim) (tablesOf (now (s .entry))) (im .classes) (now (graph .entry)) (now (pairs .entry)) (poolOf (now (terms .entry)) (now (runs .entry))) (l, r)) k (now (pairs .entry)) (now (pairs .exit)) (now (terms .exit)) (now (runs .exit)) x ⌝ }
-{
-    if settling::live(llive, rlive, l, r) {
-        return take_one(lim, s, im, graph, l, r, k, pairs, work, flow, terms, runs);
-    }
-    Step::To(false)
 }
 
 // ---- a round
@@ -150,7 +79,7 @@ fn relax_all(
         }
         let l = arrays::left_at(graph, w, k);
         let r = arrays::right_at(graph, w, k);
-        let x = visit(
+        let x = visits::visit(
             lim,
             s,
             im,

@@ -6,7 +6,8 @@ use Rattle.arrays.specs.Arrays.{pairsIn}
 use Rattle.arrays.specs.ArrayLaws.{unkeyed-length}
 use Rattle.rounds.specs.Graphs.{stateIn, Reads, graphs-length, pair-at, pair-ranged, known-here, terms-here, cells-fit, among, number-here}
 use Rattle.rounds.specs.Idling.{Idles, idle-here, idles-more}
-use Rattle.rounds.specs.Turning.{Turning, turning-none, steps-full, steps-to, turn-cut, turn-refused, turn-moved, quiet-here}
+use Rattle.visits.specs.VisitLaws.{visits-full, visits-to}
+use Rattle.rounds.specs.Turning.{Turning, turning-none, turn-cut, turn-refused, turn-moved, quiet-here}
 use Rattle.terms.specs.PoolLaws.{rooms-same}
 use Rattle.turns.specs.TurnLaws.{scratch-kept}
 use Rattle.rounds.specs.Spending.{expired, spent}
@@ -131,7 +132,7 @@ returns-2 c =
     let la = c .before .before .before .before .before .before .before .before .before .before .before .before .before .before .before .before .before .before .before .left-at in
     let ra = c .before .before .before .before .before .before .before .before .before .before .before .before .before .before .before .before .before .before .right-at in
     let p = pair-at (tablesOf (a .s .now)) (a .im .classes) (a .graph .now) (a .n) (l .k) h (la .result) (ra .result) (la .ensures .0) (ra .ensures .0) in
-    let z = steps-full _ _ _ _ _ _ _ (c .before .before .before .before .before .before .before .before .before .before .before .before .visit .result) (c .before .before .before .before .before .before .before .before .before .before .before .before .visit .ensures) (c .enum-told .given .1) in
+    let z = visits-full (c .before .before .before .before .before .before .before .before .before .before .before .before .visit .result) (c .before .before .before .before .before .before .before .before .before .before .before .before .visit .ensures) (c .enum-told .given .1) in
     turn-refused (limitsOf (a .lim)) (tablesOf (a .s .now)) (pairsIn (a .im .classes) (a .graph .now) (a .n)) (stateIn (a .pairs .now) (a .terms .now) (a .runs .now) (a .n) 0 0) (roundAt (limitsOf (a .lim)) (tablesOf (a .s .now)) (pairsIn (a .im .classes) (a .graph .now) (a .n)) (stateIn (a .pairs .now) (a .terms .now) (a .runs .now) (a .n) 0 0) (a .b .left)) (l .pairs) (l .terms) (l .runs) (l .k) (l .bud .left) (l .changed) (omega (arith, n, h)) (l .inv .6) (a .im .classes) (a .graph .now) (graphs-length (limitsOf (a .lim)) (tablesOf (a .s .now)) (a .im .classes) (pairsIn (a .im .classes) (a .graph .now) (a .n)) (a .n) (a .graph .now) (b .pre .2)) (la .result, ra .result) p (c .before .before .before .before .before .before .before .before .before .before .before .before .before .before .before .before .before .before .before .before .before .before .before .spend .result .budget .left) (z .0) (spent (l .bud) (c .before .before .before .before .before .before .before .before .before .before .before .before .before .before .before .before .before .before .before .before .before .before .before .spend .result) (c .before .before .before .before .before .before .before .before .before .before .before .before .before .before .before .before .before .before .before .before .before .before .before .spend .ensures) (c .before .before .before .before .before .before .before .before .before .before .before .before .before .before .before .before .before .before .before .before .if1 .left)) (z .1)
 
 enum-known-x : tie.Need-enum-known-x Inv-loop μ-loop
@@ -157,7 +158,7 @@ loop-again c =
     let ra = c .before .before .before .before .before .before .before .before .before .before .before .before .before .before .before .before .before .before .before .before .right-at in
     let v = c .before .before .before .before .before .before .before .before .before .before .before .before .before .before .visit in
     let p = pair-at (tablesOf (a .s .now)) (a .im .classes) (a .graph .now) (a .n) (l .k) h (la .result) (ra .result) (la .ensures .0) (ra .ensures .0) in
-    let z = steps-to _ _ _ _ _ _ _ (v .result) (v .ensures) _ (c .before .before .x .given .1) in (
+    let z = visits-to (v .result) (v .ensures) _ (c .before .before .x .given .1) in (
       omega (arith, h),
       omega (arith, l .inv .1, v .kept),
       omega (arith, l .inv .2, v .kept),

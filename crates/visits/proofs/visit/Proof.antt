@@ -1,12 +1,14 @@
 use native.Mathlib.Omega.{arith}
 use mathlib.Core.Path.{sym, _∙_}
+use mathlib.Core.Bool.{true, false}
 use Rattle.spec.specs.Image.{tablesOf}
 use Rattle.query.specs.Settings.{limitsOf}
 use Rattle.image.specs.Loaded.{classes-many}
-use Rattle.rounds.specs.Turning.{idle-moves}
+use Rattle.settling.specs.Settling.{liveIn}
+use Rattle.visits.specs.VisitLaws.{idle-visits, visits-as}
 use borrow.Author.Needs.{needs}
-use Rattle.rounds.proofs.visit.Statement.{statement}
-use Rattle.rounds.proofs.visit.Tie as tie
+use Rattle.visits.proofs.visit.Statement.{statement}
+use Rattle.visits.proofs.visit.Tie as tie
 
 live-requires : tie.Need-live-requires
 live-requires c κs =
@@ -35,14 +37,16 @@ same-length-5 : tie.Need-same-length-5
 same-length-5 c = search needs
 
 returns : tie.Need-returns
-returns c = search needs
+returns c =
+    let a = c .before .before .before .before .before .before .before .before .before .before .before .before .before .before .before .before .before .before .before .before .before .before .before .before .before .args in
+    visits-as (liveIn (a .llive .now) (a .rlive .now) (a .l, a .r)) true (sym (c .before .before .before .before .before .before .before .before .before .before .before .before .before .before .before .before .before .live .ensures) ∙ c .before .before .before .before .before .before .before .before .before .before .before .before .before .before .before .before .if1 .taken) (c .before .before .before .before .before .before .before .before .before .before .take-one .ensures)
 
 returns-2 : tie.Need-returns-2
 returns-2 c =
     let b = c .before .before .before .before .before .before .before .before .before in
     let a = b .args in
     let e = sym (c .before .live .ensures) ∙ c .if1 .left in
-    idle-moves (limitsOf (a .lim)) (tablesOf (a .s .now)) (a .im .classes) (a .graph .now) (a .pairs .now) (a .l, a .r) (a .k) (a .terms .now) (a .runs .now) (b .pre .12) (b .pre .13 e) (b .pre .8) (b .pre .14 e)
+    visits-as (liveIn (a .llive .now) (a .rlive .now) (a .l, a .r)) false e (idle-visits (limitsOf (a .lim)) (tablesOf (a .s .now)) (a .im .classes) (a .graph .now) (a .pairs .now) (a .l, a .r) (a .k) (a .work .now) (a .flow .now) (a .terms .now) (a .runs .now) (b .pre .12) (b .pre .13 e) (b .pre .8) (b .pre .14 e))
 
 pub visit-spec : {M : Type 1} → statement M
 visit-spec =

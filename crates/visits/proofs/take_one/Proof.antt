@@ -2,10 +2,10 @@ use mathlib.Core.Path.{sym}
 use Rattle.spec.specs.Image.{tablesOf}
 use Rattle.query.specs.Settings.{limitsOf}
 use Rattle.image.specs.Loaded.{classes-many}
-use Rattle.rounds.specs.TakeLaws.{take-full, take-small, take-moves}
+use Rattle.visits.specs.VisitLaws.{take-full, take-small, take-moves}
 use borrow.Author.Needs.{needs}
-use Rattle.rounds.proofs.take_one.Statement.{statement}
-use Rattle.rounds.proofs.take_one.Tie as tie
+use Rattle.visits.proofs.take_one.Statement.{statement}
+use Rattle.visits.proofs.take_one.Tie as tie
 
 take-turn-requires : tie.Need-take-turn-requires
 take-turn-requires c κs =
@@ -34,7 +34,7 @@ returns : tie.Need-returns
 returns c =
     let a = c .before .before .before .before .before .before .before .before .before .before .before .before .before .before .before .before .before .before .before .before .before .before .before .args in
     let u = rw (c .enum-told .given .1) at (c .before .before .before .before .before .before .before .before .before .before .take-turn .ensures) in
-    take-full (limitsOf (a .lim)) (tablesOf (a .s .now)) (a .im .classes) (a .graph .now) (a .pairs .now) (a .l, a .r) (a .terms .now) (a .runs .now) _ _ (u .0)
+    take-full (limitsOf (a .lim)) (tablesOf (a .s .now)) (a .im .classes) (a .graph .now) (a .pairs .now) (a .l, a .r) (a .terms .now) (a .runs .now) _ _ (a .k) (a .work .now) (a .flow .now) _ _ (u .0) (u .1)
 
 enum-known-x : tie.Need-enum-known-x
 enum-known-x c = search needs
@@ -74,7 +74,7 @@ returns-2 : tie.Need-returns-2
 returns-2 c =
     let a = c .before .before .before .before .before .before .before .before .before .before .before .before .before .before .before .before .before .before .before .before .before .before .before .before .before .before .before .before .before .args in
     let u = rw (c .before .before .before .before .before .before .x .given .1) at (c .before .before .before .before .before .before .before .before .before .before .before .before .before .before .before .before .take-turn .ensures) in
-    take-moves (limitsOf (a .lim)) (tablesOf (a .s .now)) (a .im .classes) (a .graph .now) (a .pairs .now) (a .l, a .r) (a .terms .now) (a .runs .now) _ _ _ (u .0) (a .k) (c .before .before .before .before .short-size .result) _ (c .before .before .before .before .short-size .ensures) (c .before .before .give .ensures)
+    take-moves (limitsOf (a .lim)) (tablesOf (a .s .now)) (a .im .classes) (a .graph .now) (a .pairs .now) (a .l, a .r) (a .terms .now) (a .runs .now) _ _ _ (u .0) (a .k) (c .before .before .before .before .short-size .result) _ (a .work .now) (a .flow .now) _ _ (c .before .before .before .before .short-size .ensures) (c .before .before .give .ensures) (u .1)
 
 pub take-one-spec : {M : Type 1} → statement M
 take-one-spec =
