@@ -11,7 +11,7 @@ use Rattle.spec.specs.Round.{Turn, changes, turnOf, choiceTerm}
 use Rattle.arrays.specs.Arrays.{given, qualityIn, termIn}
 use Rattle.terms.specs.Buffers.{poolOf}
 use Rattle.interning.specs.Interning.{poolAfter}
-use Rattle.terms.specs.Growing.{Grows}
+use Rattle.interning.specs.Growing.{Grows}
 use Rattle.turn_term.specs.Taking as taking
 use Rattle.turn_term.specs.Taking.{termList}
 use Rattle.visits.specs.declared.Step.{Step}
