@@ -15,7 +15,8 @@ use Rattle.laws.specs.Valid.{Valid}
 use Rattle.laws.specs.AcceptedUses.{membersWithin}
 use Rattle.laws.specs.AcceptedTurns.{any-append}
 use Rattle.laws.specs.Scans.{part-slice}
-use Rattle.image.specs.Loaded.{Loaded, memberSpan, classes-many, members-many}
+use Rattle.image.specs.Loaded.{Loaded, classes-many, members-many}
+use Rattle.classes.specs.Spans.{memberSpan}
 use Rattle.image.specs.declared.Image.{Image}
 use Rattle.image.specs.declared.Span.{Span}
 use Rattle.ac_repr.specs.WalkLaws.{first-stop, first-more, first-end}

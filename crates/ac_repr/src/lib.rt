@@ -34,12 +34,12 @@ fn has_place(s: &[u8], im: Image, end: usize, op: usize, x: usize) -> bool
     ensures { λ r. ⌜ r ≡ hasPlace (tablesOf (now (s .entry))) end op x ⌝ }
 {
     if x < end {
-        return image::member_op(s, im, x) == op;
+        return members::member_op(s, im, x) == op;
     }
     if end < x {
         return false;
     }
-    image::identity(s, im, op) != Image::NO_IDENTITY
+    operations::identity(s, im, op) != Image::NO_IDENTITY
 }
 
 // The first place from x on that has a monomial; one past the end where there is none.
@@ -62,10 +62,10 @@ fn has_op(s: &[u8], im: Image, c: usize, op: usize) -> bool
     requires { ⌜ Loaded (now s) im × Valid (tablesOf (now s)) × (c < im .classes) ⌝ }
     ensures { λ r. ⌜ r ≡ any (λ m. eqb (m .op) op) (membersOf (tablesOf (now (s .entry))) c) ⌝ }
 {
-    let span = image::members_of(s, im, c);
+    let span = classes::members_of(s, im, c);
     let mut i = span.from;
     while i < span.to {
-        if image::member_op(s, im, i) == op {
+        if members::member_op(s, im, i) == op {
             return true;
         }
         i += 1;
@@ -77,7 +77,7 @@ fn is_ac_op(s: &[u8], im: Image, l: usize, r: usize, op: usize) -> bool
     requires { ⌜ Loaded (now s) im × Valid (tablesOf (now s)) × (l < im .classes) × (r < im .classes) × (op < im .operations) ⌝ }
     ensures { λ x. ⌜ x ≡ acOp (tablesOf (now (s .entry))) l r op ⌝ }
 {
-    if !id::is_ac(image::kind(s, im, op)) {
+    if !id::is_ac(operations::kind(s, im, op)) {
         return false;
     }
     if has_op(s, im, l, op) {
@@ -107,7 +107,7 @@ fn in_row(s: &[u8], im: Image, r: usize, op: usize, a: usize, b: usize) -> Step
     requires { ⌜ Loaded (now s) im × Valid (tablesOf (now s)) × (r < im .classes) × (op < im .operations) ⌝ }
     ensures { λ x. ⌜ InRow (tablesOf (now (s .entry))) r op a b x ⌝ }
 {
-    let right = image::members_of(s, im, r);
+    let right = classes::members_of(s, im, r);
     let y = next_place(s, im, right.to, op, b);
     if right.to < y {
         return Step::End;
@@ -120,12 +120,12 @@ fn in_rows(s: &[u8], im: Image, l: usize, r: usize, op: usize, x: usize) -> Step
     requires { ⌜ Loaded (now s) im × Valid (tablesOf (now s)) × (l < im .classes) × (r < im .classes) × (op < im .operations) ⌝ }
     ensures { λ y. ⌜ InOp (tablesOf (now (s .entry))) l r op (rows (tablesOf (now (s .entry))) l r op x) y ⌝ }
 {
-    let left = image::members_of(s, im, l);
+    let left = classes::members_of(s, im, l);
     let a = next_place(s, im, left.to, op, x);
     if left.to < a {
         return Step::End;
     }
-    let b = image::first_member(s, im, r);
+    let b = classes::first_member(s, im, r);
     in_row(s, im, r, op, a, b)
 }
 
@@ -134,7 +134,7 @@ fn in_op(s: &[u8], im: Image, l: usize, r: usize, w: Walk) -> Step
     requires { ⌜ Loaded (now s) im × Valid (tablesOf (now s)) × (l < im .classes) × (r < im .classes) × (w .op < im .operations) × (w .a < 131072) ⌝ }
     ensures { λ x. ⌜ InOp (tablesOf (now (s .entry))) l r (w .op) (under (tablesOf (now (s .entry))) l r w) x ⌝ }
 {
-    let left = image::members_of(s, im, l);
+    let left = classes::members_of(s, im, l);
     if has_place(s, im, left.to, w.op, w.a) {
         let x = in_row(s, im, r, w.op, w.a, w.b);
         match x {
@@ -155,7 +155,7 @@ fn from_op(s: &[u8], im: Image, l: usize, r: usize, o: usize) -> Step
     requires { ⌜ Loaded (now s) im × Valid (tablesOf (now s)) × (l < im .classes) × (r < im .classes) ⌝ }
     ensures { λ x. ⌜ Stepped (tablesOf (now (s .entry))) l r (walks (tablesOf (now (s .entry))) l r) (pairsFrom (tablesOf (now (s .entry))) l r o) x ⌝ }
 {
-    let from = image::first_member(s, im, l);
+    let from = classes::first_member(s, im, l);
     let mut i = next_op(s, im, l, r, o);
     while i < im.operations {
         let x = in_rows(s, im, l, r, i, from);
@@ -219,6 +219,6 @@ pub fn monomials(
 {
     let n = of_place(s, im, l, w.a, left);
     let m = of_place(s, im, r, w.b, right);
-    let id = image::identity(s, im, w.op);
+    let id = operations::identity(s, im, w.op);
     pad_pair(id, l, r, left, n, right, m)
 }

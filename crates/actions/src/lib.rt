@@ -7,10 +7,10 @@ ghost use Rattle.laws.specs.Valid.{Valid};
 ghost use Rattle.image.specs.Loaded.{Loaded};
 ghost use Rattle.actions.specs.Place.{Stands, actionAt, afterOf};
 use image::Image;
-use image::child_class;
-use image::child_count;
-use image::first_child;
-use image::member_op;
+use members::child_class;
+use members::child_count;
+use members::first_child;
+use members::member_op;
 
 // A place among the actions of two classes: a member of each by its number in the image, and how many of the two members' actions are past.
 pub struct State {

@@ -12,11 +12,11 @@ use id::LIT;
 use id::SPAIR;
 use id::is_ac;
 use image::Image;
-use image::child_class;
-use image::child_count;
-use image::first_child;
-use image::kind;
-use image::member_op;
+use members::child_class;
+use members::child_count;
+use members::first_child;
+use members::member_op;
+use operations::kind;
 
 // Both children of an SPair are one class.
 fn twins(s: &[u8], im: Image, m: usize) -> bool

@@ -2,10 +2,10 @@
 use budget::Budget;
 use graph::Built;
 use image::Image;
+use interning::Entered;
 use numbers::size_u16;
 use query::Limits;
 use query::Query;
-use interning::Entered;
 ghost use Prim.Native.Nat.{_+_, _*_, _≤_, _<_};
 ghost use lib.ListN.{length};
 ghost use Rattle.spec.specs.Image.{tablesOf};

@@ -7,15 +7,15 @@ ghost use Rattle.spec.specs.Bytes.{all};
 ghost use Rattle.spec.specs.Image.{BEST-SIZE, bestRight, bestSize, childrenOf, sizeOver, tablesOf, theClass, theMember};
 ghost use Rattle.laws.specs.Valid.{Children, Spans};
 ghost use Rattle.image.specs.Loaded.{Loaded, theChild};
+use classes::best_member;
+use classes::best_size;
+use classes::first_member;
+use classes::member_count;
 use image::Image;
-use image::best_member;
-use image::best_size;
-use image::child_class;
-use image::child_count;
-use image::child_times;
-use image::first_child;
-use image::first_member;
-use image::member_count;
+use members::child_class;
+use members::child_count;
+use members::child_times;
+use members::first_child;
 
 // count × best size of a child
 fn child_size(s: &[u8], im: Image, i: usize) -> u64

@@ -31,9 +31,9 @@ fn build_best_term(
     let mut waiting = [0u16; 256];
     let mut c = class;
     'outer: loop {
-        let m = image::best_member(s, im, c);
-        let k = image::first_child(s, im, m);
-        let n = image::child_count(s, im, m);
+        let m = classes::best_member(s, im, c);
+        let k = members::first_child(s, im, m);
+        let n = members::child_count(s, im, m);
         let mut i = 0;
         let t = 'inner: loop {
             if i >= n {
@@ -47,7 +47,7 @@ fn build_best_term(
                     }
                 }
             }
-            let d = image::child_class(s, im, k + i);
+            let d = members::child_class(s, im, k + i);
             if numbers::at_u16(best, d) == 0 {
                 numbers::put_u16(&mut waiting, d, c + 1);
                 c = d;

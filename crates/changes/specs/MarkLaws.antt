@@ -18,7 +18,8 @@ use Rattle.laws.specs.AcceptedUses.{membersWithin, childrenWithin}
 use Rattle.laws.specs.Scans.{part-slice, any-map, any-each}
 use Rattle.laws.specs.Buffers.{up-length, up-at, over, over-at}
 use Rattle.lgg.specs.Parts.{identityIn, identities, withItself, partsOf}
-use Rattle.image.specs.Loaded.{memberSpan, childSpan}
+use Rattle.classes.specs.Spans.{memberSpan}
+use Rattle.members.specs.Spans.{childSpan}
 use Rattle.image.specs.declared.Span.{Span}
 use Rattle.changes.specs.Marks.{markedIn, nonEmpty, liveOf}
 

@@ -7,7 +7,9 @@ use lib.ListN.{length}
 use Rattle.spec.specs.Image.{Tables, NO-IDENTITY, tablesOf, theClass, theMember, identityOf}
 use Rattle.laws.specs.Valid.{Valid}
 use Rattle.laws.specs.AcceptedUses.{membersWithin, childrenWithin, children-of}
-use Rattle.image.specs.Loaded.{Loaded, theChild, memberSpan, childSpan, operations-many, classes-many, members-many}
+use Rattle.image.specs.Loaded.{Loaded, theChild, operations-many, classes-many, members-many}
+use Rattle.classes.specs.Spans.{memberSpan}
+use Rattle.members.specs.Spans.{childSpan}
 use Rattle.image.specs.declared.Image.{Image}
 use Rattle.image.specs.declared.Span.{Span}
 

@@ -10,11 +10,11 @@ ghost use Rattle.laws.specs.Buffers.{over};
 ghost use Rattle.lgg.specs.Parts.{identities, identityIn, partsOf};
 ghost use Rattle.image.specs.Loaded.{Loaded};
 ghost use Rattle.changes.specs.Marks.{markedIn, nonEmpty, liveOf};
+use classes::members_of;
 use image::Image;
-use image::child_class;
-use image::children_of;
-use image::identity;
-use image::members_of;
+use members::child_class;
+use members::children_of;
+use operations::identity;
 
 fn marked(marks: &[u8], c: usize) -> bool
     requires { ⌜ c < length (now marks) ⌝ }

@@ -10,12 +10,12 @@ ghost use Rattle.image.specs.Loaded.{Loaded, theChild};
 use id::MSET;
 use id::arity_right;
 use image::Image;
-use image::child_class;
-use image::child_count;
-use image::child_times;
-use image::first_child;
-use image::kind;
-use image::member_op;
+use members::child_class;
+use members::child_count;
+use members::child_times;
+use members::first_child;
+use members::member_op;
+use operations::kind;
 
 // "class of the image, count (at least 1; only MSet may exceed 1)"
 fn child_right(s: &[u8], im: Image, k: usize, i: usize) -> bool

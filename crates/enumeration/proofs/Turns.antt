@@ -11,7 +11,8 @@ use Rattle.spec.specs.Bytes.{pick}
 use Rattle.spec.specs.Image.{Tables, tablesOf, theClass}
 use Rattle.laws.specs.Valid.{Valid}
 use Rattle.laws.specs.AcceptedUses.{membersWithin}
-use Rattle.image.specs.Loaded.{Loaded, memberSpan, classes-many, members-many}
+use Rattle.image.specs.Loaded.{Loaded, classes-many, members-many}
+use Rattle.classes.specs.Spans.{memberSpan}
 use Rattle.image.specs.declared.Image.{Image}
 use Rattle.image.specs.declared.Span.{Span}
 use Rattle.actions.specs.Place.{actionsAt}

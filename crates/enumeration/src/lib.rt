@@ -8,9 +8,9 @@ ghost use Rattle.image.specs.Loaded.{Loaded};
 ghost use Rattle.enumeration.specs.Seek.{startOf, seekOf, seekRightOf};
 use actions::State;
 use alignment::aligned;
+use classes::first_member;
+use classes::members_of;
 use image::Image;
-use image::first_member;
-use image::members_of;
 
 // The next action, or none.
 pub enum Sought {

@@ -56,11 +56,11 @@ fn start_size(s: &[u8], im: Image, l: usize, r: usize) -> u32
     requires { ⌜ Loaded (now s) im × Valid (tablesOf (now s)) × (l < im .classes) × (r < im .classes) ⌝ }
     ensures { λ x. ⌜ x ≡ startingQuality (tablesOf (now (s .entry))) (l, r) .0 ⌝ }
 {
-    let a = image::best_size(s, im, l);
+    let a = classes::best_size(s, im, l);
     if l == r {
         return short_u64(a);
     }
-    let b = image::best_size(s, im, r);
+    let b = classes::best_size(s, im, r);
     short_u64(a + b)
 }
 
@@ -71,8 +71,8 @@ fn start_mass(s: &[u8], im: Image, l: usize, r: usize) -> u32
     if l == r {
         return 0;
     }
-    let a = image::best_size(s, im, l);
-    let b = image::best_size(s, im, r);
+    let a = classes::best_size(s, im, l);
+    let b = classes::best_size(s, im, r);
     short_u64(a + b)
 }
 

@@ -4,11 +4,10 @@ use mathlib.Core.List.{List}
 use Prim.Native.Nat.{ℕ, _+_, _≤_}
 use lib.ListN.{length, getD}
 use Rattle.spec.specs.Bytes.{Two}
-use Rattle.spec.specs.Image.{Tables, Class, Member, tablesOf, operationCount, classCount, memberCount, childCount, classesFrom, membersFrom, childrenFrom, imageEnd}
+use Rattle.spec.specs.Image.{Tables, tablesOf, operationCount, classCount, memberCount, childCount, classesFrom, membersFrom, childrenFrom, imageEnd}
 use Rattle.laws.specs.Entries.{operations-length, classes-length, members-length, children-length}
 use Rattle.image.specs.Layout.{layoutOf}
 use Rattle.image.specs.declared.Image.{Image}
-use Rattle.image.specs.declared.Span.{Span}
 
 pub record Loaded (s : List ℕ) (im : Image) : Type 0 where
   pub operations : im .operations ≡ operationCount s
@@ -26,13 +25,6 @@ loaded s h = record { operations = refl; classes = refl; members = refl; childre
 -- entry k of the table of children: a class and its count
 abbrev pub theChild : Tables → ℕ → Two
 theChild t k = getD (t .children) k (0, 0)
-
--- the members of a class and the children of a member, by their numbers in the tables
-abbrev pub memberSpan : Class → Span
-memberSpan c = record { from = c .first; to = c .first + c .count }
-
-abbrev pub childSpan : Member → Span
-childSpan m = record { from = m .first; to = m .first + m .count }
 
 -- the struct's counts are the tables' lengths
 module _ (s : List ℕ) (im : Image) (l : Loaded s im) where

@@ -1,11 +1,9 @@
-// The image: its type with limits and entry widths as constants, and the readers of its four tables.
+// The image: its type with limits and entry widths as constants, where its tables start, and its big-endian numbers.
 ghost use mathlib.Core.Path.{_≡_};
-ghost use Prim.Native.Nat.{ℕ, _+_, _*_, _≤_, _<_};
-ghost use lib.ListN.{length, getD};
+ghost use Prim.Native.Nat.{_+_, _≤_, _<_};
+ghost use lib.ListN.{length};
 ghost use Rattle.spec.specs.Bytes as b;
-ghost use Rattle.spec.specs.Image.{tablesOf, theOperation, theClass, theMember};
 ghost use Rattle.image.specs.Layout.{layoutOf};
-ghost use Rattle.image.specs.Loaded.{Loaded, theChild, memberSpan, childSpan};
 use numbers::long_size;
 use numbers::size_u8;
 
@@ -43,8 +41,6 @@ impl Image {
     pub const CLASS_BYTES: usize = 10;
 
     pub const MEMBER_BYTES: usize = 10;
-
-    pub const CHILD_BYTES: usize = 6;
 
     pub const VERSION: u8 = 1;
 
@@ -89,123 +85,4 @@ pub fn be4(s: &[u8], at: usize) -> u64
     ensures { λ r. ⌜ (r ≡ b.be4 (now (s .entry)) at) × (r < 4294967296) ⌝ }
 {
     long_size(be2(s, at)) * 65536 + long_size(be2(s, at + 2))
-}
-
-// ---- an operation
-pub fn kind(s: &[u8], im: Image, o: usize) -> usize
-    requires { ⌜ Loaded (now s) im × (o < im .operations) ⌝ }
-    ensures { λ r. ⌜ (r ≡ theOperation (tablesOf (now (s .entry))) o .kind) × (r < 256) ⌝ }
-{
-    size_u8(s[Image::HEADER + o * Image::OPERATION_BYTES])
-}
-
-pub fn flag(s: &[u8], im: Image, o: usize) -> usize
-    requires { ⌜ Loaded (now s) im × (o < im .operations) ⌝ }
-    ensures { λ r. ⌜ (r ≡ theOperation (tablesOf (now (s .entry))) o .flag) × (r < 256) ⌝ }
-{
-    size_u8(s[Image::HEADER + o * Image::OPERATION_BYTES + 1])
-}
-
-// the class, or 65,535 for none
-pub fn identity(s: &[u8], im: Image, o: usize) -> usize
-    requires { ⌜ Loaded (now s) im × (o < im .operations) ⌝ }
-    ensures { λ r. ⌜ (r ≡ theOperation (tablesOf (now (s .entry))) o .identity) × (r < 65536) ⌝ }
-{
-    be2(s, Image::HEADER + o * Image::OPERATION_BYTES + 2)
-}
-
-// ---- a class
-pub fn first_member(s: &[u8], im: Image, c: usize) -> usize
-    requires { ⌜ Loaded (now s) im × (c < im .classes) ⌝ }
-    ensures { λ r. ⌜ (r ≡ theClass (tablesOf (now (s .entry))) c .first) × (r < 65536) ⌝ }
-{
-    be2(s, im.class0 + c * Image::CLASS_BYTES)
-}
-
-pub fn member_count(s: &[u8], im: Image, c: usize) -> usize
-    requires { ⌜ Loaded (now s) im × (c < im .classes) ⌝ }
-    ensures { λ r. ⌜ (r ≡ theClass (tablesOf (now (s .entry))) c .count) × (r < 65536) ⌝ }
-{
-    be2(s, im.class0 + c * Image::CLASS_BYTES + 2)
-}
-
-pub fn best_member(s: &[u8], im: Image, c: usize) -> usize
-    requires { ⌜ Loaded (now s) im × (c < im .classes) ⌝ }
-    ensures { λ r. ⌜ (r ≡ theClass (tablesOf (now (s .entry))) c .best) × (r < 65536) ⌝ }
-{
-    be2(s, im.class0 + c * Image::CLASS_BYTES + 4)
-}
-
-pub fn best_size(s: &[u8], im: Image, c: usize) -> u64
-    requires { ⌜ Loaded (now s) im × (c < im .classes) ⌝ }
-    ensures { λ r. ⌜ (r ≡ theClass (tablesOf (now (s .entry))) c .size) × (r < 4294967296) ⌝ }
-{
-    be4(s, im.class0 + c * Image::CLASS_BYTES + 6)
-}
-
-// ---- a member
-pub fn member_op(s: &[u8], im: Image, m: usize) -> usize
-    requires { ⌜ Loaded (now s) im × (m < im .members) ⌝ }
-    ensures { λ r. ⌜ (r ≡ theMember (tablesOf (now (s .entry))) m .op) × (r < 65536) ⌝ }
-{
-    be2(s, im.member0 + m * Image::MEMBER_BYTES)
-}
-
-pub fn member_value(s: &[u8], im: Image, m: usize) -> u64
-    requires { ⌜ Loaded (now s) im × (m < im .members) ⌝ }
-    ensures { λ r. ⌜ (r ≡ theMember (tablesOf (now (s .entry))) m .value) × (r < 4294967296) ⌝ }
-{
-    be4(s, im.member0 + m * Image::MEMBER_BYTES + 2)
-}
-
-pub fn first_child(s: &[u8], im: Image, m: usize) -> usize
-    requires { ⌜ Loaded (now s) im × (m < im .members) ⌝ }
-    ensures { λ r. ⌜ (r ≡ theMember (tablesOf (now (s .entry))) m .first) × (r < 65536) ⌝ }
-{
-    be2(s, im.member0 + m * Image::MEMBER_BYTES + 6)
-}
-
-pub fn child_count(s: &[u8], im: Image, m: usize) -> usize
-    requires { ⌜ Loaded (now s) im × (m < im .members) ⌝ }
-    ensures { λ r. ⌜ (r ≡ theMember (tablesOf (now (s .entry))) m .count) × (r < 65536) ⌝ }
-{
-    be2(s, im.member0 + m * Image::MEMBER_BYTES + 8)
-}
-
-// ---- a child
-pub fn child_class(s: &[u8], im: Image, k: usize) -> usize
-    requires { ⌜ Loaded (now s) im × (k < im .children) ⌝ }
-    ensures { λ r. ⌜ (r ≡ theChild (tablesOf (now (s .entry))) k .0) × (r < 65536) ⌝ }
-{
-    be2(s, im.child0 + k * Image::CHILD_BYTES)
-}
-
-pub fn child_times(s: &[u8], im: Image, k: usize) -> u64
-    requires { ⌜ Loaded (now s) im × (k < im .children) ⌝ }
-    ensures { λ r. ⌜ (r ≡ theChild (tablesOf (now (s .entry))) k .1) × (r < 4294967296) ⌝ }
-{
-    be4(s, im.child0 + k * Image::CHILD_BYTES + 2)
-}
-
-// ---- the members of a class, the children of a member
-pub fn members_of(s: &[u8], im: Image, c: usize) -> Span
-    requires { ⌜ Loaded (now s) im × (c < im .classes) ⌝ }
-    ensures { λ r. ⌜ (r ≡ memberSpan (theClass (tablesOf (now (s .entry))) c)) × (r .to < 131072) ⌝ }
-{
-    let from = first_member(s, im, c);
-    Span {
-        from: from,
-        to: from + member_count(s, im, c),
-    }
-}
-
-pub fn children_of(s: &[u8], im: Image, m: usize) -> Span
-    requires { ⌜ Loaded (now s) im × (m < im .members) ⌝ }
-    ensures { λ r. ⌜ (r ≡ childSpan (theMember (tablesOf (now (s .entry))) m)) × (r .to < 131072) ⌝ }
-{
-    let from = first_child(s, im, m);
-    Span {
-        from: from,
-        to: from + child_count(s, im, m),
-    }
 }

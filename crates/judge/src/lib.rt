@@ -62,7 +62,7 @@ fn end(im: Image) -> usize
     requires { ⌜ im .child0 + im .children * CHILD-BYTES < 2 ^ 63 ⌝ }
     ensures { λ r. ⌜ r ≡ im .child0 + im .children * CHILD-BYTES ⌝ }
 {
-    im.child0 + im.children * Image::CHILD_BYTES
+    im.child0 + im.children * members::CHILD_BYTES
 }
 
 // 6 to 10

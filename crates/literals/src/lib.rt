@@ -10,15 +10,15 @@ ghost use Rattle.laws.specs.AcceptedLiterals.{isLiteral};
 ghost use Rattle.image.specs.Loaded.{Loaded};
 ghost use Rattle.literals.specs.Doubled.{doubledAt};
 ghost use Rattle.literals.specs.Slots.{Marks, SLOTS, slotOf};
+use classes::first_member;
+use classes::member_count;
 use id::LIT;
 use image::Image;
-use image::first_member;
-use image::kind;
-use image::member_count;
-use image::member_op;
-use image::member_value;
+use members::member_op;
+use members::member_value;
 use numbers::put_u16;
 use numbers::size_u16;
+use operations::kind;
 
 // whether member m is the literal v of operation o
 fn is_literal(s: &[u8], im: Image, o: usize, v: u64, m: usize) -> bool

@@ -22,8 +22,8 @@ fn kept_run(s: &[u8], im: Image, best: &[u16], k: usize) -> u64
     requires { ⌜ Loaded (now s) im × (k < im .children) × (theChild (tablesOf (now s)) k .0 < length (now best)) × (0 < getD (now best) (theChild (tablesOf (now s)) k .0) 0) × (getD (now best) (theChild (tablesOf (now s)) k .0) 0 ≤ 16384) ⌝ }
     ensures { λ r. ⌜ (r ≡ keptNumber (now (best .entry)) (theChild (tablesOf (now (s .entry))) k)) × (r < 2 ^ 47) ⌝ }
 {
-    let c = image::child_class(s, im, k);
-    let n = image::child_times(s, im, k);
+    let c = members::child_class(s, im, k);
+    let n = members::child_times(s, im, k);
     n * 16384 + numbers::long_size(numbers::at_u16(best, c) - 1)
 }
 
@@ -69,8 +69,8 @@ fn op_term(
     ensures { λ r. ⌜ Gives (now (terms .entry)) (now (runs .entry)) (now (terms .exit)) (now (runs .exit)) (intern (limitsOf lim) (poolOf (now (terms .entry)) (now (runs .entry))) (opNode op (map (keptRun (now (best .entry))) (childrenOf (tablesOf (now (s .entry))) (theMember (tablesOf (now (s .entry))) m))))) r ⌝ }
 {
     let mut list = [0u64; 64];
-    let k = image::first_child(s, im, m);
-    let n = image::child_count(s, im, m);
+    let k = members::first_child(s, im, m);
+    let n = members::child_count(s, im, m);
     kept_runs(s, im, best, &mut list, k, n);
     let j = joining::join_runs(&mut list, n);
     interning::intern(lim, terms, runs, &list, j, numbers::short_size(op), 0)
@@ -89,10 +89,10 @@ pub fn member_term(
     requires { ⌜ Holds (now terms) (now runs) × Loaded (now s) im × (m < im .members) × (theMember (tablesOf (now s)) m .op < im .operations) × (im .operations ≤ 64) × MemberReady (tablesOf (now s)) (now best) (countIn (now terms)) m × Rooms (limitsOf lim) (now terms) (now runs) ⌝ }
     ensures { λ r. ⌜ Gives (now (terms .entry)) (now (runs .entry)) (now (terms .exit)) (now (runs .exit)) (intern (limitsOf lim) (poolOf (now (terms .entry)) (now (runs .entry))) (memberNode (tablesOf (now (s .entry))) (now (best .entry)) (theMember (tablesOf (now (s .entry))) m))) r ⌝ }
 {
-    let op = image::member_op(s, im, m);
-    let k = image::kind(s, im, op);
+    let op = members::member_op(s, im, m);
+    let k = operations::kind(s, im, op);
     if k == LIT {
-        let v = image::member_value(s, im, m);
+        let v = members::member_value(s, im, m);
         return lit_term(lim, terms, runs, op, v);
     }
     op_term(lim, s, im, terms, runs, best, m, op)

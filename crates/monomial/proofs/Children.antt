@@ -14,7 +14,9 @@ use Rattle.laws.specs.Monomials.{total-insert}
 use Rattle.laws.specs.Scans.{part-slice}
 use Rattle.laws.specs.Valid.{Valid}
 use Rattle.laws.specs.AcceptedUses.{childrenWithin, membersWithin}
-use Rattle.image.specs.Loaded.{Loaded, childSpan, memberSpan, members-many, children-many, classes-many}
+use Rattle.image.specs.Loaded.{Loaded, members-many, children-many, classes-many}
+use Rattle.classes.specs.Spans.{memberSpan}
+use Rattle.members.specs.Spans.{childSpan}
 use Rattle.image.specs.declared.Image.{Image}
 use Rattle.image.specs.declared.Span.{Span}
 use Rattle.monomial.specs.Terms.{terms, held, front, Holds, Roomy}

@@ -99,8 +99,8 @@ fn add_child(s: &[u8], im: Image, k: usize, mono: &mut [u64], n: usize) -> usize
     ensures { λ r. ⌜ Holds (insertAdd (theChild (tablesOf (now (s .entry))) k .0) (theChild (tablesOf (now (s .entry))) k .1) (held n (now (mono .entry)))) (now (mono .entry)) (now (mono .exit)) r
         × (theChild (tablesOf (now (s .entry))) k .1 < 4294967296) ⌝ }
 {
-    let c = long_size(image::child_class(s, im, k));
-    let times = image::child_times(s, im, k);
+    let c = long_size(members::child_class(s, im, k));
+    let times = members::child_times(s, im, k);
     add_class(mono, n, c, times)
 }
 
@@ -109,7 +109,7 @@ fn of_member(s: &[u8], im: Image, m: usize, mono: &mut [u64]) -> usize
     requires { ⌜ Loaded (now s) im × Valid (tablesOf (now s)) × (m < im .members) × (length (now mono) ≡ NUMBERS) ⌝ }
     ensures { λ r. ⌜ Made (monomial (childrenOf (tablesOf (now (s .entry))) (theMember (tablesOf (now (s .entry))) m))) (now (mono .entry)) (now (mono .exit)) r ⌝ }
 {
-    let span = image::children_of(s, im, m);
+    let span = members::children_of(s, im, m);
     let mut n = 0;
     let mut k = span.from;
     while k < span.to {
@@ -133,7 +133,7 @@ pub fn of_place(s: &[u8], im: Image, c: usize, x: usize, mono: &mut [u64]) -> us
     requires { ⌜ Loaded (now s) im × Valid (tablesOf (now s)) × (c < im .classes) × (length (now mono) ≡ NUMBERS) ⌝ }
     ensures { λ r. ⌜ Made (monomialAt (tablesOf (now (s .entry))) c x) (now (mono .entry)) (now (mono .exit)) r ⌝ }
 {
-    let span = image::members_of(s, im, c);
+    let span = classes::members_of(s, im, c);
     if x < span.to {
         return of_member(s, im, x, mono);
     }

@@ -9,9 +9,9 @@ ghost use Rattle.image.specs.Loaded.{Loaded};
 use id::is_ac;
 use id::is_commutative;
 use image::Image;
-use image::flag;
-use image::identity;
-use image::kind;
+use operations::flag;
+use operations::identity;
+use operations::kind;
 
 // "1 exactly for SPair, MSet, Set, else 0"
 fn flag_of(k: usize) -> usize

@@ -8,15 +8,15 @@ ghost use Rattle.spec.specs.Bytes.{all};
 ghost use Rattle.spec.specs.Image.{memberRight, membersIn, rises, spansFollow, spansRight, tablesOf, theClass, theMember};
 ghost use Rattle.laws.specs.Valid.{Follow, classSpans, memberSpans};
 ghost use Rattle.image.specs.Loaded.{Loaded};
+use classes::first_member;
+use classes::member_count;
 use id::LIT;
 use image::Image;
-use image::child_count;
-use image::first_child;
-use image::first_member;
-use image::kind;
-use image::member_count;
-use image::member_op;
-use image::member_value;
+use members::child_count;
+use members::first_child;
+use members::member_op;
+use members::member_value;
+use operations::kind;
 
 // "Spans follow one another without gaps and use up the tables": the members of the classes
 fn classes_follow(s: &[u8], im: Image) -> bool

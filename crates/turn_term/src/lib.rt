@@ -17,13 +17,13 @@ ghost use Rattle.action_term.specs.Results.{ActionResult};
 ghost use Rattle.turn_term.specs.Taking.{changedBy, Ended, Takes, termList};
 ghost use Rattle.turn_term.specs.Agreeing.{Agrees, Chosen};
 use image::Image;
+use interning::Entered;
 use numbers::short_size;
 use numbers::short_u64;
 use numbers::size_u32;
 use quality::Best;
 use quality::How;
 use query::Limits;
-use interning::Entered;
 
 // The term of operation o over the first m runs of the list.
 fn intern_action(
@@ -39,7 +39,7 @@ fn intern_action(
     requires { ⌜ Loaded (now s) im × (o < im .operations) × (o < 64) × Holds (now terms) (now runs) × ((m ≤ length (now list)) × RunsBelow (countIn (now terms)) (map unpack (part (now list) 0 m)) × (sum (part (now list) 0 m) < 2 ^ 64)) × Rooms (limitsOf lim) (now terms) (now runs) ⌝ }
     ensures { λ x. ⌜ ActionResult (limitsOf lim) (now (terms .entry)) (now (runs .entry)) (now (list .entry)) m o (isCommutative (kindOf (tablesOf (now (s .entry))) o)) (now (terms .exit)) (now (runs .exit)) (now (list .exit)) x ⌝ }
 {
-    let commutative = id::is_commutative(image::kind(s, im, o));
+    let commutative = id::is_commutative(operations::kind(s, im, o));
     action_term::intern_action_result(lim, terms, runs, list, m, short_size(o), commutative)
 }
 

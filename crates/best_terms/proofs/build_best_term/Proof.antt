@@ -14,10 +14,10 @@ use Rattle.best_terms.proofs.build_best_term.Statement.{statement}
 use Rattle.best_terms.proofs.build_best_term.Tie as tie
 use Rattle.best_terms.proofs.build_best_term.Reads as reads
 use Rattle.best_terms.proofs.build_best_term.Lts as lts
-use Rattle.image.proofs.best_member.Reads as best-member-reads
-use Rattle.image.proofs.child_class.Reads as child-class-reads
-use Rattle.image.proofs.child_count.Reads as child-count-reads
-use Rattle.image.proofs.first_child.Reads as first-child-reads
+use Rattle.classes.proofs.best_member.Reads as best-member-reads
+use Rattle.members.proofs.child_class.Reads as child-class-reads
+use Rattle.members.proofs.child_count.Reads as child-count-reads
+use Rattle.members.proofs.first_child.Reads as first-child-reads
 use Rattle.member_terms.proofs.member_term.Reads as member-term-reads
 use Rattle.numbers.proofs.at_u16.Reads as at-u16-reads
 use Rattle.numbers.proofs.put_u16.Reads as put-u16-reads

@@ -11,8 +11,8 @@ use Rattle.member_terms.proofs.kept_run.Statement.{statement}
 use Rattle.member_terms.proofs.kept_run.Tie as tie
 use Rattle.member_terms.proofs.kept_run.Reads as reads
 use Rattle.member_terms.proofs.kept_run.Lts as lts
-use Rattle.image.proofs.child_class.Reads as child-class-reads
-use Rattle.image.proofs.child_times.Reads as child-times-reads
+use Rattle.members.proofs.child_class.Reads as child-class-reads
+use Rattle.members.proofs.child_times.Reads as child-times-reads
 use Rattle.numbers.proofs.at_u16.Reads as at-u16-reads
 use Rattle.numbers.proofs.long_size.Reads as long-size-reads
 

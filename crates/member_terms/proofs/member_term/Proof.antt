@@ -7,9 +7,9 @@ use Rattle.member_terms.proofs.member_term.Statement.{statement}
 use Rattle.member_terms.proofs.member_term.Tie as tie
 use Rattle.member_terms.proofs.member_term.Reads as reads
 use Rattle.member_terms.proofs.member_term.Lts as lts
-use Rattle.image.proofs.kind.Reads as kind-reads
-use Rattle.image.proofs.member_op.Reads as member-op-reads
-use Rattle.image.proofs.member_value.Reads as member-value-reads
+use Rattle.operations.proofs.kind.Reads as kind-reads
+use Rattle.members.proofs.member_op.Reads as member-op-reads
+use Rattle.members.proofs.member_value.Reads as member-value-reads
 use Rattle.member_terms.proofs.lit_term.Reads as lit-term-reads
 use Rattle.member_terms.proofs.op_term.Reads as op-term-reads
 

@@ -13,8 +13,8 @@ use Rattle.member_terms.proofs.op_term.Statement.{statement}
 use Rattle.member_terms.proofs.op_term.Tie as tie
 use Rattle.member_terms.proofs.op_term.Reads as reads
 use Rattle.member_terms.proofs.op_term.Lts as lts
-use Rattle.image.proofs.child_count.Reads as child-count-reads
-use Rattle.image.proofs.first_child.Reads as first-child-reads
+use Rattle.members.proofs.child_count.Reads as child-count-reads
+use Rattle.members.proofs.first_child.Reads as first-child-reads
 use Rattle.member_terms.proofs.kept_runs.Reads as kept-runs-reads
 use Rattle.numbers.proofs.short_size.Reads as short-size-reads
 use Rattle.interning.proofs.intern.Reads as intern-reads
