@@ -12,7 +12,7 @@ ghost use Rattle.laws.specs.Valid.{Valid};
 ghost use Rattle.image.specs.Loaded.{Loaded};
 ghost use Rattle.query.specs.Settings.{limitsOf};
 ghost use Rattle.arrays.specs.Arrays.{pairsIn};
-ghost use Rattle.enumeration.specs.Remaining.{Stands, actionAt};
+ghost use Rattle.actions.specs.Place.{Stands, actionAt};
 ghost use Rattle.monomial.specs.Terms.{TERMS, NUMBERS, held};
 ghost use Rattle.ac_repr.specs.Walk.{actionsAt};
 ghost use Rattle.entering.specs.Growing.{AllSmall, Graph, Grows};

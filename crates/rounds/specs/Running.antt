@@ -25,19 +25,39 @@ use Rattle.terms.specs.PoolLaws.{pool-length}
 use Rattle.terms.specs.Chains.{Holds}
 use Rattle.outcome.specs.Outcomes.{RanTo}
 use Rattle.outcome.specs.declared.Outcome.{Outcome}
+use Rattle.outcome.specs.declared.Ran.{Ran}
 use Rattle.outcome.specs.declared.Ran.the-variants as R
 use Rattle.settling.specs.Settling.{settled, Ends}
 use Rattle.settling.specs.SettleLaws.{settled-length, settled-qualities, settled-terms}
 use Rattle.settling.specs.Quiet.{Quiet, quiet-after}
 use Rattle.budget.specs.declared.Budget.{Budget}
 use Rattle.rounds.specs.Graphs.{InRange, Reads, stateIn}
-use Rattle.rounds.specs.Turning.{Turning, Stays, Relaxes, relaxes-full, relaxes-cut, relaxes-finished, turns-done, turns-changed, turns-qualities}
+use Rattle.rounds.specs.Turning.{Turning, Stays, Relaxes, relaxes-finished, turns-done, turns-changed, turns-qualities}
+use Rattle.rounds.specs.declared.After.{After}
+use Rattle.rounds.specs.declared.After.the-variants as N
 use Rattle.rounds.specs.declared.Round.{Round}
 use Rattle.rounds.specs.declared.Round.the-variants as U
 
 -- the outcome that the arrays report
 abbrev pub reportedIn : List ℕ → Bool → ℕ → ℕ → Outcome
 reportedIn pairs complete n rounds = record { complete = complete; pairs = n; rounds = rounds; size = getD pairs 0 0; mass = getD pairs 1 0; root = getD pairs 2 0 }
+
+-- what follows a round: the next, with the budget left; or the run's end
+abbrev pub afterOf : Round → List ℕ → ℕ → ℕ → After
+afterOf U.Full pairs n rounds = N.Ended (R.Stopped 13)
+afterOf U.Cut pairs n rounds = N.Ended (R.Done (reportedIn pairs false n rounds))
+afterOf (U.Finished false b) pairs n rounds = N.Ended (R.Done (reportedIn pairs true n rounds))
+afterOf (U.Finished true b) pairs n rounds = N.Next b
+
+-- only a round that changed is followed by the next
+pub after-next : (x : Round) (pairs : List ℕ) (n rounds : ℕ) (y : After) → y ≡ afterOf x pairs n rounds → (b : Budget) → y ≡ N.Next b → x ≡ U.Finished true b
+after-next x pairs n rounds y e b q = go x (sym q ∙ e)
+  where
+    go : (x : Round) → N.Next b ≡ afterOf x pairs n rounds → x ≡ U.Finished true b
+    go U.Full z = absurd (let w : _≡_ {A = ℕ} 0 1 = cc in omega arith)
+    go U.Cut z = absurd (let w : _≡_ {A = ℕ} 0 1 = cc in omega arith)
+    go (U.Finished false d) z = absurd (let w : _≡_ {A = ℕ} 0 1 = cc in omega arith)
+    go (U.Finished true d) z = let w : d ≡ b = cc in ap (λ (u : Budget). U.Finished true u) w
 
 -- between two rounds over n pairs: b checks are left, and the rounds come to m
 pub record Running (lim : Limits) (t : Tables) (ps : List Two) (n : ℕ) (m : Res run.Outcome) (pairs terms runs : List ℕ) (rounds b : ℕ) : Type 0 where
@@ -97,21 +117,21 @@ module _ (lim : Limits) (t : Tables) (ps : List Two) (n : ℕ) (many : length ps
     run-cut pairs′ terms′ runs′ S = ends false pairs′ terms′ runs′ (X .rest ∙ rounds-cut lim t ps Here c left (S .is)) (S .reads) (S .holds) (S .grown) (S .within)
 
     module _ (pairs′ terms′ runs′ : List ℕ) (d : ℕ) (changed : Bool) (T : Turning lim t ps Read (roundAt lim t ps Read c) pairs′ terms′ runs′ (length ps) d changed) where
-      abbrev After : Terms
-      After = record { pool = poolOf terms′ runs′; terms = termsIn pairs′ NEW (length ps) }
+      abbrev Made : Terms
+      Made = record { pool = poolOf terms′ runs′; terms = termsIn pairs′ NEW (length ps) }
 
-      done : roundAt lim t ps Read c ≡ ok (passed After d)
+      done : roundAt lim t ps Read c ≡ ok (passed Made d)
       done = turns-done lim t ps Read (roundAt lim t ps Read c) pairs′ terms′ runs′ d changed T
 
       told : changed ≡ any changes (turnsAt t ps Read)
       told = turns-changed lim t ps Read (roundAt lim t ps Read c) pairs′ terms′ runs′ d changed T
 
       run-quiet : changed ≡ false → RanTo m marks terms′ runs′ (R.Done (reportedIn pairs′ true n rounds))
-      run-quiet q = ends true pairs′ terms′ runs′ (X .rest ∙ rounds-quiet lim t ps Here c left After d done (sym told ∙ q)) (T .reads) (T .holds) (T .midway .grown) (T .within)
+      run-quiet q = ends true pairs′ terms′ runs′ (X .rest ∙ rounds-quiet lim t ps Here c left Made d done (sym told ∙ q)) (T .reads) (T .holds) (T .midway .grown) (T .within)
 
       -- the checks of the round
       run-left : c ≡ length ps + d
-      run-left = rounds-left lim t ps c d Here After done
+      run-left = rounds-left lim t ps c d Here Made done
 
       -- what the round gave
       gave : qualitiesIn pairs′ NEW n ≡ map (λ w. w .quality) (turnsAt t ps Here)
@@ -125,11 +145,11 @@ module _ (lim : Limits) (t : Tables) (ps : List Two) (n : ℕ) (many : length ps
           let qs : qualitiesIn pairs″ 0 n ≡ map (λ w. w .quality) (turnsAt t ps Here) = ap (λ (l : List ℕ). qualitiesIn l 0 n) p ∙ settled-qualities pairs′ n long′ ∙ gave in
           let ts : termsIn pairs″ 0 n ≡ termsIn pairs′ NEW (length ps) = ap (λ (l : List ℕ). termsIn l 0 n) p ∙ settled-terms pairs′ n long′ ∙ ap (λ (i : ℕ). termsIn pairs′ NEW i) (sym many) in
           let one = add-one rounds in
-          let next : stateAfter Here (turnsAt t ps Here) After d ≡ stateIn pairs″ terms′ runs′ n (rounds + 1) d =
+          let next : stateAfter Here (turnsAt t ps Here) Made d ≡ stateIn pairs″ terms′ runs′ n (rounds + 1) d =
           λ i. record { pool = poolOf terms′ runs′; qualities = sym qs i; terms = sym ts i; rounds = sym one i; budget = d } in
           record {
-            rest = X .rest ∙ rounds-next lim t ps Here c left After d done (sym told ∙ q) ∙ ap (roundsOf lim t ps) next;
-            standing = rw (← next) (standing-next lim t ps Here (X .standing) closed c d After done);
+            rest = X .rest ∙ rounds-next lim t ps Here c left Made d done (sym told ∙ q) ∙ ap (roundsOf lim t ps) next;
+            standing = rw (← next) (standing-next lim t ps Here (X .standing) closed c d Made done);
             long = omega (arith, ap length p, settled-length pairs′ n, long′);
             holds = T .holds;
             within = T .within;
@@ -140,18 +160,18 @@ module _ (lim : Limits) (t : Tables) (ps : List Two) (n : ℕ) (many : length ps
   run-expired o q e = rw q (expires e)
 
   module _ (c : ℕ) (left : b ≡ c + 1) (pairs′ terms′ runs′ : List ℕ) (x : Round) (Y : Relaxes lim t ps Read (roundAt lim t ps Read c) pairs′ terms′ runs′ x) where
-    pub round-full : x ≡ U.Full → RanTo m marks terms′ runs′ (R.Stopped 13)
-    round-full e = run-refused c left terms′ runs′ (relaxes-full lim t ps Read (roundAt lim t ps Read c) pairs′ terms′ runs′ x Y e)
-
-    pub round-cut : x ≡ U.Cut → (o : Outcome) → o ≡ reportedIn pairs′ false n rounds → RanTo m marks terms′ runs′ (R.Done o)
-    round-cut e o q = rw q (run-cut c left pairs′ terms′ runs′ (relaxes-cut lim t ps Read (roundAt lim t ps Read c) pairs′ terms′ runs′ x Y e))
+    pub round-ended : (y : After) → y ≡ afterOf x pairs′ n rounds → (z : Ran) → y ≡ N.Ended z → RanTo m marks terms′ runs′ z
+    round-ended y e z q = go x Y (sym q ∙ e)
+      where
+        go : (x : Round) → Relaxes lim t ps Read (roundAt lim t ps Read c) pairs′ terms′ runs′ x → N.Ended z ≡ afterOf x pairs′ n rounds → RanTo m marks terms′ runs′ z
+        go U.Full S i = let w : z ≡ R.Stopped 13 = cc in rw w (run-refused c left terms′ runs′ S)
+        go U.Cut S i = let w : z ≡ R.Done (reportedIn pairs′ false n rounds) = cc in rw w (run-cut c left pairs′ terms′ runs′ S)
+        go (U.Finished false d) S i = let w : z ≡ R.Done (reportedIn pairs′ true n rounds) = cc in rw w (run-quiet c left pairs′ terms′ runs′ (d .left) false S refl)
+        go (U.Finished true d) S i = absurd (let w : _≡_ {A = ℕ} 0 1 = cc in omega arith)
 
     module _ (changed : Bool) (d : Budget) (e : x ≡ U.Finished changed d) where
       turned : Turning lim t ps Read (roundAt lim t ps Read c) pairs′ terms′ runs′ (length ps) (d .left) changed
       turned = relaxes-finished lim t ps Read (roundAt lim t ps Read c) pairs′ terms′ runs′ x Y changed d e
-
-      pub round-quiet : changed ≡ false → (o : Outcome) → o ≡ reportedIn pairs′ true n rounds → RanTo m marks terms′ runs′ (R.Done o)
-      round-quiet z o q = rw q (run-quiet c left pairs′ terms′ runs′ (d .left) changed turned z)
 
       pub round-left : c ≡ n + d .left
       round-left = omega (arith, run-left c left pairs′ terms′ runs′ (d .left) changed turned)

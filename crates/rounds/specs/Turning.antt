@@ -58,12 +58,6 @@ Relaxes lim t ps s whole pairs terms runs R.Full = whole ≡ refused 13
 
 -- by what the round answered
 module _ (lim : Limits) (t : Tables) (ps : List Two) (s : State) (whole : Res (Checked Terms)) (pairs terms runs : List ℕ) (r : Round) (X : Relaxes lim t ps s whole pairs terms runs r) where
-  pub relaxes-full : r ≡ R.Full → whole ≡ refused 13
-  relaxes-full e = rw e at X
-
-  pub relaxes-cut : r ≡ R.Cut → Stays lim ps s whole pairs terms runs
-  relaxes-cut e = rw e at X
-
   pub relaxes-finished : (c : Bool) (b : Budget) → r ≡ R.Finished c b → Turning lim t ps s whole pairs terms runs (length ps) (b .left) c
   relaxes-finished c b e = rw e at X
 

@@ -27,13 +27,19 @@ ghost use Rattle.settling.specs.Quiet.{Quiet};
 ghost use Rattle.rounds.specs.Graphs.{stateIn, Graphs};
 ghost use Rattle.rounds.specs.Idling.{Idles};
 ghost use Rattle.rounds.specs.Turning.{Relaxes};
-ghost use Rattle.rounds.specs.Running.{reportedIn};
+ghost use Rattle.rounds.specs.Running.{reportedIn, afterOf};
 
 // a round: whether a pair changed, with the budget left; cut short; refusal 13
 enum Round {
     Finished(bool, Budget),
     Cut,
     Full,
+}
+
+// after a round: the next, with the budget left; or the run's end
+enum After {
+    Next(Budget),
+    Ended(Ran),
 }
 
 // ---- a round
@@ -123,7 +129,28 @@ fn reported(pairs: &[u32], complete: bool, n: usize, rounds: u32) -> Outcome
     }
 }
 
-// "The run is complete at the first finished round without change." "The rounds reported are the finished ones that changed a quality."
+// "The run is complete at the first finished round without change."
+fn after_round(x: Round, pairs: &[u32], n: usize, rounds: u32) -> After
+    requires { ⌜ 6 ≤ length (now pairs) ⌝ }
+    ensures { λ y. ⌜ y ≡ afterOf x (now (pairs .entry)) n rounds ⌝ }
+{
+    match x {
+        Round::Full => {
+            return After::Ended(Ran::Stopped(13));
+        }
+        Round::Cut => {
+            return After::Ended(Ran::Done(reported(pairs, false, n, rounds)));
+        }
+        Round::Finished(changed, left) => {
+            if !changed {
+                return After::Ended(Ran::Done(reported(pairs, true, n, rounds)));
+            }
+            After::Next(left)
+        }
+    }
+}
+
+// "The rounds reported are the finished ones that changed a quality."
 fn relax(
     lim: Limits,
     s: &[u8],
@@ -165,17 +192,12 @@ fn relax(
             runs,
             rest,
         );
-        match x {
-            Round::Full => {
-                return Ran::Stopped(13);
+        let y = after_round(x, pairs, n, rounds);
+        match y {
+            After::Ended(z) => {
+                return z;
             }
-            Round::Cut => {
-                return Ran::Done(reported(pairs, false, n, rounds));
-            }
-            Round::Finished(changed, left) => {
-                if !changed {
-                    return Ran::Done(reported(pairs, true, n, rounds));
-                }
+            After::Next(left) => {
                 settling::end_round(s, im, graph, n, pairs, &mut llive, &mut rlive);
                 bud = left;
                 rounds += 1;

@@ -6,7 +6,7 @@ use lib.ListN.{length, take}
 use Rattle.spec.specs.Bytes.{Two}
 use Rattle.spec.specs.Image.{Tables}
 use Rattle.spec.specs.Round.{Choice, stay, act, Turn}
-use Rattle.enumeration.specs.Remaining.{Stands}
+use Rattle.actions.specs.Place.{Stands}
 use Rattle.quality.specs.Aligned.{actAt}
 use Rattle.quality.specs.Runs.{runsOver}
 use Rattle.quality.specs.declared.How.{How}

@@ -6,14 +6,15 @@ use Rattle.arrays.specs.Arrays.{pairsIn, qualitiesIn}
 use Rattle.settling.specs.Quiet.{Quiet, quiet-first}
 use Rattle.rounds.specs.Graphs.{stateIn}
 use Rattle.terms.specs.PoolLaws.{rooms-same}
-use Rattle.turns.specs.TurnLaws.{scratch-kept}
-use Rattle.rounds.specs.Spending.{was-false, was-true, expired, spent}
+use Rattle.turns.specs.Ending.{scratch-kept}
+use Rattle.rounds.specs.Spending.{expired, spent}
 use Rattle.rounds.specs.Idling.{Idles, idles-first, idles-after}
-use Rattle.rounds.specs.Running.{Running, standing-any, run-expired, round-full, round-cut, round-quiet, round-left, round-next, round-quiets}
+use Rattle.rounds.specs.Running.{Running, standing-any, after-next, run-expired, round-ended, round-left, round-next, round-quiets}
 use borrow.Author.Needs.{needs}
 use Prim.Native.Nat.{_≤_, _+_}
 use native.Mathlib.Omega.{arith}
 use mathlib.Core.Path.{_≡_, refl}
+use mathlib.Core.Bool.{true}
 use lib.ListN.{length}
 use Rattle.rounds.proofs.relax.Statement.{statement}
 use Rattle.rounds.proofs.relax.Tie as tie
@@ -68,139 +69,89 @@ relax-all-requires c κs =
     let l = c .before .before .before .before .before .before .before .before .before .before .before .loop in
     (b .pre .0, b .pre .1, b .pre .2, l .inv .6 .long, scratch-kept (b .pre .5) (l .inv .1) (l .inv .2), l .inv .6 .holds, rooms-same (l .inv .3) (l .inv .4) (b .pre .7), l .inv .6 .within, standing-any (tablesOf (a .s .now)) (pairsIn (a .im .classes) (a .graph .now) (a .n)) (l .pairs) (l .terms) (l .runs) (a .n) (l .rounds) (l .bud .left) 0 0 (l .inv .6 .standing), l .inv .7, l .inv .8)
 
-enum-told : tie.Need-enum-told Inv-loop μ-loop
-enum-told c = search needs
+after-round-requires : tie.Need-after-round-requires Inv-loop μ-loop
+after-round-requires c κs = omega (arith, c .before .before .before .before .before .before .before .before .before .before .before .before .before .before .before .before .before .before .before .before .before .before .before .loop .inv .6 .long, c .before .before .before .before .before .before .before .before .before .before .before .relax-all .kept, c .before .before .before .before .before .before .before .before .before .before .before .before .before .before .before .before .before .before .before .before .before .before .before .before .before .before .before .before .before .before .before .pre .2 .some)
+
+enum-known-y : tie.Need-enum-known-y Inv-loop μ-loop
+enum-known-y c = search needs
 
 same-length-6 : tie.Need-same-length-6 Inv-loop μ-loop
-same-length-6 c = omega (arith, c .before .before .before .before .before .before .before .before .before .before .before .before .before .before .before .before .before .before .before .before .before .before .before .before .loop .inv .0, c .before .before .before .before .before .before .before .before .before .before .before .before .relax-all .kept)
+same-length-6 c = omega (arith, c .before .before .before .before .before .before .before .before .before .before .before .before .before .before .before .before .before .before .before .before .before .before .before .before .before .before .before .loop .inv .0, c .before .before .before .before .before .before .before .before .before .before .before .before .before .before .before .relax-all .kept)
 
 same-length-7 : tie.Need-same-length-7 Inv-loop μ-loop
-same-length-7 c = omega (arith, c .before .before .before .before .before .before .before .before .before .before .before .before .before .before .before .before .before .before .before .before .before .before .before .before .loop .inv .1, c .before .before .before .before .before .before .before .before .before .before .before .before .relax-all .kept)
+same-length-7 c = omega (arith, c .before .before .before .before .before .before .before .before .before .before .before .before .before .before .before .before .before .before .before .before .before .before .before .before .before .before .before .loop .inv .1, c .before .before .before .before .before .before .before .before .before .before .before .before .before .before .before .relax-all .kept)
 
 same-length-8 : tie.Need-same-length-8 Inv-loop μ-loop
-same-length-8 c = omega (arith, c .before .before .before .before .before .before .before .before .before .before .before .before .before .before .before .before .before .before .before .before .before .before .before .before .loop .inv .2, c .before .before .before .before .before .before .before .before .before .before .before .before .relax-all .kept)
+same-length-8 c = omega (arith, c .before .before .before .before .before .before .before .before .before .before .before .before .before .before .before .before .before .before .before .before .before .before .before .before .before .before .before .loop .inv .2, c .before .before .before .before .before .before .before .before .before .before .before .before .before .before .before .relax-all .kept)
 
 same-length-9 : tie.Need-same-length-9 Inv-loop μ-loop
-same-length-9 c = omega (arith, c .before .before .before .before .before .before .before .before .before .before .before .before .before .before .before .before .before .before .before .before .before .before .before .before .loop .inv .3, c .before .before .before .before .before .before .before .before .before .before .before .before .relax-all .kept)
+same-length-9 c = omega (arith, c .before .before .before .before .before .before .before .before .before .before .before .before .before .before .before .before .before .before .before .before .before .before .before .before .before .before .before .loop .inv .3, c .before .before .before .before .before .before .before .before .before .before .before .before .before .before .before .relax-all .kept)
 
 same-length-10 : tie.Need-same-length-10 Inv-loop μ-loop
-same-length-10 c = omega (arith, c .before .before .before .before .before .before .before .before .before .before .before .before .before .before .before .before .before .before .before .before .before .before .before .before .loop .inv .4, c .before .before .before .before .before .before .before .before .before .before .before .before .relax-all .kept)
+same-length-10 c = omega (arith, c .before .before .before .before .before .before .before .before .before .before .before .before .before .before .before .before .before .before .before .before .before .before .before .before .before .before .before .loop .inv .4, c .before .before .before .before .before .before .before .before .before .before .before .before .before .before .before .relax-all .kept)
 
 returns-2 : tie.Need-returns-2 Inv-loop μ-loop
 returns-2 c =
-    let b = c .before .before .before .before .before .before .before .before .before .before .before .before .before .before .before .before .before .before .before .before .before .before .before .before .before .before .before .before .before .before .before .before in
+    let b = c .before .before .before .before .before .before .before .before .before .before .before .before .before .before .before .before .before .before .before .before .before .before .before .before .before .before .before .before .before .before .before .before .before .before .before in
     let a = b .args in
-    let l = c .before .before .before .before .before .before .before .before .before .before .before .before .before .before .before .before .before .before .before .before .before .before .before .before .loop in
-    let sp = c .before .before .before .before .before .before .before .before .before .before .before .before .before .before .before .before .before .before .before .before .before .before .before .spend in
-    let r = c .before .before .before .before .before .before .before .before .before .before .before .before .relax-all in
-    let z = spent (l .bud) (sp .result) (sp .ensures) (c .before .before .before .before .before .before .before .before .before .before .before .before .before .before .before .before .before .before .before .before .if1 .left) in
-    round-full (limitsOf (a .lim)) (tablesOf (a .s .now)) (pairsIn (a .im .classes) (a .graph .now) (a .n)) (a .n) (b .pre .2 .many) (b .pre .2 .some) (a .graph .now) (b .pre .4) (roundsOf (limitsOf (a .lim)) (tablesOf (a .s .now)) (pairsIn (a .im .classes) (a .graph .now) (a .n)) (stateIn (a .pairs .now) (a .terms .now) (a .runs .now) (a .n) 0 (a .b .left))) (l .pairs) (l .terms) (l .runs) (l .rounds) (l .bud .left) (l .inv .6) (sp .result .budget .left) z _ _ _ (r .result) (r .ensures) (c .enum-told .given .1)
+    let l = c .before .before .before .before .before .before .before .before .before .before .before .before .before .before .before .before .before .before .before .before .before .before .before .before .before .before .before .loop in
+    let sp = c .before .before .before .before .before .before .before .before .before .before .before .before .before .before .before .before .before .before .before .before .before .before .before .before .before .before .spend in
+    let r = c .before .before .before .before .before .before .before .before .before .before .before .before .before .before .before .relax-all in
+    let z = spent (l .bud) (sp .result) (sp .ensures) (c .before .before .before .before .before .before .before .before .before .before .before .before .before .before .before .before .before .before .before .before .before .before .before .if1 .left) in
+    round-ended (limitsOf (a .lim)) (tablesOf (a .s .now)) (pairsIn (a .im .classes) (a .graph .now) (a .n)) (a .n) (b .pre .2 .many) (b .pre .2 .some) (a .graph .now) (b .pre .4) (roundsOf (limitsOf (a .lim)) (tablesOf (a .s .now)) (pairsIn (a .im .classes) (a .graph .now) (a .n)) (stateIn (a .pairs .now) (a .terms .now) (a .runs .now) (a .n) 0 (a .b .left))) (l .pairs) (l .terms) (l .runs) (l .rounds) (l .bud .left) (l .inv .6) (sp .result .budget .left) z _ _ _ (r .result) (r .ensures) (c .before .before .before .after-round .result) (c .before .before .before .after-round .ensures) (c .before .y .given .0 .0) (c .before .y .given .1)
 
-enum-told-2 : tie.Need-enum-told-2 Inv-loop μ-loop
-enum-told-2 c = search needs
-
-reported-requires-2 : tie.Need-reported-requires-2 Inv-loop μ-loop
-reported-requires-2 c κs = omega (arith, c .before .before .before .before .before .before .before .before .before .before .before .before .before .before .before .before .before .before .before .before .before .before .before .before .before .loop .inv .6 .long, c .before .before .before .before .before .before .before .before .before .before .before .before .before .relax-all .kept, c .before .before .before .before .before .before .before .before .before .before .before .before .before .before .before .before .before .before .before .before .before .before .before .before .before .before .before .before .before .before .before .before .before .pre .2 .some)
-
-same-length-11 : tie.Need-same-length-11 Inv-loop μ-loop
-same-length-11 c = omega (arith, c .before .before .before .before .before .before .before .before .before .before .before .before .before .before .before .before .before .before .before .before .before .before .before .before .before .before .loop .inv .0, c .before .before .before .before .before .before .before .before .before .before .before .before .before .before .relax-all .kept)
-
-same-length-12 : tie.Need-same-length-12 Inv-loop μ-loop
-same-length-12 c = omega (arith, c .before .before .before .before .before .before .before .before .before .before .before .before .before .before .before .before .before .before .before .before .before .before .before .before .before .before .loop .inv .1, c .before .before .before .before .before .before .before .before .before .before .before .before .before .before .relax-all .kept)
-
-same-length-13 : tie.Need-same-length-13 Inv-loop μ-loop
-same-length-13 c = omega (arith, c .before .before .before .before .before .before .before .before .before .before .before .before .before .before .before .before .before .before .before .before .before .before .before .before .before .before .loop .inv .2, c .before .before .before .before .before .before .before .before .before .before .before .before .before .before .relax-all .kept)
-
-same-length-14 : tie.Need-same-length-14 Inv-loop μ-loop
-same-length-14 c = omega (arith, c .before .before .before .before .before .before .before .before .before .before .before .before .before .before .before .before .before .before .before .before .before .before .before .before .before .before .loop .inv .3, c .before .before .before .before .before .before .before .before .before .before .before .before .before .before .relax-all .kept)
-
-same-length-15 : tie.Need-same-length-15 Inv-loop μ-loop
-same-length-15 c = omega (arith, c .before .before .before .before .before .before .before .before .before .before .before .before .before .before .before .before .before .before .before .before .before .before .before .before .before .before .loop .inv .4, c .before .before .before .before .before .before .before .before .before .before .before .before .before .before .relax-all .kept)
-
-returns-3 : tie.Need-returns-3 Inv-loop μ-loop
-returns-3 c =
-    let b = c .before .before .before .before .before .before .before .before .before .before .before .before .before .before .before .before .before .before .before .before .before .before .before .before .before .before .before .before .before .before .before .before .before .before in
-    let a = b .args in
-    let l = c .before .before .before .before .before .before .before .before .before .before .before .before .before .before .before .before .before .before .before .before .before .before .before .before .before .before .loop in
-    let sp = c .before .before .before .before .before .before .before .before .before .before .before .before .before .before .before .before .before .before .before .before .before .before .before .before .before .spend in
-    let r = c .before .before .before .before .before .before .before .before .before .before .before .before .before .before .relax-all in
-    let z = spent (l .bud) (sp .result) (sp .ensures) (c .before .before .before .before .before .before .before .before .before .before .before .before .before .before .before .before .before .before .before .before .before .before .if1 .left) in
-    round-cut (limitsOf (a .lim)) (tablesOf (a .s .now)) (pairsIn (a .im .classes) (a .graph .now) (a .n)) (a .n) (b .pre .2 .many) (b .pre .2 .some) (a .graph .now) (b .pre .4) (roundsOf (limitsOf (a .lim)) (tablesOf (a .s .now)) (pairsIn (a .im .classes) (a .graph .now) (a .n)) (stateIn (a .pairs .now) (a .terms .now) (a .runs .now) (a .n) 0 (a .b .left))) (l .pairs) (l .terms) (l .runs) (l .rounds) (l .bud .left) (l .inv .6) (sp .result .budget .left) z _ _ _ (r .result) (r .ensures) (c .before .before .enum-told2 .given .1) (c .reported2 .result) (c .reported2 .ensures)
-
-enum-known-x : tie.Need-enum-known-x Inv-loop μ-loop
-enum-known-x c = search needs
-
-reported-requires-3 : tie.Need-reported-requires-3 Inv-loop μ-loop
-reported-requires-3 c κs = omega (arith, c .before .before .before .before .before .before .before .before .before .before .before .before .before .before .before .before .before .before .before .before .before .before .before .before .before .before .before .loop .inv .6 .long, c .before .before .before .before .before .before .before .before .before .before .before .before .before .before .before .relax-all .kept, c .before .before .before .before .before .before .before .before .before .before .before .before .before .before .before .before .before .before .before .before .before .before .before .before .before .before .before .before .before .before .before .before .before .before .before .pre .2 .some)
-
-same-length-16 : tie.Need-same-length-16 Inv-loop μ-loop
-same-length-16 c = omega (arith, c .before .before .before .before .before .before .before .before .before .before .before .before .before .before .before .before .before .before .before .before .before .before .before .before .before .before .before .before .loop .inv .0, c .before .before .before .before .before .before .before .before .before .before .before .before .before .before .before .before .relax-all .kept)
-
-same-length-17 : tie.Need-same-length-17 Inv-loop μ-loop
-same-length-17 c = omega (arith, c .before .before .before .before .before .before .before .before .before .before .before .before .before .before .before .before .before .before .before .before .before .before .before .before .before .before .before .before .loop .inv .1, c .before .before .before .before .before .before .before .before .before .before .before .before .before .before .before .before .relax-all .kept)
-
-same-length-18 : tie.Need-same-length-18 Inv-loop μ-loop
-same-length-18 c = omega (arith, c .before .before .before .before .before .before .before .before .before .before .before .before .before .before .before .before .before .before .before .before .before .before .before .before .before .before .before .before .loop .inv .2, c .before .before .before .before .before .before .before .before .before .before .before .before .before .before .before .before .relax-all .kept)
-
-same-length-19 : tie.Need-same-length-19 Inv-loop μ-loop
-same-length-19 c = omega (arith, c .before .before .before .before .before .before .before .before .before .before .before .before .before .before .before .before .before .before .before .before .before .before .before .before .before .before .before .before .loop .inv .3, c .before .before .before .before .before .before .before .before .before .before .before .before .before .before .before .before .relax-all .kept)
-
-same-length-20 : tie.Need-same-length-20 Inv-loop μ-loop
-same-length-20 c = omega (arith, c .before .before .before .before .before .before .before .before .before .before .before .before .before .before .before .before .before .before .before .before .before .before .before .before .before .before .before .before .loop .inv .4, c .before .before .before .before .before .before .before .before .before .before .before .before .before .before .before .before .relax-all .kept)
-
-returns-4 : tie.Need-returns-4 Inv-loop μ-loop
-returns-4 c =
-    let b = c .before .before .before .before .before .before .before .before .before .before .before .before .before .before .before .before .before .before .before .before .before .before .before .before .before .before .before .before .before .before .before .before .before .before .before .before in
-    let a = b .args in
-    let l = c .before .before .before .before .before .before .before .before .before .before .before .before .before .before .before .before .before .before .before .before .before .before .before .before .before .before .before .before .loop in
-    let sp = c .before .before .before .before .before .before .before .before .before .before .before .before .before .before .before .before .before .before .before .before .before .before .before .before .before .before .before .spend in
-    let r = c .before .before .before .before .before .before .before .before .before .before .before .before .before .before .before .before .relax-all in
-    let z = spent (l .bud) (sp .result) (sp .ensures) (c .before .before .before .before .before .before .before .before .before .before .before .before .before .before .before .before .before .before .before .before .before .before .before .before .if1 .left) in
-    round-quiet (limitsOf (a .lim)) (tablesOf (a .s .now)) (pairsIn (a .im .classes) (a .graph .now) (a .n)) (a .n) (b .pre .2 .many) (b .pre .2 .some) (a .graph .now) (b .pre .4) (roundsOf (limitsOf (a .lim)) (tablesOf (a .s .now)) (pairsIn (a .im .classes) (a .graph .now) (a .n)) (stateIn (a .pairs .now) (a .terms .now) (a .runs .now) (a .n) 0 (a .b .left))) (l .pairs) (l .terms) (l .runs) (l .rounds) (l .bud .left) (l .inv .6) (sp .result .budget .left) z _ _ _ (r .result) (r .ensures) _ _ (c .before .before .before .before .x .given .1) (was-false _ (c .before .before .if2 .taken)) (c .reported3 .result) (c .reported3 .ensures)
+enum-known-y-2 : tie.Need-enum-known-y-2 Inv-loop μ-loop
+enum-known-y-2 c = search needs
 
 end-round-requires : tie.Need-end-round-requires Inv-loop μ-loop
 end-round-requires c κs =
-    let b = c .before .before .before .before .before .before .before .before .before .before .before .before .before .before .before .before .before .before .before .before .before .before .before .before .before .before .before .before .before .before .before .before .before .before .before .before .before in
+    let b = c .before .before .before .before .before .before .before .before .before .before .before .before .before .before .before .before .before .before .before .before .before .before .before .before .before .before .before .before .before .before .before .before .before .before .before .before .before .before in
     let G = b .pre .2 in
-    (b .pre .0, b .pre .1, omega (arith, G .few, b .pre .5 .few), omega (arith, G .few, G .wide), omega (arith, c .before .before .before .before .before .before .before .before .before .before .before .before .before .before .before .before .before .before .before .before .before .before .before .before .before .before .before .before .before .loop .inv .6 .long, c .before .before .before .before .before .before .before .before .before .before .before .before .before .before .before .before .before .relax-all .kept))
+    (b .pre .0, b .pre .1, omega (arith, G .few, b .pre .5 .few), omega (arith, G .few, G .wide), omega (arith, c .before .before .before .before .before .before .before .before .before .before .before .before .before .before .before .before .before .before .before .before .before .before .before .before .before .before .before .before .before .before .loop .inv .6 .long, c .before .before .before .before .before .before .before .before .before .before .before .before .before .before .before .before .before .before .relax-all .kept))
 
 add-rounds : tie.Need-add-rounds Inv-loop μ-loop
 add-rounds c =
-    let b = c .before .before .before .before .before .before .before .before .before .before .before .before .before .before .before .before .before .before .before .before .before .before .before .before .before .before .before .before .before .before .before .before .before .before .before .before .before .before .before .before in
+    let b = c .before .before .before .before .before .before .before .before .before .before .before .before .before .before .before .before .before .before .before .before .before .before .before .before .before .before .before .before .before .before .before .before .before .before .before .before .before .before .before .before .before in
     let a = b .args in
-    let l = c .before .before .before .before .before .before .before .before .before .before .before .before .before .before .before .before .before .before .before .before .before .before .before .before .before .before .before .before .before .before .before .before .loop in
-    let sp = c .before .before .before .before .before .before .before .before .before .before .before .before .before .before .before .before .before .before .before .before .before .before .before .before .before .before .before .before .before .before .before .spend in
-    let r = c .before .before .before .before .before .before .before .before .before .before .before .before .before .before .before .before .before .before .before .before .relax-all in
-    let z = spent (l .bud) (sp .result) (sp .ensures) (c .before .before .before .before .before .before .before .before .before .before .before .before .before .before .before .before .before .before .before .before .before .before .before .before .before .before .before .before .if1 .left) in
+    let l = c .before .before .before .before .before .before .before .before .before .before .before .before .before .before .before .before .before .before .before .before .before .before .before .before .before .before .before .before .before .before .before .before .before .loop in
+    let sp = c .before .before .before .before .before .before .before .before .before .before .before .before .before .before .before .before .before .before .before .before .before .before .before .before .before .before .before .before .before .before .before .before .spend in
+    let r = c .before .before .before .before .before .before .before .before .before .before .before .before .before .before .before .before .before .before .before .before .before .relax-all in
+    let z = spent (l .bud) (sp .result) (sp .ensures) (c .before .before .before .before .before .before .before .before .before .before .before .before .before .before .before .before .before .before .before .before .before .before .before .before .before .before .before .before .before .if1 .left) in
     record { fits = omega (arith, z, l .inv .5, b .good) }
 
 loop-less : tie.Need-loop-less Inv-loop μ-loop
 loop-less c =
-    let b = c .before .before .before .before .before .before .before .before .before .before .before .before .before .before .before .before .before .before .before .before .before .before .before .before .before .before .before .before .before .before .before .before .before .before .before .before .before .before .before .before in
+    let b = c .before .before .before .before .before .before .before .before .before .before .before .before .before .before .before .before .before .before .before .before .before .before .before .before .before .before .before .before .before .before .before .before .before .before .before .before .before .before .before .before .before in
     let a = b .args in
-    let l = c .before .before .before .before .before .before .before .before .before .before .before .before .before .before .before .before .before .before .before .before .before .before .before .before .before .before .before .before .before .before .before .before .loop in
-    let sp = c .before .before .before .before .before .before .before .before .before .before .before .before .before .before .before .before .before .before .before .before .before .before .before .before .before .before .before .before .before .before .before .spend in
-    let r = c .before .before .before .before .before .before .before .before .before .before .before .before .before .before .before .before .before .before .before .before .relax-all in
-    let z = spent (l .bud) (sp .result) (sp .ensures) (c .before .before .before .before .before .before .before .before .before .before .before .before .before .before .before .before .before .before .before .before .before .before .before .before .before .before .before .before .if1 .left) in
-    omega (arith, z, round-left (limitsOf (a .lim)) (tablesOf (a .s .now)) (pairsIn (a .im .classes) (a .graph .now) (a .n)) (a .n) (b .pre .2 .many) (b .pre .2 .some) (a .graph .now) (b .pre .4) (roundsOf (limitsOf (a .lim)) (tablesOf (a .s .now)) (pairsIn (a .im .classes) (a .graph .now) (a .n)) (stateIn (a .pairs .now) (a .terms .now) (a .runs .now) (a .n) 0 (a .b .left))) (l .pairs) (l .terms) (l .runs) (l .rounds) (l .bud .left) (l .inv .6) (sp .result .budget .left) z _ _ _ (r .result) (r .ensures) _ _ (c .before .before .before .before .before .before .before .before .x .given .1))
+    let l = c .before .before .before .before .before .before .before .before .before .before .before .before .before .before .before .before .before .before .before .before .before .before .before .before .before .before .before .before .before .before .before .before .before .loop in
+    let sp = c .before .before .before .before .before .before .before .before .before .before .before .before .before .before .before .before .before .before .before .before .before .before .before .before .before .before .before .before .before .before .before .before .spend in
+    let r = c .before .before .before .before .before .before .before .before .before .before .before .before .before .before .before .before .before .before .before .before .before .relax-all in
+    let z = spent (l .bud) (sp .result) (sp .ensures) (c .before .before .before .before .before .before .before .before .before .before .before .before .before .before .before .before .before .before .before .before .before .before .before .before .before .before .before .before .before .if1 .left) in
+    let f = c .before .before .before .before .before .before .before .before .before .after-round in
+    let d = c .before .before .before .before .before .before .before .y2 .given .0 .0 in
+    let q = after-next (r .result) _ (a .n) (l .rounds) (f .result) (f .ensures) d (c .before .before .before .before .before .before .before .y2 .given .1) in
+    omega (arith, z, round-left (limitsOf (a .lim)) (tablesOf (a .s .now)) (pairsIn (a .im .classes) (a .graph .now) (a .n)) (a .n) (b .pre .2 .many) (b .pre .2 .some) (a .graph .now) (b .pre .4) (roundsOf (limitsOf (a .lim)) (tablesOf (a .s .now)) (pairsIn (a .im .classes) (a .graph .now) (a .n)) (stateIn (a .pairs .now) (a .terms .now) (a .runs .now) (a .n) 0 (a .b .left))) (l .pairs) (l .terms) (l .runs) (l .rounds) (l .bud .left) (l .inv .6) (sp .result .budget .left) z _ _ _ (r .result) (r .ensures) true d q)
 
 loop-again : tie.Need-loop-again Inv-loop μ-loop
 loop-again c =
-    let b = c .before .before .before .before .before .before .before .before .before .before .before .before .before .before .before .before .before .before .before .before .before .before .before .before .before .before .before .before .before .before .before .before .before .before .before .before .before .before .before .before in
+    let b = c .before .before .before .before .before .before .before .before .before .before .before .before .before .before .before .before .before .before .before .before .before .before .before .before .before .before .before .before .before .before .before .before .before .before .before .before .before .before .before .before .before in
     let a = b .args in
-    let l = c .before .before .before .before .before .before .before .before .before .before .before .before .before .before .before .before .before .before .before .before .before .before .before .before .before .before .before .before .before .before .before .before .loop in
-    let sp = c .before .before .before .before .before .before .before .before .before .before .before .before .before .before .before .before .before .before .before .before .before .before .before .before .before .before .before .before .before .before .before .spend in
-    let r = c .before .before .before .before .before .before .before .before .before .before .before .before .before .before .before .before .before .before .before .before .relax-all in
-    let z = spent (l .bud) (sp .result) (sp .ensures) (c .before .before .before .before .before .before .before .before .before .before .before .before .before .before .before .before .before .before .before .before .before .before .before .before .before .before .before .before .if1 .left) in
+    let l = c .before .before .before .before .before .before .before .before .before .before .before .before .before .before .before .before .before .before .before .before .before .before .before .before .before .before .before .before .before .before .before .before .before .loop in
+    let sp = c .before .before .before .before .before .before .before .before .before .before .before .before .before .before .before .before .before .before .before .before .before .before .before .before .before .before .before .before .before .before .before .before .spend in
+    let r = c .before .before .before .before .before .before .before .before .before .before .before .before .before .before .before .before .before .before .before .before .before .relax-all in
+    let z = spent (l .bud) (sp .result) (sp .ensures) (c .before .before .before .before .before .before .before .before .before .before .before .before .before .before .before .before .before .before .before .before .before .before .before .before .before .before .before .before .before .if1 .left) in
+    let f = c .before .before .before .before .before .before .before .before .before .after-round in
+    let d = c .before .before .before .before .before .before .before .y2 .given .0 .0 in
+    let q = after-next (r .result) _ (a .n) (l .rounds) (f .result) (f .ensures) d (c .before .before .before .before .before .before .before .y2 .given .1) in
     let e = c .before .before .end-round in (
       omega (arith, l .inv .0, r .kept, e .kept),
       omega (arith, l .inv .1, r .kept),
       omega (arith, l .inv .2, r .kept),
       omega (arith, l .inv .3, r .kept),
       omega (arith, l .inv .4, r .kept),
-      omega (arith, l .inv .5, z, round-left (limitsOf (a .lim)) (tablesOf (a .s .now)) (pairsIn (a .im .classes) (a .graph .now) (a .n)) (a .n) (b .pre .2 .many) (b .pre .2 .some) (a .graph .now) (b .pre .4) (roundsOf (limitsOf (a .lim)) (tablesOf (a .s .now)) (pairsIn (a .im .classes) (a .graph .now) (a .n)) (stateIn (a .pairs .now) (a .terms .now) (a .runs .now) (a .n) 0 (a .b .left))) (l .pairs) (l .terms) (l .runs) (l .rounds) (l .bud .left) (l .inv .6) (sp .result .budget .left) z _ _ _ (r .result) (r .ensures) _ _ (c .before .before .before .before .before .before .before .before .x .given .1)),
-      round-next (limitsOf (a .lim)) (tablesOf (a .s .now)) (pairsIn (a .im .classes) (a .graph .now) (a .n)) (a .n) (b .pre .2 .many) (b .pre .2 .some) (a .graph .now) (b .pre .4) (roundsOf (limitsOf (a .lim)) (tablesOf (a .s .now)) (pairsIn (a .im .classes) (a .graph .now) (a .n)) (stateIn (a .pairs .now) (a .terms .now) (a .runs .now) (a .n) 0 (a .b .left))) (l .pairs) (l .terms) (l .runs) (l .rounds) (l .bud .left) (l .inv .6) (sp .result .budget .left) z _ _ _ (r .result) (r .ensures) _ _ (c .before .before .before .before .before .before .before .before .x .given .1) (b .pre .2 .closed) (was-true _ (c .before .before .before .before .before .before .if2 .left)) _ (e .ensures .pairs),
-      round-quiets (limitsOf (a .lim)) (tablesOf (a .s .now)) (b .pre .1) (a .im .classes) (a .graph .now) (a .n) (b .pre .2 .pairs) (b .pre .2 .closed) (b .pre .2 .many) (l .pairs) (l .terms) (l .runs) (sp .result .budget .left) _ _ _ (r .result) (r .ensures) _ _ (c .before .before .before .before .before .before .before .before .x .given .1) _ _ _ _ _ (e .ensures),
+      omega (arith, l .inv .5, z, round-left (limitsOf (a .lim)) (tablesOf (a .s .now)) (pairsIn (a .im .classes) (a .graph .now) (a .n)) (a .n) (b .pre .2 .many) (b .pre .2 .some) (a .graph .now) (b .pre .4) (roundsOf (limitsOf (a .lim)) (tablesOf (a .s .now)) (pairsIn (a .im .classes) (a .graph .now) (a .n)) (stateIn (a .pairs .now) (a .terms .now) (a .runs .now) (a .n) 0 (a .b .left))) (l .pairs) (l .terms) (l .runs) (l .rounds) (l .bud .left) (l .inv .6) (sp .result .budget .left) z _ _ _ (r .result) (r .ensures) true d q),
+      round-next (limitsOf (a .lim)) (tablesOf (a .s .now)) (pairsIn (a .im .classes) (a .graph .now) (a .n)) (a .n) (b .pre .2 .many) (b .pre .2 .some) (a .graph .now) (b .pre .4) (roundsOf (limitsOf (a .lim)) (tablesOf (a .s .now)) (pairsIn (a .im .classes) (a .graph .now) (a .n)) (stateIn (a .pairs .now) (a .terms .now) (a .runs .now) (a .n) 0 (a .b .left))) (l .pairs) (l .terms) (l .runs) (l .rounds) (l .bud .left) (l .inv .6) (sp .result .budget .left) z _ _ _ (r .result) (r .ensures) true d q (b .pre .2 .closed) refl _ (e .ensures .pairs),
+      round-quiets (limitsOf (a .lim)) (tablesOf (a .s .now)) (b .pre .1) (a .im .classes) (a .graph .now) (a .n) (b .pre .2 .pairs) (b .pre .2 .closed) (b .pre .2 .many) (l .pairs) (l .terms) (l .runs) (sp .result .budget .left) _ _ _ (r .result) (r .ensures) true d q _ _ _ _ _ (e .ensures),
       idles-after (tablesOf (a .s .now)) (a .im .classes) (a .graph .now) (pairsIn (a .im .classes) (a .graph .now) (a .n)) (a .n) (b .pre .2 .many) _ _ _ _ _ _ (e .ensures) (omega (arith, l .inv .6 .long, r .kept)),
     )
 
@@ -220,29 +171,15 @@ relax-spec =
     same-length-5
     returns
     relax-all-requires
-    enum-told
+    after-round-requires
+    enum-known-y
     same-length-6
     same-length-7
     same-length-8
     same-length-9
     same-length-10
     returns-2
-    enum-told-2
-    reported-requires-2
-    same-length-11
-    same-length-12
-    same-length-13
-    same-length-14
-    same-length-15
-    returns-3
-    enum-known-x
-    reported-requires-3
-    same-length-16
-    same-length-17
-    same-length-18
-    same-length-19
-    same-length-20
-    returns-4
+    enum-known-y-2
     end-round-requires
     add-rounds
     loop-less
