@@ -22,7 +22,8 @@ use Rattle.terms.specs.PoolLaws.{pool-length}
 use Rattle.terms.specs.Chains.{Holds}
 use Rattle.interning.specs.Interning.{poolAfter}
 use Rattle.interning.specs.GrowLaws.{grows-none}
-use Rattle.turn_term.specs.Taking.{takenOf, Takes, Leaves}
+use Rattle.turn_term.specs.Taking.{takenOf, Takes}
+use Rattle.turns.specs.Leaving.{Leaves}
 use Rattle.turn_term.specs.declared.Turned.{Turned}
 use Rattle.turn_term.specs.declared.Taken.the-variants as K
 use Rattle.settling.specs.Quiet.{unturned}

@@ -12,7 +12,7 @@ use Rattle.arrays.specs.Arrays.{given, qualityIn, termIn}
 use Rattle.terms.specs.Buffers.{poolOf}
 use Rattle.interning.specs.Interning.{poolAfter}
 use Rattle.interning.specs.Growing.{Grows}
-use Rattle.turn_term.specs.Taking as taking
+use Rattle.turns.specs.Leaving as leaving
 use Rattle.turn_term.specs.Taking.{termList}
 use Rattle.visits.specs.declared.Step.{Step}
 use Rattle.visits.specs.declared.Step.the-variants as P
@@ -50,5 +50,5 @@ pub record Visits (lim : Limits) (t : Tables) (w : ℕ) (graph : List ℕ) (p : 
   pub numbers : pairs′ ≡ numbersAfter (turnIn t w graph pairs p) (termMade lim t w graph pairs (poolOf terms runs) p) k pairs
   -- terms and runs hold the pool with the turn's term
   pub grows : Grows terms runs terms′ runs′ (poolAfter (poolOf terms runs) (termMade lim t w graph pairs (poolOf terms runs) p))
-  pub workIs : work′ ≡ ifLive live (termList t (termIn w graph pairs) terms runs (turnIn t w graph pairs p .choice) (taking.turnIn lim t (qualityIn w graph pairs) (termIn w graph pairs) p work flow .work)) work
-  pub flowIs : flow′ ≡ ifLive live (taking.turnIn lim t (qualityIn w graph pairs) (termIn w graph pairs) p work flow .flow) flow
+  pub workIs : work′ ≡ ifLive live (termList t (termIn w graph pairs) terms runs (turnIn t w graph pairs p .choice) (leaving.turnIn lim t (qualityIn w graph pairs) (termIn w graph pairs) p work flow .work)) work
+  pub flowIs : flow′ ≡ ifLive live (leaving.turnIn lim t (qualityIn w graph pairs) (termIn w graph pairs) p work flow .flow) flow

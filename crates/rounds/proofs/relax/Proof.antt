@@ -6,7 +6,7 @@ use Rattle.arrays.specs.Arrays.{pairsIn, qualitiesIn}
 use Rattle.settling.specs.Quiet.{Quiet, quiet-first}
 use Rattle.rounds.specs.Graphs.{stateIn}
 use Rattle.terms.specs.PoolLaws.{rooms-same}
-use Rattle.turns.specs.Ending.{scratch-kept}
+use Rattle.turns.specs.TurnLaws.{scratch-kept}
 use Rattle.rounds.specs.Spending.{expired, spent}
 use Rattle.rounds.specs.Idling.{Idles, idles-first, idles-after}
 use Rattle.rounds.specs.Running.{Running, standing-any, after-next, run-expired, round-ended, round-left, round-next, round-quiets}
