@@ -1,9 +1,9 @@
-use Rattle.au.specs.Engine.{answerAs}
+use Rattle.merge_under.specs.Engine.{answerAs}
 use Prim.Native.Nat.{_-_}
 use mathlib.Core.Path.{ap, sym}
 use borrow.Author.Needs.{needs}
-use Rattle.au.proofs.answer_of.Statement.{statement}
-use Rattle.au.proofs.answer_of.Tie as tie
+use Rattle.merge_under.proofs.answer_of.Statement.{statement}
+use Rattle.merge_under.proofs.answer_of.Tie as tie
 
 -- src/lib.rt:271:34
 enum-known-a : tie.Need-enum-known-a

@@ -1,11 +1,11 @@
 use Rattle.exact_fixed.specs.declared.Begun.{Begun}
 use Rattle.exact_fixed.specs.declared.Begun.the-variants.{All}
-use Rattle.au.specs.Engine.{countedAs}
+use Rattle.merge_under.specs.Engine.{countedAs}
 use Prim.Native.Nat.{ℕ, _-_}
 use mathlib.Core.Path.{ap, sym, _∙_}
 use borrow.Author.Needs.{needs}
-use Rattle.au.proofs.counted.Statement.{statement}
-use Rattle.au.proofs.counted.Tie as tie
+use Rattle.merge_under.proofs.counted.Statement.{statement}
+use Rattle.merge_under.proofs.counted.Tie as tie
 
 pairs-in-requires : tie.Need-pairs-in-requires
 pairs-in-requires c κs = search needs

@@ -1,16 +1,16 @@
 use Rattle.spec.specs.Image.{tablesOf}
 use Rattle.laws.specs.Accepted as A
 use borrow.Author.Tests.{leb-true}
+use lib.ListN.{length}
 use Rattle.query.specs.Settings.{limitsOf}
-use Rattle.au.specs.Prepared.{Goes}
-use Rattle.au.specs.Engine.{roomFor}
-use Rattle.au.specs.PreparedLaws.{stop-left, stop-right, few-classes, begins-ready}
-use Prim.Native.Nat.{ℕ, _-_}
+use Rattle.prepare.specs.Preparing.{Goes}
+use Rattle.prepare.specs.PreparingLaws.{left-refused, right-refused, room-refused, few-classes}
+use Prim.Native.Nat.{_-_}
 use native.Mathlib.Omega.{arith}
-use mathlib.Core.Path.{ap, sym, _∙_}
+use mathlib.Core.Path.{refl, sym, _∙_}
 use borrow.Author.Needs.{needs}
-use Rattle.au.proofs.start.Statement.{statement}
-use Rattle.au.proofs.start.Tie as tie
+use Rattle.prepare.proofs.start.Statement.{statement}
+use Rattle.prepare.proofs.start.Tie as tie
 
 size-u16-requires : tie.Need-size-u16-requires
 size-u16-requires c κs = search needs
@@ -18,7 +18,7 @@ size-u16-requires c κs = search needs
 returns : tie.Need-returns
 returns c =
     let a = c .before .before .before .before .before .before .before in
-    stop-left (a .args .s .now) (a .args .q) (a .args .im) (a .pre .0) (a .pre .1) (omega (arith, c .before .before .size-u16 .ensures .0, c .if1 .taken))
+    (left-refused (limitsOf (a .args .lim)) (length (a .args .graph .now)) (a .args .s .now) (a .args .q) (a .args .im) (a .pre .0) (a .pre .1) (omega (arith, c .before .before .size-u16 .ensures .0, c .if1 .taken)), λ z. absurd (omega arith), (refl, refl, refl))
 
 size-u16-requires-2 : tie.Need-size-u16-requires-2
 size-u16-requires-2 c κs = search needs
@@ -26,7 +26,7 @@ size-u16-requires-2 c κs = search needs
 returns-2 : tie.Need-returns-2
 returns-2 c =
     let a = c .before .before .before .before .before .before .before .before .before .before in
-    stop-right (a .args .s .now) (a .args .q) (a .args .im) (a .pre .0) (a .pre .1) (omega (arith, c .before .before .before .before .before .size-u16 .ensures .0, c .before .before .before .if1 .left)) (omega (arith, c .before .before .size-u162 .ensures .0, c .if2 .taken))
+    (right-refused (limitsOf (a .args .lim)) (length (a .args .graph .now)) (a .args .s .now) (a .args .q) (a .args .im) (a .pre .0) (a .pre .1) (omega (arith, c .before .before .before .before .before .size-u16 .ensures .0, c .before .before .before .if1 .left)) (omega (arith, c .before .before .size-u162 .ensures .0, c .if2 .taken)), λ z. absurd (omega arith), (refl, refl, refl))
 
 has-room-requires : tie.Need-has-room-requires
 has-room-requires c κs = let a = c .before .before .before .before .before .before .before .before .before .before in (few-classes (a .args .s .now) (a .args .im) (a .pre .0) (a .pre .1), a .pre .2)
@@ -50,15 +50,14 @@ returns-3 : tie.Need-returns-3
 returns-3 c =
     let a = c .before .before .before .before .before .before .before .before .before .before .before .before .before .before .before .before .before .before .before .before .before .before in
     let e = sym (c .before .before .before .before .before .before .before .before .before .before .before .has-room .ensures) ∙ c .before .before .before .before .before .before .before .before .before .before .if3 .taken in
-    let G : Goes (a .args .s .now) (a .args .q) (a .args .im) = record { read = a .pre .1; loaded = a .pre .0; left = omega (arith, c .before .before .before .before .before .before .before .before .before .before .before .before .before .before .before .before .before .size-u16 .ensures .0, c .before .before .before .before .before .before .before .before .before .before .before .before .before .before .before .if1 .left); right = omega (arith, c .before .before .before .before .before .before .before .before .before .before .before .before .before .before .size-u162 .ensures .0, c .before .before .before .before .before .before .before .before .before .before .before .before .if2 .left) } in
-    (G, ap (λ (m : ℕ). roomFor (limitsOf (a .args .lim)) (a .args .im) m) (c .before .before .before .before .before .before .begin .kept .1 .1 .1 .1 .0) ∙ e, begins-ready _ _ _ _ _ _ _ _ _ _ _ (c .before .before .before .before .before .before .begin .ensures))
+    let G : Goes (limitsOf (a .args .lim)) (length (a .args .graph .now)) (a .args .s .now) (a .args .q) (a .args .im) = record { read = a .pre .1; loaded = a .pre .0; left = omega (arith, c .before .before .before .before .before .before .before .before .before .before .before .before .before .before .before .before .before .size-u16 .ensures .0, c .before .before .before .before .before .before .before .before .before .before .before .before .before .before .before .if1 .left); right = omega (arith, c .before .before .before .before .before .before .before .before .before .before .before .before .before .before .size-u162 .ensures .0, c .before .before .before .before .before .before .before .before .before .before .before .before .if2 .left); wide = e } in
+    (G, c .before .before .before .before .before .before .begin .ensures)
 
 returns-4 : tie.Need-returns-4
 returns-4 c =
     let a = c .before .before .before .before .before .before .before .before .before .before .before .before in
     let e = sym (c .before .has-room .ensures) ∙ c .if3 .left in
-    let G : Goes (a .args .s .now) (a .args .q) (a .args .im) = record { read = a .pre .1; loaded = a .pre .0; left = omega (arith, c .before .before .before .before .before .before .before .size-u16 .ensures .0, c .before .before .before .before .before .if1 .left); right = omega (arith, c .before .before .before .before .size-u162 .ensures .0, c .before .before .if2 .left) } in
-    (G, e)
+    (room-refused (limitsOf (a .args .lim)) (length (a .args .graph .now)) (a .args .s .now) (a .args .q) (a .args .im) (a .pre .0) (a .pre .1) (omega (arith, c .before .before .before .before .before .before .before .size-u16 .ensures .0, c .before .before .before .before .before .if1 .left)) (omega (arith, c .before .before .before .before .size-u162 .ensures .0, c .before .before .if2 .left)) e, λ z. absurd (omega arith), (refl, refl, refl))
 
 pub start-spec : {M : Type 1} → statement M
 start-spec =

@@ -1,16 +1,18 @@
 use mathlib.Core.Path.{subst}
 use Rattle.query.specs.Settings.{limitsOf}
-use Rattle.au.specs.declared.Answer.the-variants.{Refused}
-use Rattle.au.specs.declared.Prepared.{Prepared}
-use Rattle.au.specs.Engine.{Prepares, Runs, pairsBegun, pairsOf}
-use Rattle.au.specs.Counts.{counted-same}
-use Rattle.au.specs.PreparedLaws.{finish-asks, lists-none, lists-run, cleared-of}
+use Rattle.prepare.specs.declared.Prepared.{Prepared}
+use Rattle.prepare.specs.Preparing.{pairsBegun, pairsOf}
+use Rattle.merge_under.specs.declared.Answer.the-variants.{Refused, Doubled}
+use Rattle.merge_under.specs.Under.{MergesUnder}
+use Rattle.merge_under.specs.Engine.{Stands}
+use Rattle.merge_under.specs.Counts.{counted-same}
+use Rattle.merge_under.specs.UnderLaws.{finish-asks, merges-refused, merges-doubled, merges-run, cleared-of}
 use Prim.Native.Nat.{_-_}
 use mathlib.Core.Path.{_≡_, refl, ap, sym, _∙_}
 use lib.ListN.{length}
 use borrow.Author.Needs.{needs}
-use Rattle.au.proofs.finish.Statement.{statement}
-use Rattle.au.proofs.finish.Tie as tie
+use Rattle.merge_under.proofs.finish.Statement.{statement}
+use Rattle.merge_under.proofs.finish.Tie as tie
 
 enum-known-p : tie.Need-enum-known-p
 enum-known-p c = search needs
@@ -33,7 +35,7 @@ counted-requires c κs = search needs
 finish-requires : tie.Need-finish-requires
 finish-requires c κs =
     let a = c .before .before .before .before .before .before .before .before .before .before .before .before .before .before .before .before .before .before .before in
-    let R = subst (λ (z : Prepared). Prepares (limitsOf (a .args .lim)) (a .args .s .now) (a .args .q) z (a .args .graph .now) (a .args .terms .now) (a .args .runs .now)) (c .before .before .before .before .before .before .before .before .before .p3 .given .1) (a .pre .0) in
+    let R = subst (λ (z : Prepared). Stands (limitsOf (a .args .lim)) (a .args .s .now) (a .args .q) z (a .args .graph .now) (a .args .terms .now) (a .args .runs .now)) (c .before .before .before .before .before .before .before .before .before .p3 .given .1) (a .pre .0) in
     let n : a .args .c .pairs ≡ pairsBegun (c .before .before .before .before .before .before .before .before .before .p3 .given .0 .1 .0) = a .pre .2 ∙ ap pairsOf (c .before .before .before .before .before .before .before .before .before .p3 .given .1) in
     finish-asks (limitsOf (a .args .lim)) (a .args .s .now) (a .args .q) (c .before .before .before .before .before .before .before .before .before .p3 .given .0 .0) (c .before .before .before .before .before .before .before .before .before .p3 .given .0 .1 .0) _ (c .before .before .before .before .before .before .before .counted .ensures ∙ counted-same (c .before .before .before .before .before .before .before .before .before .p3 .given .0 .1 .0) (a .args .c .pairs) n) _ _ _ _ _ _ R (a .pre .1)
 
@@ -61,7 +63,8 @@ same-length-6 c = search needs
 returns : tie.Need-returns
 returns c =
     let a = c .before .before .before .before .before .before .before .before .before .before .before .before .before .before .before .before .before .before .before .before .before .before .before .before .before .before .before .before .before .before in
-    (subst (λ (z : Prepared). Runs (limitsOf (a .args .lim)) (a .args .s .now) (a .args .q) z (length (a .args .graph .now)) (a .args .out .now) (a .args .out .now) (c .before .before .before .before .before .before .before .before .before .before .before .before .before .before .before .before .before .before .before .before .p .given .0 .0)) (sym (c .before .before .before .before .before .before .before .before .before .before .before .before .before .before .before .before .before .before .before .before .p .given .1)) (refl, refl), c .before .before .before .before .before .before .before .before .before .before .before .before .clear-all .ensures)
+    let R = subst (λ (z : Prepared). Stands (limitsOf (a .args .lim)) (a .args .s .now) (a .args .q) z (a .args .graph .now) (a .args .terms .now) (a .args .runs .now)) (c .before .before .before .before .before .before .before .before .before .before .before .before .before .before .before .before .before .before .before .before .p .given .1) (a .pre .0) in
+    (merges-refused (limitsOf (a .args .lim)) (length (a .args .graph .now)) (a .args .s .now) (a .args .q) (c .before .before .before .before .before .before .before .before .before .before .before .before .before .before .before .before .before .before .before .before .p .given .0 .0) (a .args .out .now) (R .0) (R .1), cleared-of (c .before .before .before .before .before .before .before .before .before .before .before .before .clear-all .ensures))
 
 same-length-7 : tie.Need-same-length-7
 same-length-7 c = search needs
@@ -84,8 +87,8 @@ same-length-12 c = search needs
 returns-2 : tie.Need-returns-2
 returns-2 c =
     let a = c .before .before .before .before .before .before .before .before .before .before .before .before .before .before .before .before .before .before .before .before .before .before .before .before .before .before .before .before .before .before in
-    let R = subst (λ (z : Prepared). Prepares (limitsOf (a .args .lim)) (a .args .s .now) (a .args .q) z (a .args .graph .now) (a .args .terms .now) (a .args .runs .now)) (c .before .before .before .before .before .before .before .before .before .before .before .before .before .before .before .before .before .before .before .before .p2 .given .1) (a .pre .0) in
-    (subst (λ (z : Prepared). Runs (limitsOf (a .args .lim)) (a .args .s .now) (a .args .q) z (length (a .args .graph .now)) (a .args .out .now) (a .args .out .now) (Refused 12)) (sym (c .before .before .before .before .before .before .before .before .before .before .before .before .before .before .before .before .before .before .before .before .p2 .given .1)) (lists-none (limitsOf (a .args .lim)) (a .args .s .now) (a .args .q) (c .before .before .before .before .before .before .before .before .before .before .before .before .before .before .before .before .before .before .before .before .p2 .given .0 .0) (length (a .args .graph .now)) (a .args .out .now) (R .1)), c .before .before .before .before .before .before .before .before .before .before .before .before .clear-all2 .ensures)
+    let R = subst (λ (z : Prepared). Stands (limitsOf (a .args .lim)) (a .args .s .now) (a .args .q) z (a .args .graph .now) (a .args .terms .now) (a .args .runs .now)) (c .before .before .before .before .before .before .before .before .before .before .before .before .before .before .before .before .before .before .before .before .p2 .given .1) (a .pre .0) in
+    (merges-doubled (limitsOf (a .args .lim)) (length (a .args .graph .now)) (a .args .s .now) (a .args .q) (c .before .before .before .before .before .before .before .before .before .before .before .before .before .before .before .before .before .before .before .before .p2 .given .0 .0) (a .args .out .now) (R .0) (R .1), cleared-of (c .before .before .before .before .before .before .before .before .before .before .before .before .clear-all2 .ensures))
 
 same-length-13 : tie.Need-same-length-13
 same-length-13 c = search needs
@@ -111,9 +114,9 @@ same-length-19 c = search needs
 returns-3 : tie.Need-returns-3
 returns-3 c =
     let a = c .before .before .before .before .before .before .before .before .before .before .before .before .before .before .before .before .before .before .before .before .before .before .before .before .before .before .before .before .before .before .before .before .before .before .before in
-    let R = subst (λ (z : Prepared). Prepares (limitsOf (a .args .lim)) (a .args .s .now) (a .args .q) z (a .args .graph .now) (a .args .terms .now) (a .args .runs .now)) (c .before .before .before .before .before .before .before .before .before .before .before .before .before .before .before .before .before .before .before .before .before .before .before .before .before .p3 .given .1) (a .pre .0) in
-    let F = lists-run (limitsOf (a .args .lim)) (a .args .s .now) (a .args .q) (c .before .before .before .before .before .before .before .before .before .before .before .before .before .before .before .before .before .before .before .before .before .before .before .before .before .p3 .given .0 .0) (length (a .args .graph .now)) (a .args .out .now) (R .1) (c .before .before .before .before .before .before .before .before .before .before .before .before .before .before .before .finish .last .1 .1 .1 .1 .1 .1 .1 .1 .1 .1 .1 .0) (c .before .before .before .before .before .before .before .before .before .before .before .before .before .before .before .finish .result) (c .before .before .before .before .before .before .before .before .before .before .before .before .before .before .before .finish .ensures .0) (c .before .before .before .before .before .before .before .before .before .before .before .before .before .before .before .finish .kept .1 .1 .1 .1 .1 .1 .1 .1 .1 .1 .1 .0) in
-    (subst (λ (z : Prepared). Runs (limitsOf (a .args .lim)) (a .args .s .now) (a .args .q) z (length (a .args .graph .now)) (a .args .out .now) (c .before .before .before .before .before .before .before .before .before .before .before .before .before .before .before .finish .last .1 .1 .1 .1 .1 .1 .1 .1 .1 .1 .1 .0) (c .answer-of .result)) (sym (c .before .before .before .before .before .before .before .before .before .before .before .before .before .before .before .before .before .before .before .before .before .before .before .before .before .p3 .given .1)) (rw (c .answer-of .ensures) F), cleared-of (c .before .before .before .before .before .before .before .before .before .before .before .before .before .before .before .finish .ensures .1))
+    let R = subst (λ (z : Prepared). Stands (limitsOf (a .args .lim)) (a .args .s .now) (a .args .q) z (a .args .graph .now) (a .args .terms .now) (a .args .runs .now)) (c .before .before .before .before .before .before .before .before .before .before .before .before .before .before .before .before .before .before .before .before .before .before .before .before .before .p3 .given .1) (a .pre .0) in
+    let F = merges-run (limitsOf (a .args .lim)) (length (a .args .graph .now)) (a .args .s .now) (a .args .q) (c .before .before .before .before .before .before .before .before .before .before .before .before .before .before .before .before .before .before .before .before .before .before .before .before .before .p3 .given .0 .0) (R .0) (a .args .out .now) (c .before .before .before .before .before .before .before .before .before .before .before .before .before .before .before .finish .last .1 .1 .1 .1 .1 .1 .1 .1 .1 .1 .1 .0) (c .before .before .before .before .before .before .before .before .before .before .before .before .before .before .before .finish .result) (c .before .before .before .before .before .before .before .before .before .before .before .before .before .before .before .finish .ensures .0) (c .before .before .before .before .before .before .before .before .before .before .before .before .before .before .before .finish .kept .1 .1 .1 .1 .1 .1 .1 .1 .1 .1 .1 .0) in
+    (rw (c .answer-of .ensures) F, cleared-of (c .before .before .before .before .before .before .before .before .before .before .before .before .before .before .before .finish .ensures .1))
 
 pub finish-spec : {M : Type 1} → statement M
 finish-spec =

@@ -1,6 +1,5 @@
 -- "Above a covered engine on plain arrays": the pair table counts the engine's pairs. Where the graph is built in full, each of its pairs is new at its own number and the queried pair is the first, so that all are counted.
 use mathlib.Core.Path.{_≡_, refl, sym, ap, subst, _∙_}
-use mathlib.Core.Bool.{true}
 use mathlib.Core.List.{List, []}
 use Prim.Native.Nat.{ℕ, _+_, _*_, _≤_}
 use native.Mathlib.Omega.{arith}
@@ -26,10 +25,10 @@ use Rattle.graph.specs.Built.{built-apart, built-first, built-some, built-few, 
 use Rattle.exact_fixed.specs.Beginning.{begunOf, Ready}
 use Rattle.exact_fixed.specs.declared.Begun.{Begun}
 use Rattle.exact_fixed.specs.declared.Begun.the-variants as B
-use Rattle.au.specs.declared.Prepared.{Prepared}
-use Rattle.au.specs.declared.Prepared.the-variants.{Stop, Go, Large}
-use Rattle.au.specs.Prepared.{Goes}
-use Rattle.au.specs.Engine.{roomFor, Prepares, pairsBegun, pairsOf, keysOf, countedAs}
+use Rattle.prepare.specs.Preparing.{pairsBegun, pairsOf, keysOf}
+use Rattle.prepare.specs.declared.Prepared.{Prepared}
+use Rattle.prepare.specs.declared.Prepared.the-variants.{Refused, Doubled, Go}
+use Rattle.merge_under.specs.Engine.{Stands, countedAs}
 
 -- n pairs are entered, and so many are counted
 abbrev CountsAll : List ℕ → ℕ → Two → List Pair → ℕ → Type 0
@@ -55,12 +54,12 @@ module _ (lim : Limits) (few : lim .pairs ≤ 4096) (t : Tables) (v : Valid t) (
       go (ok a) q (ok (passed ps c)) y z = rw z (graph-counts ps c y (R .built a q))
 
 -- "Its n pairs are counted once each": what the end of a run asks of the table
-pub table-counts : (lim : Limits) → lim .pairs ≤ 4096 → (image : List ℕ) (q : Query) (p : Prepared) (graph terms runs : List ℕ) (table : List Pair) → lim .pairs ≤ length table → Prepares lim image q p graph terms runs → countedOf (enteredOf graph (keysOf p) (pairsOf p) 0 table) (askedOf q) .pairs ≡ pairsOf p
-table-counts lim few image q (Stop a) graph terms runs table wide P = counts-none graph 0 table (askedOf q)
-table-counts lim few image q (Go im b) graph terms runs table wide (G, e, R) =
+pub table-counts : (lim : Limits) → lim .pairs ≤ 4096 → (image : List ℕ) (q : Query) (p : Prepared) (graph terms runs : List ℕ) (table : List Pair) → lim .pairs ≤ length table → Stands lim image q p graph terms runs → countedOf (enteredOf graph (keysOf p) (pairsOf p) 0 table) (askedOf q) .pairs ≡ pairsOf p
+table-counts lim few image q (Refused k) graph terms runs table wide P = counts-none graph 0 table (askedOf q)
+table-counts lim few image q (Doubled c) graph terms runs table wide P = counts-none graph 0 table (askedOf q)
+table-counts lim few image q (Go im b) graph terms runs table wide (G, R) =
     let is = classes-many image im (G .loaded) in
-    begun-counts lim few (tablesOf image) (A.valid image (tablesOf image) (G .read)) (askedOf q) (omega (arith, G .left, is), omega (arith, G .right, is)) (q .budget) (im .classes) is graph (leb-true (im .classes * im .classes + lim .pairs) (length graph) e) table wide b terms runs R
-table-counts lim few image q (Large im) graph terms runs table wide P = counts-none graph 0 table (askedOf q)
+    begun-counts lim few (tablesOf image) (A.valid image (tablesOf image) (G .read)) (askedOf q) (omega (arith, G .left, is), omega (arith, G .right, is)) (q .budget) (im .classes) is graph (leb-true (im .classes * im .classes + lim .pairs) (length graph) (G .wide)) table wide b terms runs R
 
 -- the run over as many pairs as are counted
 pub counted-same : (b : Begun) (n : ℕ) → n ≡ pairsBegun b → countedAs b n ≡ b

@@ -2,8 +2,8 @@ use lib.Dec.{leb}
 use Prim.Native.Nat.{ℕ, _-_, _+_}
 use mathlib.Core.Path.{ap}
 use borrow.Author.Needs.{needs}
-use Rattle.au.proofs.has_room.Statement.{statement}
-use Rattle.au.proofs.has_room.Tie as tie
+use Rattle.prepare.proofs.has_room.Statement.{statement}
+use Rattle.prepare.proofs.has_room.Tie as tie
 
 keys-requires : tie.Need-keys-requires
 keys-requires c κs = search needs

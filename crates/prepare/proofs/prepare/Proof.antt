@@ -1,12 +1,15 @@
 use mathlib.Core.Path.{subst}
 use Rattle.judge.specs.declared.Verdict.{Verdict}
 use Rattle.judge.specs.Verdict.{resultOf, Carries}
-use Rattle.au.specs.PreparedLaws.{stop-refused, stop-doubled}
+use lib.ListN.{length}
+use Rattle.query.specs.Settings.{limitsOf}
+use Rattle.prepare.specs.PreparingLaws.{image-refused}
 use Prim.Native.Nat.{_-_}
-use mathlib.Core.Path.{ap, sym, _∙_}
+use native.Mathlib.Omega.{arith}
+use mathlib.Core.Path.{refl, ap, sym, _∙_}
 use borrow.Author.Needs.{needs}
-use Rattle.au.proofs.prepare.Statement.{statement}
-use Rattle.au.proofs.prepare.Tie as tie
+use Rattle.prepare.proofs.prepare.Statement.{statement}
+use Rattle.prepare.proofs.prepare.Tie as tie
 
 judge-requires : tie.Need-judge-requires
 judge-requires c κs = search needs
@@ -32,14 +35,15 @@ returns c =
     let a = c .before .before .before .before .before .before .before .before in
     let s = a .args .s .now in
     let e = c .before .v .given .1 in
-    stop-refused s (a .args .q) (c .before .v .given .0 .0) (sym (ap (λ (z : Verdict). resultOf s z) e) ∙ c .before .before .before .judge .ensures .0) (subst (λ (z : Verdict). Carries s z) e (c .before .before .before .judge .ensures .1))
+    let h = subst (λ (z : Verdict). Carries s z) e (c .before .before .before .judge .ensures .1) in
+    (image-refused (limitsOf (a .args .lim)) (length (a .args .graph .now)) s (a .args .q) (c .before .v .given .0 .0) (sym (ap (λ (z : Verdict). resultOf s z) e) ∙ c .before .before .before .judge .ensures .0), λ z. absurd (omega (arith, h)), (refl, refl, refl))
 
 returns-2 : tie.Need-returns-2
 returns-2 c =
     let a = c .before .before .before .before .before .before .before .before in
     let s = a .args .s .now in
     let e = c .before .v2 .given .1 in
-    stop-doubled s (a .args .q) (c .before .v2 .given .0 .0) (sym (ap (λ (z : Verdict). resultOf s z) e) ∙ c .before .before .before .judge .ensures .0) (subst (λ (z : Verdict). Carries s z) e (c .before .before .before .judge .ensures .1))
+    (image-refused (limitsOf (a .args .lim)) (length (a .args .graph .now)) s (a .args .q) 10 (sym (ap (λ (z : Verdict). resultOf s z) e) ∙ c .before .before .before .judge .ensures .0), sym e ∙ c .before .before .before .judge .ensures .2, subst (λ (z : Verdict). Carries s z) e (c .before .before .before .judge .ensures .1), (refl, refl, refl))
 
 same-length : tie.Need-same-length
 same-length c = search needs
