@@ -110,20 +110,7 @@ pub fn merge_under(
     let from = prepare::keys_of(p);
     let n = prepare::pairs_of(p);
     let c = pair_table::enter_graph(table, graph, from, n, q.left, q.right);
-    let a = finish(
-        lim,
-        s,
-        q,
-        p,
-        c,
-        graph,
-        pairs,
-        work,
-        flow,
-        terms,
-        runs,
-        out,
-    );
+    let a = finish(lim, s, q, p, c, graph, pairs, work, flow, terms, runs, out);
     pair_table::clear_table(table);
     a
 }
