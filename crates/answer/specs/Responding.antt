@@ -8,9 +8,10 @@ use lib.ListN.{length, take, drop}
 use Rattle.spec.specs.Bytes.{both, be2, be4, text, decimal, refused}
 use Rattle.spec.specs.Listing.{line}
 use Rattle.spec.specs.Merge.{INPUT, OUTPUT, programOf}
-use Rattle.au.specs.declared.Answer.{Answer}
-use Rattle.au.specs.declared.Answer.the-variants.{Listing}
-use Rattle.au.specs.Merges.{fitOf, answerOf, Merges}
+use Rattle.merge_under.specs.declared.Answer.{Answer}
+use Rattle.merge_under.specs.declared.Answer.the-variants.{Listing}
+use Rattle.au.specs.Merges.{fitOf, Merges}
+use Rattle.merge_under.specs.Answers.{answerOf}
 
 -- the test of `answerTo`: the image ends where its length field says, and the query's eight bytes follow
 abbrev pub framed : List ℕ → Bool

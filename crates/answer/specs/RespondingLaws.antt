@@ -15,9 +15,10 @@ use Rattle.lgg.specs.Results.{refused-ok, refused-inj}
 use Rattle.decimals.specs.Writing.{Wrote}
 use Rattle.decimals.specs.WriteLaws.{wrote-then, wrote-length, wrote-as}
 use Rattle.decimals.specs.DecimalLaws.{decimal-short}
-use Rattle.au.specs.declared.Answer.{Answer}
-use Rattle.au.specs.declared.Answer.the-variants.{Listing, Refused, Doubled}
-use Rattle.au.specs.Merges.{answerOf, Merges, Cleared}
+use Rattle.merge_under.specs.declared.Answer.{Answer}
+use Rattle.merge_under.specs.declared.Answer.the-variants.{Listing, Refused, Doubled}
+use Rattle.au.specs.Merges.{Merges}
+use Rattle.merge_under.specs.Answers.{answerOf, Cleared}
 use Rattle.answer.specs.Responding.{framed, refusalBytes, Front, Prints, Asks, Responds}
 
 -- ---- the test

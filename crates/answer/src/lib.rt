@@ -6,12 +6,13 @@ ghost use lib.ListN.{length};
 ghost use Rattle.spec.specs.Bytes as b;
 ghost use Rattle.decimals.specs.Writing.{Wrote};
 ghost use Rattle.answer.specs.Responding.{framed, refusalBytes, Prints, Asks, Rooms, Responds};
-ghost use Rattle.au.specs.Merges.{fitOf, Cleared};
-use au::Answer;
-use au::clear_all;
+ghost use Rattle.au.specs.Merges.{fitOf};
+ghost use Rattle.merge_under.specs.Answers.{Cleared};
 use au::merge_plain;
 use image::be2;
 use image::be4;
+use merge_under::Answer;
+use outcome::clear_all;
 
 fn long(x: usize) -> u64
     ensures { λ r. ⌜ r ≡ x ⌝ }

@@ -1,4 +1,2 @@
-pub mod Slices
-pub mod Locals
 pub mod LocalArray
 pub mod BigLit

@@ -1,6 +1,3 @@
 pub mod Merges
-pub mod Prepared
-pub mod Engine
-pub mod Counts
-pub mod PreparedLaws
+pub mod Twice
 pub mod Assembled

@@ -19,7 +19,7 @@ use Rattle.laws.specs.Accepted as A
 use Rattle.flow.specs.Theorems.{margins, least, totals}
 use Rattle.lgg.specs.Pool.{PoolValid}
 use Rattle.lgg.specs.Readings as L
-use Rattle.au.specs.declared.Answer.the-variants.{Listing}
+use Rattle.merge_under.specs.declared.Answer.the-variants.{Listing}
 use Rattle.au.specs.Merges.{Merges}
 use Rattle.demands.specs.Calls.{accepted, read-of}
 

@@ -20,8 +20,8 @@ use Rattle.lgg.specs.Run.{Ends, inBuilding, inStarting, inRounds, run-ends}
 use Rattle.lgg.specs.Outcomes.{root-in, started-says}
 use Rattle.lgg.specs.Demand3 as D
 use Rattle.lgg.specs.Demand3.{FirstQuiet, Reported}
-use Rattle.au.specs.declared.Answer.{Answer}
-use Rattle.au.specs.declared.Answer.the-variants.{Listing, Refused}
+use Rattle.merge_under.specs.declared.Answer.{Answer}
+use Rattle.merge_under.specs.declared.Answer.the-variants.{Listing, Refused}
 use Rattle.au.specs.Merges.{Merges}
 use Rattle.demands.specs.Calls.{Taken, accepted}
 use Rattle.demands.specs.Refusals.{refused-12, refused-13, listing-where}

@@ -19,7 +19,7 @@ use Rattle.lgg.specs.Pool.{Formed, operation, literal, marked, PoolValid, numbe
 use Rattle.lgg.specs.PoolTrees.{tree-is}
 use Rattle.numbering.specs.WalkLaws.{visit-fresh, visit-new, subterms-closed}
 use Rattle.numbering.specs.NumberLaws.{at-in}
-use Rattle.au.specs.declared.Answer.the-variants.{Listing}
+use Rattle.merge_under.specs.declared.Answer.the-variants.{Listing}
 use Rattle.au.specs.Merges.{Merges}
 use Rattle.demands.specs.Calls.{accepted}
 use Rattle.demands.specs.Demand2 as D

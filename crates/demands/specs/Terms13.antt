@@ -20,8 +20,8 @@ use Rattle.lgg.specs.Counted.{termAfter, Counted, Beyond}
 use Rattle.lgg.specs.CountedFew.{Ends, FinalRuns}
 use Rattle.lgg.specs.CountedRun as L
 use Rattle.lgg.specs.Refused13 as N
-use Rattle.au.specs.declared.Answer.{Answer}
-use Rattle.au.specs.declared.Answer.the-variants.{Listing, Refused}
+use Rattle.merge_under.specs.declared.Answer.{Answer}
+use Rattle.merge_under.specs.declared.Answer.the-variants.{Listing, Refused}
 use Rattle.au.specs.Merges.{Merges}
 use Rattle.demands.specs.Calls.{Taken, read-of, accepted}
 use Rattle.demands.specs.Refusals.{refused-13}

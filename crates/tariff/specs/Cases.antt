@@ -14,8 +14,8 @@ use Rattle.spec.specs.Merge.{mergeOf}
 use Rattle.laws.specs.Accepted as A
 use Rattle.lgg.specs.Results.{refused-ok, refused-inj}
 use Rattle.lgg.specs.Demand3 as D
-use Rattle.au.specs.declared.Answer.{Answer}
-use Rattle.au.specs.declared.Answer.the-variants.{Listing, Refused, Doubled}
+use Rattle.merge_under.specs.declared.Answer.{Answer}
+use Rattle.merge_under.specs.declared.Answer.the-variants.{Listing, Refused, Doubled}
 use Rattle.au.specs.Merges.{fitOf, Merges}
 use Rattle.demands.specs.Calls.{Way, short, unsound, outside, stopped, over, listed, way}
 use Rattle.tariff.specs.declared.Returned.{Returned}

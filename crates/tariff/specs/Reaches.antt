@@ -10,8 +10,8 @@ use borrow.Author.Tests.{eq-eqb, ne-eqb}
 use Rattle.spec.specs.Image.{tablesOf}
 use Rattle.spec.specs.Run.{Outcome}
 use Rattle.spec.specs.Meaning.{_⊑_, readFirst, readSecond, treeAt, Belongs}
-use Rattle.au.specs.declared.Answer.{Answer}
-use Rattle.au.specs.declared.Answer.the-variants.{Listing, Refused, Doubled}
+use Rattle.merge_under.specs.declared.Answer.{Answer}
+use Rattle.merge_under.specs.declared.Answer.the-variants.{Listing, Refused, Doubled}
 use Rattle.au.specs.Merges.{Merges}
 use Rattle.demands.specs.Demand2 as D2
 use Rattle.demands.specs.Demand3 as D3

@@ -10,8 +10,8 @@ use Rattle.spec.specs.Bytes.{pick, Res, ok, refused}
 use Rattle.spec.specs.Image.{tablesOf}
 use Rattle.spec.specs.Merge.{mergeOf, outputAfter}
 use Rattle.spec.specs.Meaning.{HoldsDoubled}
-use Rattle.au.specs.declared.Answer.{Answer}
-use Rattle.au.specs.declared.Answer.the-variants.{Listing, Refused, Doubled}
+use Rattle.merge_under.specs.declared.Answer.{Answer}
+use Rattle.merge_under.specs.declared.Answer.the-variants.{Listing, Refused, Doubled}
 use Rattle.tariff.specs.declared.Returned.{Returned}
 use Rattle.tariff.specs.declared.Lengths.{Lengths}
 

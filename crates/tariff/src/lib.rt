@@ -1,9 +1,10 @@
 // The merge for other languages: one call with the C interface, and the lengths of its work buffers.
 ghost use mathlib.Core.Path.{_≡_};
 ghost use lib.ListN.{length};
-ghost use Rattle.au.specs.Merges.{fitOf, Cleared};
+ghost use Rattle.au.specs.Merges.{fitOf};
+ghost use Rattle.merge_under.specs.Answers.{Cleared};
 ghost use Rattle.tariff.specs.Returns.{returnedOf, lengths, Returns};
-use au::Answer;
+use merge_under::Answer;
 
 // 0 with a listing of so many bytes, or a refusal's number; with 10 a class that holds a literal that stands in two classes.
 #[repr(C)]

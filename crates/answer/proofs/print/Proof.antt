@@ -2,8 +2,8 @@ use mathlib.Core.Path.{ap, sym, _∙_}
 use borrow.Author.Needs.{needs}
 use mathlib.Core.Path.{subst}
 use Rattle.spec.specs.Bytes.{refused}
-use Rattle.au.specs.declared.Answer.{Answer}
-use Rattle.au.specs.Merges.{answerOf}
+use Rattle.merge_under.specs.declared.Answer.{Answer}
+use Rattle.merge_under.specs.Answers.{answerOf}
 use Rattle.answer.specs.Responding.{Prints}
 use Rattle.answer.specs.RespondingLaws.{prints-listing, prints-refusal}
 use Rattle.answer.proofs.print.Statement.{statement}

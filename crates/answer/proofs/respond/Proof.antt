@@ -1,6 +1,7 @@
 use native.Mathlib.Omega.{arith}
 use mathlib.Core.Path.{sym, _∙_}
 use borrow.Author.Needs.{needs}
+use Rattle.merge_under.specs.UnderLaws.{cleared-of}
 use Rattle.answer.specs.RespondingLaws.{responds, cleared-asked, not-framed}
 use Rattle.answer.proofs.respond.Statement.{statement}
 use Rattle.answer.proofs.respond.Tie as tie
@@ -76,7 +77,7 @@ returns-2 : tie.Need-returns-2
 returns-2 c =
     let a = c .before .before .before .before .before .before .before .before .before .before .before .before .before .before .before .before .before .before .before .before .before .before .before .before .before .before .before .before .before .before .before .before .before in
     let f = sym (c .before .before .before .before .before .before .before .before .before .before .before .before .before .before .before .before .before .before .before .before .before .before .before .before .is-framed .ensures) ∙ c .before .before .before .before .before .before .before .before .before .before .before .before .before .before .before .before .before .before .before .before .before .before .before .if1 .left in
-    (not-framed (a .args .input .now) (a .args .out .now) _ _ f (c .before .before .refusal .ensures), c .before .before .before .before .before .before .before .before .before .before .before .before .before .before .before .before .clear-all .ensures)
+    (not-framed (a .args .input .now) (a .args .out .now) _ _ f (c .before .before .refusal .ensures), cleared-of (c .before .before .before .before .before .before .before .before .before .before .before .before .before .before .before .before .clear-all .ensures))
 
 pub respond-spec : {M : Type 1} → statement M
 respond-spec =

@@ -15,11 +15,12 @@ use denote.Enum.Laws as NL
 use Rattle.pair_search.specs.declared.Pair.{Pair}
 use Rattle.pair_search.specs.Records.{none}
 use Rattle.pair_search.proofs.Pair as P
-use Rattle.au.specs.declared.Answer.{Answer}
-use Rattle.au.specs.Merges.{fitOf, fits, Merges, Cleared, Table}
-use Rattle.au.proofs.Slices.{Param, val, has, tok, kept}
-use Rattle.au.proofs.Answer as N
-use Rattle.au.proofs.Answer.Laws as N′
+use Rattle.merge_under.specs.declared.Answer.{Answer}
+use Rattle.au.specs.Merges.{fitOf, fits, Merges}
+use Rattle.merge_under.specs.Answers.{Cleared, Table}
+use Rattle.merge_under.proofs.Slices.{Param, val, has, tok, kept}
+use Rattle.merge_under.proofs.Answer as N
+use Rattle.merge_under.proofs.Answer.Laws as N′
 use mir.Syntax.{tyArray}
 use lib.ListN.{replicate}
 use types.Run.{free1, free0}

@@ -1,7 +1,7 @@
 use mathlib.Core.Bool.{Bool}
 use lib.Dec.{eqb}
 use Rattle.spec.specs.Bytes.{either}
-use Rattle.au.specs.Engine.{limited}
+use Rattle.au.specs.Twice.{limited}
 use borrow.Author.Tests.{ne-eqb}
 use Prim.Native.Nat.{_-_}
 use mathlib.Core.Path.{ap, sym, _∙_}

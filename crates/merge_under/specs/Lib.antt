@@ -1,0 +1,5 @@
+pub mod Answers
+pub mod Under
+pub mod Engine
+pub mod Counts
+pub mod UnderLaws

@@ -1,0 +1,74 @@
+use mathlib.Core.Path.{subst}
+use Rattle.judge.specs.declared.Verdict.{Verdict}
+use Rattle.judge.specs.Verdict.{resultOf, Carries}
+use lib.ListN.{length}
+use Rattle.query.specs.Settings.{limitsOf}
+use Rattle.prepare.specs.PreparingLaws.{image-refused}
+use Prim.Native.Nat.{_-_}
+use native.Mathlib.Omega.{arith}
+use mathlib.Core.Path.{refl, ap, sym, _∙_}
+use borrow.Author.Needs.{needs}
+use Rattle.prepare.proofs.prepare.Statement.{statement}
+use Rattle.prepare.proofs.prepare.Tie as tie
+
+judge-requires : tie.Need-judge-requires
+judge-requires c κs = search needs
+
+enum-known-v : tie.Need-enum-known-v
+enum-known-v c = search needs
+
+enum-known-v-2 : tie.Need-enum-known-v-2
+enum-known-v-2 c = search needs
+
+enum-known-v-3 : tie.Need-enum-known-v-3
+enum-known-v-3 c = search needs
+
+start-requires : tie.Need-start-requires
+start-requires c κs =
+    let a = c .before .before .before .before .before .before .before .before .before .before .before in
+    let s = a .args .s .now in
+    let e = c .before .before .before .before .v3 .given .1 in
+    (subst (λ (z : Verdict). Carries s z) e (c .before .before .before .before .before .before .judge .ensures .1), sym (c .before .before .before .before .before .before .judge .ensures .0) ∙ ap (λ (z : Verdict). resultOf s z) e, a .pre .0, a .pre .1)
+
+returns : tie.Need-returns
+returns c =
+    let a = c .before .before .before .before .before .before .before .before in
+    let s = a .args .s .now in
+    let e = c .before .v .given .1 in
+    let h = subst (λ (z : Verdict). Carries s z) e (c .before .before .before .judge .ensures .1) in
+    (image-refused (limitsOf (a .args .lim)) (length (a .args .graph .now)) s (a .args .q) (c .before .v .given .0 .0) (sym (ap (λ (z : Verdict). resultOf s z) e) ∙ c .before .before .before .judge .ensures .0), λ z. absurd (omega (arith, h)), (refl, refl, refl))
+
+returns-2 : tie.Need-returns-2
+returns-2 c =
+    let a = c .before .before .before .before .before .before .before .before in
+    let s = a .args .s .now in
+    let e = c .before .v2 .given .1 in
+    (image-refused (limitsOf (a .args .lim)) (length (a .args .graph .now)) s (a .args .q) 10 (sym (ap (λ (z : Verdict). resultOf s z) e) ∙ c .before .before .before .judge .ensures .0), sym e ∙ c .before .before .before .judge .ensures .2, subst (λ (z : Verdict). Carries s z) e (c .before .before .before .judge .ensures .1), (refl, refl, refl))
+
+same-length : tie.Need-same-length
+same-length c = search needs
+
+same-length-2 : tie.Need-same-length-2
+same-length-2 c = search needs
+
+same-length-3 : tie.Need-same-length-3
+same-length-3 c = search needs
+
+returns-3 : tie.Need-returns-3
+returns-3 c = search needs
+
+pub prepare-spec : {M : Type 1} → statement M
+prepare-spec =
+    tie.close
+    (tie.spec
+    judge-requires
+    enum-known-v
+    enum-known-v-2
+    enum-known-v-3
+    start-requires
+    returns
+    returns-2
+    same-length
+    same-length-2
+    same-length-3
+    returns-3)
