@@ -7,7 +7,6 @@ use Rattle.walks.specs.Walk.{whole, sub, look-in, agg, look, init, forget, stop
 use Rattle.walks.specs.Walk.{RattleType, Is, shows, pointee, u16, RefT, now, sliceTy, MutSlice, ShrSlice, Room, finally, slice-vals, mut-slice-tells, shr-slice-tells, plain, nothing, owned, facts, peeks, heard}
 use Rattle.walks.specs.Walk.{Contract, Triple, calls-at, ensured, lasts, Vals, onEntry, Meets, tripleOf, entered, cited, says, Stays, gave-slice, walkOf, Walks, ends-at, walked, goes-gave-slice, walk-meets, yes}
 use mir.Syntax.{w8, w32, tyArray}
-use lib.ListN.{replicate}
 use types.Kit as Kit
 use types.Tokens.{lft-new, lft-end}
 use denote.Array.{Array, array-typed}
@@ -19,7 +18,6 @@ use denote.Struct.Laws as LL
 use denote.Enum.Laws as NL
 use Rattle.spec.specs.Run.{documentLimits}
 use Rattle.pair_search.specs.declared.Pair.{Pair}
-use Rattle.pair_search.specs.Records.{none}
 use Rattle.pair_search.proofs.Pair as P
 use Rattle.pair_search.proofs.Pair.Laws as P′
 use Rattle.query.specs.declared.Limits.{Limits}
@@ -194,7 +192,7 @@ module _ {M : Type 1} (𝓤 : URA M) (H : Heap 𝓤) (A : Atoms 𝓤) (W : Given
       -- `full_table`, `document`, and `merge_under` with the table lent for a lifetime of the call
       starts : Sq W (‵ OwnS ∷ ‵ (has u16 p1 (named 1) (p1 .x .now)) ∷ ‵ (has u32 p2 (named 2) (p2 .x .now)) ∷ ‵ (has u64 p3 (named 3) (p3 .x .now)) ∷ ‵ (has u64 p4 (named 4) (p4 .x .now)) ∷ ‵ (has u32 p5 (named 5) (p5 .x .now)) ∷ ‵ (has u64 p6 (named 6) (p6 .x .now)) ∷ ‵ (has u8 p7 (named 7) (p7 .x .now)) ∷ ‵ (tok u8 p0) ∷ ‵ (tok u16 p1) ∷ ‵ (tok u32 p2) ∷ ‵ (tok u64 p3) ∷ ‵ (tok u64 p4) ∷ ‵ (tok u32 p5) ∷ ‵ (tok u64 p6) ∷ ‵ (tok u8 p7) ∷ ‵ (froom N′.mir l0 0) ∷ ‵ (fat fullShare sl0 l1 0 (val u8 p0)) ∷ ‵ (fat fullShare Y′.mir l2 0 mqy) ∷ ‵ (fat fullShare sl1 l3 0 (val u16 p1)) ∷ ‵ (fat fullShare sl2 l4 0 (val u32 p2)) ∷ ‵ (fat fullShare sl3 l5 0 (val u64 p3)) ∷ ‵ (fat fullShare sl4 l6 0 (val u64 p4)) ∷ ‵ (fat fullShare sl5 l7 0 (val u32 p5)) ∷ ‵ (fat fullShare sl6 l8 0 (val u64 p6)) ∷ ‵ (fat fullShare sl7 l9 0 (val u8 p7)) ∷ ‵ (froom arr l10 0) ∷ ‵ (froom L′.mir l11 0) ∷ ‵ (froom arr l12 0) ∷ ‵ (froom refA l13 0) ∷ ‵ (froom (sliceTy refP) l14 0) ∷ ‵ (froom ref16 l15 0) ∷ ‵ (froom (sliceTy ref16) l16 0) ∷ ‵ (froom ref32 l17 0) ∷ ‵ (froom (sliceTy ref32) l18 0) ∷ ‵ (froom ref64 l19 0) ∷ ‵ (froom (sliceTy ref64) l20 0) ∷ ‵ (froom ref64 l21 0) ∷ ‵ (froom (sliceTy ref64) l22 0) ∷ ‵ (froom ref32 l23 0) ∷ ‵ (froom (sliceTy ref32) l24 0) ∷ ‵ (froom ref64 l25 0) ∷ ‵ (froom (sliceTy ref64) l26 0) ∷ ‵ (froom ref8 l27 0) ∷ ‵ (froom (sliceTy ref8) l28 0) ∷ Dies ∷ []) (runs C Λ En m.t-1 (atRet En Post))
       starts =
-          use0 W (raw (FullTable 𝓤 H A mem run .pre to-full-table)) goes-full-table $ calls-at ! fm (FullTable 𝓤 H A mem run) known-full-table to-full-table (no-more !) (λ wA. use1 W (later (some (λ (gA : List Pair). (‵ ftrue ⊛ ‵ ((Array R cap) .own gA (wA ∷ []))) ⊛ raw (ensured 𝓤 H A full-table′.ended (full-table′.clauses 𝓤 H A mem run) tt tt tt gA)))) (id⊢ 𝓤 _) $ await ! tt $ pick ! (λ gA. split ! $ move ! (1 ∷ []) $ use1 W (some (λ (zsA : Unit {0}). ‵ (lasts full-table′.ended tt tt zsA) ⊛ raw (fact 𝓤 (gA ≡ replicate cap none)))) (id⊢ 𝓤 _) $ pick ! (λ zsA. split ! $ move ! (1 ∷ []) $ heard ! (gA ≡ replicate cap none) (λ eA. drop ! $ split ! $ move ! (1 ∷ []) $ peeks ! (Array R cap) (Is (Array R cap)) (shows 𝓤 H A (Array R cap)) gA (wA ∷ []) (λ isA. land ! (from ! (stop !)) (init ! 30 refl (array-typed R (λ y vs p. LL.lawful P.the-type P′.the-laws 𝓤 H A W .typed y vs p) cap gA _ isA .0)) $ move ! (1 ∷ []) $ drop ! $ assigns ! (of-opd ! (load ! (from ! (stop !)) (look ! 29 refl))) (from ! (stop !)) (init ! 27 refl (array-typed R (λ y vs p. LL.lawful P.the-type P′.the-laws 𝓤 H A W .typed y vs p) cap gA _ isA .0)) $ use0 W (raw (Document 𝓤 H A mem run .pre to-document)) goes-document $ calls-at ! fm (Document 𝓤 H A mem run) known-document to-document (no-more !) (λ wD. use1 W (later (some (λ (gD : Limits). (‵ ftrue ⊛ ‵ (L.the-row .own gD (wD ∷ []))) ⊛ raw (ensured 𝓤 H A document′.ended (document′.clauses 𝓤 H A mem run) tt tt tt gD)))) (id⊢ 𝓤 _) $ await ! tt $ pick ! (λ gD. split ! $ move ! (1 ∷ []) $ use1 W (some (λ (zsD : Unit {0}). ‵ (lasts document′.ended tt tt zsD) ⊛ raw (fact 𝓤 (limitsOf gD ≡ documentLimits)))) (id⊢ 𝓤 _) $ pick ! (λ zsD. split ! $ move ! (1 ∷ []) $ heard ! (limitsOf gD ≡ documentLimits) (λ eD. drop ! $ split ! $ move ! (1 ∷ []) $ facts ! L.the-row (Is L.the-row) (shows 𝓤 H A L.the-row) gD (wD ∷ []) (λ isD. land ! (from ! (stop !)) (init ! 29 refl (LL.lawful L.the-type L′.the-laws 𝓤 H A W .typed gD _ isD .0)) $ drop ! $ assigns ! (addr ! (from ! (stop !))) (from ! (stop !)) (init ! 30 refl (tt, tt)) $ assigns ! (agg ! (and-then ! (load ! (from ! (stop !)) (look ! 30 refl)) (and-then ! (big-lit ! (record { fits = lit< tt })) (no-more !)))) (from ! (stop !)) (init ! 31 refl (tt, (tt, (record { fits = lit< tt }, tt)))) $ assigns ! (addr ! (from ! (fld ! refl (hop ! (look-in ! 20 (sub ! 0 refl (whole !))) (stop !))))) (from ! (stop !)) (init ! 32 refl (tt, tt)) $ assigns ! (agg ! (and-then ! (load ! (from ! (stop !)) (look ! 32 refl)) (and-then ! (load ! (from ! (fld ! refl (stop !))) (look-in ! 20 (sub ! 1 refl (whole !)))) (no-more !)))) (from ! (stop !)) (init ! 33 refl (tt, (tt, (record { fits = p1 .room .0 }, tt)))) $ assigns ! (addr ! (from ! (fld ! refl (hop ! (look-in ! 21 (sub ! 0 refl (whole !))) (stop !))))) (from ! (stop !)) (init ! 34 refl (tt, tt)) $ assigns ! (agg ! (and-then ! (load ! (from ! (stop !)) (look ! 34 refl)) (and-then ! (load ! (from ! (fld ! refl (stop !))) (look-in ! 21 (sub ! 1 refl (whole !)))) (no-more !)))) (from ! (stop !)) (init ! 35 refl (tt, (tt, (record { fits = p2 .room .0 }, tt)))) $ assigns ! (addr ! (from ! (fld ! refl (hop ! (look-in ! 22 (sub ! 0 refl (whole !))) (stop !))))) (from ! (stop !)) (init ! 36 refl (tt, tt)) $ assigns ! (agg ! (and-then ! (load ! (from ! (stop !)) (look ! 36 refl)) (and-then ! (load ! (from ! (fld ! refl (stop !))) (look-in ! 22 (sub ! 1 refl (whole !)))) (no-more !)))) (from ! (stop !)) (init ! 37 refl (tt, (tt, (record { fits = p3 .room .0 }, tt)))) $ assigns ! (addr ! (from ! (fld ! refl (hop ! (look-in ! 23 (sub ! 0 refl (whole !))) (stop !))))) (from ! (stop !)) (init ! 38 refl (tt, tt)) $ assigns ! (agg ! (and-then ! (load ! (from ! (stop !)) (look ! 38 refl)) (and-then ! (load ! (from ! (fld ! refl (stop !))) (look-in ! 23 (sub ! 1 refl (whole !)))) (no-more !)))) (from ! (stop !)) (init ! 39 refl (tt, (tt, (record { fits = p4 .room .0 }, tt)))) $ assigns ! (addr ! (from ! (fld ! refl (hop ! (look-in ! 24 (sub ! 0 refl (whole !))) (stop !))))) (from ! (stop !)) (init ! 40 refl (tt, tt)) $ assigns ! (agg ! (and-then ! (load ! (from ! (stop !)) (look ! 40 refl)) (and-then ! (load ! (from ! (fld ! refl (stop !))) (look-in ! 24 (sub ! 1 refl (whole !)))) (no-more !)))) (from ! (stop !)) (init ! 41 refl (tt, (tt, (record { fits = p5 .room .0 }, tt)))) $ assigns ! (addr ! (from ! (fld ! refl (hop ! (look-in ! 25 (sub ! 0 refl (whole !))) (stop !))))) (from ! (stop !)) (init ! 42 refl (tt, tt)) $ assigns ! (agg ! (and-then ! (load ! (from ! (stop !)) (look ! 42 refl)) (and-then ! (load ! (from ! (fld ! refl (stop !))) (look-in ! 25 (sub ! 1 refl (whole !)))) (no-more !)))) (from ! (stop !)) (init ! 43 refl (tt, (tt, (record { fits = p6 .room .0 }, tt)))) $ assigns ! (addr ! (from ! (fld ! refl (hop ! (look-in ! 26 (sub ! 0 refl (whole !))) (stop !))))) (from ! (stop !)) (init ! 44 refl (tt, tt)) $ assigns ! (agg ! (and-then ! (load ! (from ! (stop !)) (look ! 44 refl)) (and-then ! (load ! (from ! (fld ! refl (stop !))) (look-in ! 26 (sub ! 1 refl (whole !)))) (no-more !)))) (from ! (stop !)) (init ! 45 refl (tt, (tt, (record { fits = p7 .room .0 }, tt)))) $ lft-new ! tt (λ ν. move ! (28 ∷ 1 ∷ []) $ use2 W (later (some (λ (γ : GName). ‵ (Lent 𝓤 H A W R cap l10 (ν ∷ []) (named 1) gA γ)))) (lends-array 𝓤 H A W R cap l10 (ν ∷ []) tt (named 1) gA wA (isA .1 .0 .1) room) $ await ! tt $ pick ! (λ γ. fsplit ! $ move ! (3 ∷ 11 ∷ 2 ∷ 0 ∷ 4 ∷ 12 ∷ 5 ∷ 13 ∷ 6 ∷ 14 ∷ 7 ∷ 15 ∷ 8 ∷ 16 ∷ 9 ∷ 17 ∷ 10 ∷ 18 ∷ []) $ group ! 18 $ use1 W (raw (Under 𝓤 H A mem run .pre (to-under gA l10 ν γ gD wD))) (goes-under gA l10 ν γ gD wD isD (asked-full gD gA (p1 .x .now) (p2 .x .now) (p3 .x .now) (p4 .x .now) (p5 .x .now) (p6 .x .now) eD (isA .1 .0 .1) long)) $ calls-at ! fm (Under 𝓤 H A mem run) known-merge-under (to-under gA l10 ν γ gD wD) (and-then ! (load ! (from ! (stop !)) (look ! 12 refl)) (and-then ! (load ! (from ! (stop !)) (look ! 3 refl)) (and-then ! (load ! (from ! (stop !)) (look ! 4 refl)) (and-then ! (load ! (from ! (stop !)) (look ! 15 refl)) (and-then ! (load ! (from ! (stop !)) (look ! 17 refl)) (and-then ! (load ! (from ! (stop !)) (look ! 19 refl)) (and-then ! (load ! (from ! (stop !)) (look ! 21 refl)) (and-then ! (load ! (from ! (stop !)) (look ! 23 refl)) (and-then ! (load ! (from ! (stop !)) (look ! 25 refl)) (and-then ! (load ! (from ! (stop !)) (look ! 27 refl)) (and-then ! (load ! (from ! (stop !)) (look ! 29 refl)) (no-more !)))))))))))) (λ wM. use1 W (later (some (λ (gM : Answer). ((‵ (tok u8 p0) ⊛ (‵ (flft (ν ∷ []) fullShare) ⊛ (‵ (tok u16 p1) ⊛ (‵ (tok u32 p2) ⊛ (‵ (tok u64 p3) ⊛ (‵ (tok u64 p4) ⊛ (‵ (tok u32 p5) ⊛ (‵ (tok u64 p6) ⊛ (‵ (tok u8 p7) ⊛ ‵ ftrue))))))))) ⊛ ‵ (N.the-row .own gM (wM ∷ []))) ⊛ raw (ensured 𝓤 H A merge-under′.ended (merge-under′.clauses 𝓤 H A mem run) (p0 .κ, (ν ∷ [], (p1 .κ, (p2 .κ, (p3 .κ, (p4 .κ, (p5 .κ, (p6 .κ, (p7 .κ, tt))))))))) (gD, (p0 .x, (qy, (tab gA l10 γ, (p1 .x, (p2 .x, (p3 .x, (p4 .x, (p5 .x, (p6 .x, (p7 .x, tt))))))))))) tt gM)))) (id⊢ 𝓤 _) $ await ! tt $ pick ! (λ gM. split ! $ move ! (1 ∷ []) $ use1 W (some (λ (zsM : (Unit {0} × (Unit {0} × (Unit {0} × (List Pair × (List ℕ × (List ℕ × (List ℕ × (List ℕ × (List ℕ × (List ℕ × (List ℕ × Unit {0})))))))))))). ‵ (lasts merge-under′.ended (p0 .κ, (ν ∷ [], (p1 .κ, (p2 .κ, (p3 .κ, (p4 .κ, (p5 .κ, (p6 .κ, (p7 .κ, tt))))))))) (gD, (p0 .x, (qy, (tab gA l10 γ, (p1 .x, (p2 .x, (p3 .x, (p4 .x, (p5 .x, (p6 .x, (p7 .x, tt))))))))))) zsM) ⊛ raw (fact 𝓤 (MergesUnder (limitsOf gD) (length (p1 .x .now)) (p0 .x .now) qy (p7 .x .now) (zsM .1 .1 .1 .1 .1 .1 .1 .1 .1 .1 .0) gM × Table true gA (zsM .1 .1 .1 .0) × Cleared true (p1 .x .now) (zsM .1 .1 .1 .1 .0) (p2 .x .now) (zsM .1 .1 .1 .1 .1 .0) (p3 .x .now) (zsM .1 .1 .1 .1 .1 .1 .0) (p4 .x .now) (zsM .1 .1 .1 .1 .1 .1 .1 .0) (p5 .x .now) (zsM .1 .1 .1 .1 .1 .1 .1 .1 .0) (p6 .x .now) (zsM .1 .1 .1 .1 .1 .1 .1 .1 .1 .0))))) (id⊢ 𝓤 _) $ pick ! (λ zsM. split ! $ move ! (1 ∷ []) $ heard ! (MergesUnder (limitsOf gD) (length (p1 .x .now)) (p0 .x .now) qy (p7 .x .now) (zsM .1 .1 .1 .1 .1 .1 .1 .1 .1 .1 .0) gM × Table true gA (zsM .1 .1 .1 .0) × Cleared true (p1 .x .now) (zsM .1 .1 .1 .1 .0) (p2 .x .now) (zsM .1 .1 .1 .1 .1 .0) (p3 .x .now) (zsM .1 .1 .1 .1 .1 .1 .0) (p4 .x .now) (zsM .1 .1 .1 .1 .1 .1 .1 .0) (p5 .x .now) (zsM .1 .1 .1 .1 .1 .1 .1 .1 .0) (p6 .x .now) (zsM .1 .1 .1 .1 .1 .1 .1 .1 .1 .0)) (λ eM. fsplit ! $ drop ! $ fsplit ! $ drop ! $ fsplit ! $ drop ! $ fsplit ! $ fsplit ! $ move ! (1 ∷ []) $ feqL ! (λ sameM0. move ! (1 ∷ []) $ fsplit ! $ fsplit ! $ move ! (1 ∷ []) $ feqL ! (λ sameM1. move ! (1 ∷ []) $ fsplit ! $ fsplit ! $ move ! (1 ∷ []) $ feqL ! (λ sameM2. move ! (1 ∷ []) $ fsplit ! $ fsplit ! $ move ! (1 ∷ []) $ feqL ! (λ sameM3. move ! (1 ∷ []) $ fsplit ! $ fsplit ! $ move ! (1 ∷ []) $ feqL ! (λ sameM4. move ! (1 ∷ []) $ fsplit ! $ fsplit ! $ move ! (1 ∷ []) $ feqL ! (λ sameM5. move ! (1 ∷ []) $ fsplit ! $ fsplit ! $ move ! (1 ∷ []) $ feqL ! (λ sameM6. move ! (1 ∷ []) $ fsplit ! $ fsplit ! $ move ! (1 ∷ []) $ feqL ! (λ sameM7. move ! (1 ∷ []) $ drop ! $ move ! (8 ∷ []) $ split ! $ move ! (1 ∷ []) $ peeks ! N.the-row (Is N.the-row) (shows 𝓤 H A N.the-row) gM (wM ∷ []) (λ isM. land ! (from ! (stop !)) (init ! 11 refl (NL.lawful N.the-type N′.the-laws 𝓤 H A W tt .typed gM _ isM .0)) $ move ! (1 ∷ []) $ split ! $ move ! (1 ∷ []) $ split ! $ move ! (1 ∷ []) $ split ! $ move ! (1 ∷ []) $ split ! $ move ! (1 ∷ []) $ split ! $ move ! (1 ∷ []) $ split ! $ move ! (1 ∷ []) $ split ! $ move ! (1 ∷ []) $ split ! $ move ! (1 ∷ []) $ split ! $ move ! (1 ∷ []) $ drop ! $ move ! (7 ∷ []) $ lft-end ! tt $ move ! (0 ∷ 18 ∷ 17 ∷ []) $ use3 W (later (‵ (froom arr l10 0))) (array-room 𝓤 H A W R cap l10 (ν ∷ []) γ (zsM .1 .1 .1 .0)) $ await ! tt $ returns ! (look ! 17 refl) $ forget ! 17 refl $ forget ! 18 refl $ forget ! 19 refl $ forget ! 20 refl $ forget ! 21 refl $ forget ! 22 refl $ forget ! 23 refl $ forget ! 24 refl $ forget ! 25 refl $ forget ! 26 refl $ forget ! 27 refl $ forget ! 28 refl $ forget ! 29 refl $ forget ! 30 refl $ forget ! 31 refl $ forget ! 32 refl $ forget ! 33 refl $ forget ! 34 refl $ forget ! 35 refl $ forget ! 36 refl $ forget ! 37 refl $ forget ! 38 refl $ forget ! 39 refl $ forget ! 40 refl $ forget ! 41 refl $ forget ! 42 refl $ forget ! 43 refl $ forget ! 44 refl $ move ! (17 ∷ 18 ∷ 19 ∷ 20 ∷ 21 ∷ 22 ∷ 23 ∷ 24 ∷ 25 ∷ 26 ∷ 0 ∷ 27 ∷ 28 ∷ 29 ∷ 30 ∷ 31 ∷ 32 ∷ 33 ∷ 34 ∷ 35 ∷ 36 ∷ 37 ∷ 38 ∷ 39 ∷ 40 ∷ 41 ∷ 42 ∷ 43 ∷ 44 ∷ 45 ∷ 8 ∷ 7 ∷ 6 ∷ 5 ∷ 4 ∷ 3 ∷ 2 ∷ 1 ∷ 16 ∷ 15 ∷ 14 ∷ 13 ∷ 12 ∷ 11 ∷ 10 ∷ 9 ∷ []) $ group ! 29 $ frees-all (N′.mir, l0) ((sl0, l1) ∷ (Y′.mir, l2) ∷ (sl1, l3) ∷ (sl2, l4) ∷ (sl3, l5) ∷ (sl4, l6) ∷ (sl5, l7) ∷ (sl6, l8) ∷ (sl7, l9) ∷ (arr, l10) ∷ (L′.mir, l11) ∷ (arr, l12) ∷ (refA, l13) ∷ ((sliceTy refP), l14) ∷ (ref16, l15) ∷ ((sliceTy ref16), l16) ∷ (ref32, l17) ∷ ((sliceTy ref32), l18) ∷ (ref64, l19) ∷ ((sliceTy ref64), l20) ∷ (ref64, l21) ∷ ((sliceTy ref64), l22) ∷ (ref32, l23) ∷ ((sliceTy ref32), l24) ∷ (ref64, l25) ∷ ((sliceTy ref64), l26) ∷ (ref8, l27) ∷ ((sliceTy ref8), l28) ∷ []) (keep ! (0 ∷ 1 ∷ 2 ∷ 3 ∷ 4 ∷ 5 ∷ 6 ∷ 7 ∷ 8 ∷ 9 ∷ 10 ∷ 11 ∷ 12 ∷ 13 ∷ 14 ∷ 15 ∷ []) $ by ! (exits gM wM (zsM .1 .1 .1 .1 .0) (zsM .1 .1 .1 .1 .1 .0) (zsM .1 .1 .1 .1 .1 .1 .0) (zsM .1 .1 .1 .1 .1 .1 .1 .0) (zsM .1 .1 .1 .1 .1 .1 .1 .1 .0) (zsM .1 .1 .1 .1 .1 .1 .1 .1 .1 .0) (zsM .1 .1 .1 .1 .1 .1 .1 .1 .1 .1 .0) sameM1 sameM2 sameM3 sameM4 sameM5 sameM6 sameM7 (merges-full (p0 .x .now) qy gD eD (length (p1 .x .now)) (long .graph) (p7 .x .now) (zsM .1 .1 .1 .1 .1 .1 .1 .1 .1 .1 .0) gM (eM .0)))))))))))))))))))))))))))))
+          use0 W (raw (FullTable 𝓤 H A mem run .pre to-full-table)) goes-full-table $ calls-at ! fm (FullTable 𝓤 H A mem run) known-full-table to-full-table (no-more !) (λ wA. use1 W (later (some (λ (gA : List Pair). (‵ ftrue ⊛ ‵ ((Array R cap) .own gA (wA ∷ []))) ⊛ raw (ensured 𝓤 H A full-table′.ended (full-table′.clauses 𝓤 H A mem run) tt tt tt gA)))) (id⊢ 𝓤 _) $ await ! tt $ pick ! (λ gA. split ! $ move ! (1 ∷ []) $ drop ! $ split ! $ move ! (1 ∷ []) $ peeks ! (Array R cap) (Is (Array R cap)) (shows 𝓤 H A (Array R cap)) gA (wA ∷ []) (λ isA. land ! (from ! (stop !)) (init ! 30 refl (array-typed R (λ y vs p. LL.lawful P.the-type P′.the-laws 𝓤 H A W .typed y vs p) cap gA _ isA .0)) $ move ! (1 ∷ []) $ drop ! $ assigns ! (of-opd ! (load ! (from ! (stop !)) (look ! 29 refl))) (from ! (stop !)) (init ! 27 refl (array-typed R (λ y vs p. LL.lawful P.the-type P′.the-laws 𝓤 H A W .typed y vs p) cap gA _ isA .0)) $ use0 W (raw (Document 𝓤 H A mem run .pre to-document)) goes-document $ calls-at ! fm (Document 𝓤 H A mem run) known-document to-document (no-more !) (λ wD. use1 W (later (some (λ (gD : Limits). (‵ ftrue ⊛ ‵ (L.the-row .own gD (wD ∷ []))) ⊛ raw (ensured 𝓤 H A document′.ended (document′.clauses 𝓤 H A mem run) tt tt tt gD)))) (id⊢ 𝓤 _) $ await ! tt $ pick ! (λ gD. split ! $ move ! (1 ∷ []) $ use1 W (some (λ (zsD : Unit {0}). ‵ (lasts document′.ended tt tt zsD) ⊛ raw (fact 𝓤 (limitsOf gD ≡ documentLimits)))) (id⊢ 𝓤 _) $ pick ! (λ zsD. split ! $ move ! (1 ∷ []) $ heard ! (limitsOf gD ≡ documentLimits) (λ eD. drop ! $ split ! $ move ! (1 ∷ []) $ facts ! L.the-row (Is L.the-row) (shows 𝓤 H A L.the-row) gD (wD ∷ []) (λ isD. land ! (from ! (stop !)) (init ! 29 refl (LL.lawful L.the-type L′.the-laws 𝓤 H A W .typed gD _ isD .0)) $ drop ! $ assigns ! (addr ! (from ! (stop !))) (from ! (stop !)) (init ! 30 refl (tt, tt)) $ assigns ! (agg ! (and-then ! (load ! (from ! (stop !)) (look ! 30 refl)) (and-then ! (big-lit ! (record { fits = lit< tt })) (no-more !)))) (from ! (stop !)) (init ! 31 refl (tt, (tt, (record { fits = lit< tt }, tt)))) $ assigns ! (addr ! (from ! (fld ! refl (hop ! (look-in ! 20 (sub ! 0 refl (whole !))) (stop !))))) (from ! (stop !)) (init ! 32 refl (tt, tt)) $ assigns ! (agg ! (and-then ! (load ! (from ! (stop !)) (look ! 32 refl)) (and-then ! (load ! (from ! (fld ! refl (stop !))) (look-in ! 20 (sub ! 1 refl (whole !)))) (no-more !)))) (from ! (stop !)) (init ! 33 refl (tt, (tt, (record { fits = p1 .room .0 }, tt)))) $ assigns ! (addr ! (from ! (fld ! refl (hop ! (look-in ! 21 (sub ! 0 refl (whole !))) (stop !))))) (from ! (stop !)) (init ! 34 refl (tt, tt)) $ assigns ! (agg ! (and-then ! (load ! (from ! (stop !)) (look ! 34 refl)) (and-then ! (load ! (from ! (fld ! refl (stop !))) (look-in ! 21 (sub ! 1 refl (whole !)))) (no-more !)))) (from ! (stop !)) (init ! 35 refl (tt, (tt, (record { fits = p2 .room .0 }, tt)))) $ assigns ! (addr ! (from ! (fld ! refl (hop ! (look-in ! 22 (sub ! 0 refl (whole !))) (stop !))))) (from ! (stop !)) (init ! 36 refl (tt, tt)) $ assigns ! (agg ! (and-then ! (load ! (from ! (stop !)) (look ! 36 refl)) (and-then ! (load ! (from ! (fld ! refl (stop !))) (look-in ! 22 (sub ! 1 refl (whole !)))) (no-more !)))) (from ! (stop !)) (init ! 37 refl (tt, (tt, (record { fits = p3 .room .0 }, tt)))) $ assigns ! (addr ! (from ! (fld ! refl (hop ! (look-in ! 23 (sub ! 0 refl (whole !))) (stop !))))) (from ! (stop !)) (init ! 38 refl (tt, tt)) $ assigns ! (agg ! (and-then ! (load ! (from ! (stop !)) (look ! 38 refl)) (and-then ! (load ! (from ! (fld ! refl (stop !))) (look-in ! 23 (sub ! 1 refl (whole !)))) (no-more !)))) (from ! (stop !)) (init ! 39 refl (tt, (tt, (record { fits = p4 .room .0 }, tt)))) $ assigns ! (addr ! (from ! (fld ! refl (hop ! (look-in ! 24 (sub ! 0 refl (whole !))) (stop !))))) (from ! (stop !)) (init ! 40 refl (tt, tt)) $ assigns ! (agg ! (and-then ! (load ! (from ! (stop !)) (look ! 40 refl)) (and-then ! (load ! (from ! (fld ! refl (stop !))) (look-in ! 24 (sub ! 1 refl (whole !)))) (no-more !)))) (from ! (stop !)) (init ! 41 refl (tt, (tt, (record { fits = p5 .room .0 }, tt)))) $ assigns ! (addr ! (from ! (fld ! refl (hop ! (look-in ! 25 (sub ! 0 refl (whole !))) (stop !))))) (from ! (stop !)) (init ! 42 refl (tt, tt)) $ assigns ! (agg ! (and-then ! (load ! (from ! (stop !)) (look ! 42 refl)) (and-then ! (load ! (from ! (fld ! refl (stop !))) (look-in ! 25 (sub ! 1 refl (whole !)))) (no-more !)))) (from ! (stop !)) (init ! 43 refl (tt, (tt, (record { fits = p6 .room .0 }, tt)))) $ assigns ! (addr ! (from ! (fld ! refl (hop ! (look-in ! 26 (sub ! 0 refl (whole !))) (stop !))))) (from ! (stop !)) (init ! 44 refl (tt, tt)) $ assigns ! (agg ! (and-then ! (load ! (from ! (stop !)) (look ! 44 refl)) (and-then ! (load ! (from ! (fld ! refl (stop !))) (look-in ! 26 (sub ! 1 refl (whole !)))) (no-more !)))) (from ! (stop !)) (init ! 45 refl (tt, (tt, (record { fits = p7 .room .0 }, tt)))) $ lft-new ! tt (λ ν. move ! (28 ∷ 1 ∷ []) $ use2 W (later (some (λ (γ : GName). ‵ (Lent 𝓤 H A W R cap l10 (ν ∷ []) (named 1) gA γ)))) (lends-array 𝓤 H A W R cap l10 (ν ∷ []) tt (named 1) gA wA (isA .1 .0 .1) room) $ await ! tt $ pick ! (λ γ. fsplit ! $ move ! (3 ∷ 11 ∷ 2 ∷ 0 ∷ 4 ∷ 12 ∷ 5 ∷ 13 ∷ 6 ∷ 14 ∷ 7 ∷ 15 ∷ 8 ∷ 16 ∷ 9 ∷ 17 ∷ 10 ∷ 18 ∷ []) $ group ! 18 $ use1 W (raw (Under 𝓤 H A mem run .pre (to-under gA l10 ν γ gD wD))) (goes-under gA l10 ν γ gD wD isD (asked-full gD gA (p1 .x .now) (p2 .x .now) (p3 .x .now) (p4 .x .now) (p5 .x .now) (p6 .x .now) eD (isA .1 .0 .1) long)) $ calls-at ! fm (Under 𝓤 H A mem run) known-merge-under (to-under gA l10 ν γ gD wD) (and-then ! (load ! (from ! (stop !)) (look ! 12 refl)) (and-then ! (load ! (from ! (stop !)) (look ! 3 refl)) (and-then ! (load ! (from ! (stop !)) (look ! 4 refl)) (and-then ! (load ! (from ! (stop !)) (look ! 15 refl)) (and-then ! (load ! (from ! (stop !)) (look ! 17 refl)) (and-then ! (load ! (from ! (stop !)) (look ! 19 refl)) (and-then ! (load ! (from ! (stop !)) (look ! 21 refl)) (and-then ! (load ! (from ! (stop !)) (look ! 23 refl)) (and-then ! (load ! (from ! (stop !)) (look ! 25 refl)) (and-then ! (load ! (from ! (stop !)) (look ! 27 refl)) (and-then ! (load ! (from ! (stop !)) (look ! 29 refl)) (no-more !)))))))))))) (λ wM. use1 W (later (some (λ (gM : Answer). ((‵ (tok u8 p0) ⊛ (‵ (flft (ν ∷ []) fullShare) ⊛ (‵ (tok u16 p1) ⊛ (‵ (tok u32 p2) ⊛ (‵ (tok u64 p3) ⊛ (‵ (tok u64 p4) ⊛ (‵ (tok u32 p5) ⊛ (‵ (tok u64 p6) ⊛ (‵ (tok u8 p7) ⊛ ‵ ftrue))))))))) ⊛ ‵ (N.the-row .own gM (wM ∷ []))) ⊛ raw (ensured 𝓤 H A merge-under′.ended (merge-under′.clauses 𝓤 H A mem run) (p0 .κ, (ν ∷ [], (p1 .κ, (p2 .κ, (p3 .κ, (p4 .κ, (p5 .κ, (p6 .κ, (p7 .κ, tt))))))))) (gD, (p0 .x, (qy, (tab gA l10 γ, (p1 .x, (p2 .x, (p3 .x, (p4 .x, (p5 .x, (p6 .x, (p7 .x, tt))))))))))) tt gM)))) (id⊢ 𝓤 _) $ await ! tt $ pick ! (λ gM. split ! $ move ! (1 ∷ []) $ use1 W (some (λ (zsM : (Unit {0} × (Unit {0} × (Unit {0} × (List Pair × (List ℕ × (List ℕ × (List ℕ × (List ℕ × (List ℕ × (List ℕ × (List ℕ × Unit {0})))))))))))). ‵ (lasts merge-under′.ended (p0 .κ, (ν ∷ [], (p1 .κ, (p2 .κ, (p3 .κ, (p4 .κ, (p5 .κ, (p6 .κ, (p7 .κ, tt))))))))) (gD, (p0 .x, (qy, (tab gA l10 γ, (p1 .x, (p2 .x, (p3 .x, (p4 .x, (p5 .x, (p6 .x, (p7 .x, tt))))))))))) zsM) ⊛ raw (fact 𝓤 (MergesUnder (limitsOf gD) (length (p1 .x .now)) (p0 .x .now) qy (p7 .x .now) (zsM .1 .1 .1 .1 .1 .1 .1 .1 .1 .1 .0) gM × Table true gA (zsM .1 .1 .1 .0) × Cleared true (p1 .x .now) (zsM .1 .1 .1 .1 .0) (p2 .x .now) (zsM .1 .1 .1 .1 .1 .0) (p3 .x .now) (zsM .1 .1 .1 .1 .1 .1 .0) (p4 .x .now) (zsM .1 .1 .1 .1 .1 .1 .1 .0) (p5 .x .now) (zsM .1 .1 .1 .1 .1 .1 .1 .1 .0) (p6 .x .now) (zsM .1 .1 .1 .1 .1 .1 .1 .1 .1 .0))))) (id⊢ 𝓤 _) $ pick ! (λ zsM. split ! $ move ! (1 ∷ []) $ heard ! (MergesUnder (limitsOf gD) (length (p1 .x .now)) (p0 .x .now) qy (p7 .x .now) (zsM .1 .1 .1 .1 .1 .1 .1 .1 .1 .1 .0) gM × Table true gA (zsM .1 .1 .1 .0) × Cleared true (p1 .x .now) (zsM .1 .1 .1 .1 .0) (p2 .x .now) (zsM .1 .1 .1 .1 .1 .0) (p3 .x .now) (zsM .1 .1 .1 .1 .1 .1 .0) (p4 .x .now) (zsM .1 .1 .1 .1 .1 .1 .1 .0) (p5 .x .now) (zsM .1 .1 .1 .1 .1 .1 .1 .1 .0) (p6 .x .now) (zsM .1 .1 .1 .1 .1 .1 .1 .1 .1 .0)) (λ eM. fsplit ! $ drop ! $ fsplit ! $ drop ! $ fsplit ! $ drop ! $ fsplit ! $ fsplit ! $ move ! (1 ∷ []) $ feqL ! (λ sameM0. move ! (1 ∷ []) $ fsplit ! $ fsplit ! $ move ! (1 ∷ []) $ feqL ! (λ sameM1. move ! (1 ∷ []) $ fsplit ! $ fsplit ! $ move ! (1 ∷ []) $ feqL ! (λ sameM2. move ! (1 ∷ []) $ fsplit ! $ fsplit ! $ move ! (1 ∷ []) $ feqL ! (λ sameM3. move ! (1 ∷ []) $ fsplit ! $ fsplit ! $ move ! (1 ∷ []) $ feqL ! (λ sameM4. move ! (1 ∷ []) $ fsplit ! $ fsplit ! $ move ! (1 ∷ []) $ feqL ! (λ sameM5. move ! (1 ∷ []) $ fsplit ! $ fsplit ! $ move ! (1 ∷ []) $ feqL ! (λ sameM6. move ! (1 ∷ []) $ fsplit ! $ fsplit ! $ move ! (1 ∷ []) $ feqL ! (λ sameM7. move ! (1 ∷ []) $ drop ! $ move ! (8 ∷ []) $ split ! $ move ! (1 ∷ []) $ peeks ! N.the-row (Is N.the-row) (shows 𝓤 H A N.the-row) gM (wM ∷ []) (λ isM. land ! (from ! (stop !)) (init ! 11 refl (NL.lawful N.the-type N′.the-laws 𝓤 H A W tt .typed gM _ isM .0)) $ move ! (1 ∷ []) $ split ! $ move ! (1 ∷ []) $ split ! $ move ! (1 ∷ []) $ split ! $ move ! (1 ∷ []) $ split ! $ move ! (1 ∷ []) $ split ! $ move ! (1 ∷ []) $ split ! $ move ! (1 ∷ []) $ split ! $ move ! (1 ∷ []) $ split ! $ move ! (1 ∷ []) $ split ! $ move ! (1 ∷ []) $ drop ! $ move ! (7 ∷ []) $ lft-end ! tt $ move ! (0 ∷ 18 ∷ 17 ∷ []) $ use3 W (later (‵ (froom arr l10 0))) (array-room 𝓤 H A W R cap l10 (ν ∷ []) γ (zsM .1 .1 .1 .0)) $ await ! tt $ returns ! (look ! 17 refl) $ forget ! 17 refl $ forget ! 18 refl $ forget ! 19 refl $ forget ! 20 refl $ forget ! 21 refl $ forget ! 22 refl $ forget ! 23 refl $ forget ! 24 refl $ forget ! 25 refl $ forget ! 26 refl $ forget ! 27 refl $ forget ! 28 refl $ forget ! 29 refl $ forget ! 30 refl $ forget ! 31 refl $ forget ! 32 refl $ forget ! 33 refl $ forget ! 34 refl $ forget ! 35 refl $ forget ! 36 refl $ forget ! 37 refl $ forget ! 38 refl $ forget ! 39 refl $ forget ! 40 refl $ forget ! 41 refl $ forget ! 42 refl $ forget ! 43 refl $ forget ! 44 refl $ move ! (17 ∷ 18 ∷ 19 ∷ 20 ∷ 21 ∷ 22 ∷ 23 ∷ 24 ∷ 25 ∷ 26 ∷ 0 ∷ 27 ∷ 28 ∷ 29 ∷ 30 ∷ 31 ∷ 32 ∷ 33 ∷ 34 ∷ 35 ∷ 36 ∷ 37 ∷ 38 ∷ 39 ∷ 40 ∷ 41 ∷ 42 ∷ 43 ∷ 44 ∷ 45 ∷ 8 ∷ 7 ∷ 6 ∷ 5 ∷ 4 ∷ 3 ∷ 2 ∷ 1 ∷ 16 ∷ 15 ∷ 14 ∷ 13 ∷ 12 ∷ 11 ∷ 10 ∷ 9 ∷ []) $ group ! 29 $ frees-all (N′.mir, l0) ((sl0, l1) ∷ (Y′.mir, l2) ∷ (sl1, l3) ∷ (sl2, l4) ∷ (sl3, l5) ∷ (sl4, l6) ∷ (sl5, l7) ∷ (sl6, l8) ∷ (sl7, l9) ∷ (arr, l10) ∷ (L′.mir, l11) ∷ (arr, l12) ∷ (refA, l13) ∷ ((sliceTy refP), l14) ∷ (ref16, l15) ∷ ((sliceTy ref16), l16) ∷ (ref32, l17) ∷ ((sliceTy ref32), l18) ∷ (ref64, l19) ∷ ((sliceTy ref64), l20) ∷ (ref64, l21) ∷ ((sliceTy ref64), l22) ∷ (ref32, l23) ∷ ((sliceTy ref32), l24) ∷ (ref64, l25) ∷ ((sliceTy ref64), l26) ∷ (ref8, l27) ∷ ((sliceTy ref8), l28) ∷ []) (keep ! (0 ∷ 1 ∷ 2 ∷ 3 ∷ 4 ∷ 5 ∷ 6 ∷ 7 ∷ 8 ∷ 9 ∷ 10 ∷ 11 ∷ 12 ∷ 13 ∷ 14 ∷ 15 ∷ []) $ by ! (exits gM wM (zsM .1 .1 .1 .1 .0) (zsM .1 .1 .1 .1 .1 .0) (zsM .1 .1 .1 .1 .1 .1 .0) (zsM .1 .1 .1 .1 .1 .1 .1 .0) (zsM .1 .1 .1 .1 .1 .1 .1 .1 .0) (zsM .1 .1 .1 .1 .1 .1 .1 .1 .1 .0) (zsM .1 .1 .1 .1 .1 .1 .1 .1 .1 .1 .0) sameM1 sameM2 sameM3 sameM4 sameM5 sameM6 sameM7 (merges-full (p0 .x .now) qy gD eD (length (p1 .x .now)) (long .graph) (p7 .x .now) (zsM .1 .1 .1 .1 .1 .1 .1 .1 .1 .1 .0) gM (eM .0)))))))))))))))))))))))))))
 
     -- the locals are allocated, and the parameters passed
     walk : ent 𝓤 (onEntry 𝓤 H A f.signature (p0 .κ, (p1 .κ, (p2 .κ, (p3 .κ, (p4 .κ, (p5 .κ, (p6 .κ, (p7 .κ, tt)))))))) (p0 .q, (p1 .q, (p2 .q, (p3 .q, (p4 .q, (p5 .q, (p6 .q, (p7 .q, tt)))))))) (p0 .x, (qy, (p1 .x, (p2 .x, (p3 .x, (p4 .x, (p5 .x, (p6 .x, (p7 .x, tt))))))))) at) (WpFn 𝓤 H C Λ code.function ((val u8 p0) ∷ mqy ∷ (val u16 p1) ∷ (val u32 p2) ∷ (val u64 p3) ∷ (val u64 p4) ∷ (val u32 p5) ∷ (val u64 p6) ∷ (val u8 p7) ∷ []) Post)
