@@ -17,10 +17,9 @@ struct Entries {
     next: usize,
 }
 
-// Whether the entries are there, how many, and where the text goes on.
-struct Part {
+// Whether a word is there, and where the text goes on.
+struct Place {
     found: bool,
-    count: usize,
     next: usize,
 }
 
@@ -59,21 +58,41 @@ fn is_digit(b: u8) -> bool {
     b < 58
 }
 
-// Whether the text has the word at the place.
-fn has(s: &[u8], at: usize, word: &[u8]) -> bool
+// Where the text goes on behind a word, if it has it at the place.
+fn behind(s: &[u8], at: usize, word: &[u8]) -> Place
     requires { ⌜ at ≤ length (now s) ⌝ }
+    ensures { λ r. ⌜ r .next ≤ length (now (s .entry)) ⌝ }
 {
     if word.len() > s.len() - at {
-        return false;
+        return Place {
+            found: false,
+            next: at,
+        };
     }
     let mut i = 0;
     while i < word.len() {
         if s[at + i] != word[i] {
-            return false;
+            return Place {
+                found: false,
+                next: at,
+            };
         }
         i += 1;
     }
-    true
+    Place {
+        found: true,
+        next: at + i,
+    }
+}
+
+fn all(a: bool, b: bool, c: bool) -> bool {
+    if !a {
+        return false;
+    }
+    if !b {
+        return false;
+    }
+    c
 }
 
 // One more digit; a number above 32 bits stays at its last 32-bit value.
@@ -228,60 +247,6 @@ fn cells(
         n += 1;
     }
     Entries { count: n, next: at }
-}
-
-// Numbers behind a word.
-fn list(s: &[u8], from: usize, word: &[u8], out: &mut [u32]) -> Part
-    requires { ⌜ from ≤ length (now s) ⌝ }
-    ensures { λ r. ⌜ (r .next ≤ length (now (s .entry))) × (r .count ≤ length (now (out .entry))) ⌝ }
-{
-    if !has(s, from, word) {
-        return Part {
-            found: false,
-            count: 0,
-            next: from,
-        };
-    }
-    if s.len() - from < word.len() {
-        return Part {
-            found: false,
-            count: 0,
-            next: from,
-        };
-    }
-    let e = numbers(s, from + word.len(), out);
-    Part {
-        found: true,
-        count: e.count,
-        next: e.next,
-    }
-}
-
-// Cells behind their word, to the end of the text.
-fn table(s: &[u8], from: usize, sizes: &mut [u32], masses: &mut [u32], allowed: &mut [u8]) -> Part
-    requires { ⌜ from ≤ length (now s) ⌝ }
-    ensures { λ r. ⌜ r .count ≤ 4400 ⌝ }
-{
-    if !has(s, from, b" cells") {
-        return Part {
-            found: false,
-            count: 0,
-            next: from,
-        };
-    }
-    if s.len() - from < 6 {
-        return Part {
-            found: false,
-            count: 0,
-            next: from,
-        };
-    }
-    let e = cells(s, from + 6, sizes, masses, allowed);
-    Part {
-        found: e.next == s.len(),
-        count: e.count,
-        next: e.next,
-    }
 }
 
 // A byte more in the output.
@@ -469,8 +434,8 @@ fn answer_cells(line: &[u8], from: usize, supply: &[u32], demand: &[u32], out: &
     let mut sizes = [0u32; 4400];
     let mut masses = [0u32; 4400];
     let mut allowed = [0u8; 4400];
-    let c = table(line, from, &mut sizes, &mut masses, &mut allowed);
-    if !c.found {
+    let c = cells(line, from, &mut sizes, &mut masses, &mut allowed);
+    if c.next != line.len() {
         return unreadable(out);
     }
     let n = c.count;
@@ -488,17 +453,17 @@ fn answer_cells(line: &[u8], from: usize, supply: &[u32], demand: &[u32], out: &
 fn answer(line: &[u8], out: &mut [u8]) -> usize {
     let mut supply = [0u32; 128];
     let mut demand = [0u32; 128];
-    let a = list(line, 0, b"supply", &mut supply);
-    if !a.found {
-        return unreadable(out);
-    }
-    let b = list(line, a.next, b" demand", &mut demand);
-    if !b.found {
+    let p = behind(line, 0, b"supply");
+    let a = numbers(line, p.next, &mut supply);
+    let q = behind(line, a.next, b" demand");
+    let b = numbers(line, q.next, &mut demand);
+    let r = behind(line, b.next, b" cells");
+    if !all(p.found, q.found, r.found) {
         return unreadable(out);
     }
     let rows = a.count;
     let columns = b.count;
-    answer_cells(line, b.next, &supply[0..rows], &demand[0..columns], out)
+    answer_cells(line, r.next, &supply[0..rows], &demand[0..columns], out)
 }
 
 fn emit(s: &[u8], n: usize) {
