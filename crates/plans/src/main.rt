@@ -17,9 +17,23 @@ struct Entries {
     next: usize,
 }
 
+// Whether a word is there, and where the text goes on.
+struct Place {
+    found: bool,
+    next: usize,
+}
+
 // A number and where the text goes on.
 struct Parsed {
     value: u32,
+    next: usize,
+}
+
+// A cell, 0 as its flag where it is forbidden, and where the text goes on.
+struct Cell {
+    size: u32,
+    mass: u32,
+    flag: u8,
     next: usize,
 }
 
@@ -44,21 +58,41 @@ fn is_digit(b: u8) -> bool {
     b < 58
 }
 
-// Whether the text has the word at the place.
-fn has(s: &[u8], at: usize, word: &[u8]) -> bool
+// Where the text goes on behind a word, if it has it at the place.
+fn behind(s: &[u8], at: usize, word: &[u8]) -> Place
     requires { ⌜ at ≤ length (now s) ⌝ }
+    ensures { λ r. ⌜ r .next ≤ length (now (s .entry)) ⌝ }
 {
     if word.len() > s.len() - at {
-        return false;
+        return Place {
+            found: false,
+            next: at,
+        };
     }
     let mut i = 0;
     while i < word.len() {
         if s[at + i] != word[i] {
-            return false;
+            return Place {
+                found: false,
+                next: at,
+            };
         }
         i += 1;
     }
-    true
+    Place {
+        found: true,
+        next: at + i,
+    }
+}
+
+fn all(a: bool, b: bool, c: bool) -> bool {
+    if !a {
+        return false;
+    }
+    if !b {
+        return false;
+    }
+    c
 }
 
 // One more digit; a number above 32 bits stays at its last 32-bit value.
@@ -139,46 +173,49 @@ fn put8(s: &mut [u8], n: usize, x: u8) {
     }
 }
 
-fn put_cell(
-    sizes: &mut [u32],
-    masses: &mut [u32],
-    allowed: &mut [u8],
-    n: usize,
-    size: u32,
-    mass: u32,
-    flag: u8,
-) {
-    put32(sizes, n, size);
-    put32(masses, n, mass);
-    put8(allowed, n, flag);
+fn put_cell(sizes: &mut [u32], masses: &mut [u32], allowed: &mut [u8], n: usize, x: Cell) {
+    put32(sizes, n, x.size);
+    put32(masses, n, x.mass);
+    put8(allowed, n, x.flag);
 }
 
-// One cell at a place: where the text goes on.
-fn cell(
-    s: &[u8],
-    from: usize,
-    sizes: &mut [u32],
-    masses: &mut [u32],
-    allowed: &mut [u8],
-    n: usize,
-) -> usize
+// The cell at a place; the text goes on there where none is.
+fn read_cell(s: &[u8], from: usize) -> Cell
     requires { ⌜ from < length (now s) ⌝ }
-    ensures { λ r. ⌜ (from ≤ r) × (r ≤ length (now (s .entry))) ⌝ }
+    ensures { λ r. ⌜ (from ≤ r .next) × (r .next ≤ length (now (s .entry))) ⌝ }
 {
     if s[from] == 45 {
-        put_cell(sizes, masses, allowed, n, 0, 0, 0);
-        return from + 1;
+        return Cell {
+            size: 0,
+            mass: 0,
+            flag: 0,
+            next: from + 1,
+        };
     }
     let a = number(s, from);
     if byte(s, a.next) != 44 {
-        return from;
+        return Cell {
+            size: 0,
+            mass: 0,
+            flag: 0,
+            next: from,
+        };
     }
     if a.next >= s.len() {
-        return from;
+        return Cell {
+            size: 0,
+            mass: 0,
+            flag: 0,
+            next: from,
+        };
     }
     let b = number(s, a.next + 1);
-    put_cell(sizes, masses, allowed, n, a.value, b.value, 1);
-    b.next
+    Cell {
+        size: a.value,
+        mass: b.value,
+        flag: 1,
+        next: b.next,
+    }
 }
 
 // Cells, each behind a space.
@@ -204,7 +241,9 @@ fn cells(
         if n >= 4400 {
             return Entries { count: n, next: at };
         }
-        at = cell(s, at + 1, sizes, masses, allowed, n);
+        let x = read_cell(s, at + 1);
+        put_cell(sizes, masses, allowed, n, x);
+        at = x.next;
         n += 1;
     }
     Entries { count: n, next: at }
@@ -227,6 +266,10 @@ fn text(out: &mut [u8], from: usize, s: &[u8]) -> usize {
         i += 1;
     }
     at
+}
+
+fn unreadable(out: &mut [u8]) -> usize {
+    text(out, 0, b"unreadable")
 }
 
 fn digit(d: u64) -> u8 {
@@ -379,55 +422,48 @@ fn solve(
     let mut plan = [0u32; 4400];
     let n = sizes.len();
     if n > 4400 {
-        return text(out, 0, b"unreadable");
+        return unreadable(out);
     }
     solve_in(supply, demand, sizes, masses, allowed, &mut plan[0..n], out)
+}
+
+// The cells of a line and the answer to it: how many bytes of output.
+fn answer_cells(line: &[u8], from: usize, supply: &[u32], demand: &[u32], out: &mut [u8]) -> usize
+    requires { ⌜ from ≤ length (now line) ⌝ }
+{
+    let mut sizes = [0u32; 4400];
+    let mut masses = [0u32; 4400];
+    let mut allowed = [0u8; 4400];
+    let c = cells(line, from, &mut sizes, &mut masses, &mut allowed);
+    if c.next != line.len() {
+        return unreadable(out);
+    }
+    let n = c.count;
+    solve(
+        supply,
+        demand,
+        &sizes[0..n],
+        &masses[0..n],
+        &allowed[0..n],
+        out,
+    )
 }
 
 // The answer to a line: how many bytes of output.
 fn answer(line: &[u8], out: &mut [u8]) -> usize {
     let mut supply = [0u32; 128];
     let mut demand = [0u32; 128];
-    let mut sizes = [0u32; 4400];
-    let mut masses = [0u32; 4400];
-    let mut allowed = [0u8; 4400];
-    if !has(line, 0, b"supply") {
-        return text(out, 0, b"unreadable");
+    let p = behind(line, 0, b"supply");
+    let a = numbers(line, p.next, &mut supply);
+    let q = behind(line, a.next, b" demand");
+    let b = numbers(line, q.next, &mut demand);
+    let r = behind(line, b.next, b" cells");
+    if !all(p.found, q.found, r.found) {
+        return unreadable(out);
     }
-    if line.len() < 6 {
-        return text(out, 0, b"unreadable");
-    }
-    let a = numbers(line, 6, &mut supply);
     let rows = a.count;
-    let i = a.next;
-    if !has(line, i, b" demand") {
-        return text(out, 0, b"unreadable");
-    }
-    if line.len() - i < 7 {
-        return text(out, 0, b"unreadable");
-    }
-    let b = numbers(line, i + 7, &mut demand);
     let columns = b.count;
-    let j = b.next;
-    if !has(line, j, b" cells") {
-        return text(out, 0, b"unreadable");
-    }
-    if line.len() - j < 6 {
-        return text(out, 0, b"unreadable");
-    }
-    let c = cells(line, j + 6, &mut sizes, &mut masses, &mut allowed);
-    if c.next != line.len() {
-        return text(out, 0, b"unreadable");
-    }
-    let n = c.count;
-    solve(
-        &supply[0..rows],
-        &demand[0..columns],
-        &sizes[0..n],
-        &masses[0..n],
-        &allowed[0..n],
-        out,
-    )
+    answer_cells(line, r.next, &supply[0..rows], &demand[0..columns], out)
 }
 
 fn emit(s: &[u8], n: usize) {

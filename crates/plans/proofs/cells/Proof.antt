@@ -6,7 +6,8 @@ use Rattle.plans.proofs.cells.Statement.{statement}
 use Rattle.plans.proofs.cells.Tie as tie
 use Rattle.plans.proofs.cells.Reads as reads
 use Rattle.plans.proofs.cells.Lts as lts
-use Rattle.plans.proofs.cell.Reads as cell-reads
+use Rattle.plans.proofs.put_cell.Reads as put-cell-reads
+use Rattle.plans.proofs.read_cell.Reads as read-cell-reads
 
 abbrev Inv-loop : tie.InvT-loop
 Inv-loop s from sizes₀ masses₀ allowed₀ n₀ at₀ sizes masses allowed n at = (at ≤ length s) × (n ≤ 4400) × (length sizes ≡ length sizes₀) × (length masses ≡ length masses₀) × (length allowed ≡ length allowed₀)
@@ -59,11 +60,14 @@ same-length-9 c = search needs
 returns-3 : tie.Need-returns-3 Inv-loop μ-loop
 returns-3 c = search needs
 
-add-cell : tie.Need-add-cell Inv-loop μ-loop
-add-cell c = search needs
+add-read-cell : tie.Need-add-read-cell Inv-loop μ-loop
+add-read-cell c = search needs
 
-cell-requires : tie.Need-cell-requires Inv-loop μ-loop
-cell-requires c κs = search needs
+read-cell-requires : tie.Need-read-cell-requires Inv-loop μ-loop
+read-cell-requires c κs = search needs
+
+put-cell-requires : tie.Need-put-cell-requires Inv-loop μ-loop
+put-cell-requires c κs = search needs
 
 add-n : tie.Need-add-n Inv-loop μ-loop
 add-n c = search needs
@@ -107,8 +111,9 @@ cells-spec =
     same-length-8
     same-length-9
     returns-3
-    add-cell
-    cell-requires
+    add-read-cell
+    read-cell-requires
+    put-cell-requires
     add-n
     loop-less
     loop-again

@@ -1,10 +1,10 @@
 use borrow.Author.Needs.{needs}
 use Prim.Native.Nat.{_≤_, _-_}
 use lib.ListN.{length}
-use Rattle.plans.proofs.has.Statement.{statement}
-use Rattle.plans.proofs.has.Tie as tie
-use Rattle.plans.proofs.has.Reads as reads
-use Rattle.plans.proofs.has.Lts as lts
+use Rattle.plans.proofs.behind.Statement.{statement}
+use Rattle.plans.proofs.behind.Tie as tie
+use Rattle.plans.proofs.behind.Reads as reads
+use Rattle.plans.proofs.behind.Lts as lts
 
 abbrev Inv-loop : tie.InvT-loop
 Inv-loop s at word i₀ i = i ≤ length word
@@ -42,11 +42,14 @@ loop-less c = search needs
 loop-again : tie.Need-loop-again Inv-loop μ-loop
 loop-again c = search needs
 
+add-t5 : tie.Need-add-t5 Inv-loop μ-loop
+add-t5 c = search needs
+
 returns-3 : tie.Need-returns-3 Inv-loop μ-loop
 returns-3 c = search needs
 
-pub has-spec : {M : Type 1} → statement M
-has-spec =
+pub behind-spec : {M : Type 1} → statement M
+behind-spec =
     tie.close
     (tie.spec
     Inv-loop
@@ -61,4 +64,5 @@ has-spec =
     add-i
     loop-less
     loop-again
+    add-t5
     returns-3)
