@@ -11,6 +11,11 @@ use Rattle.spec.specs.Bytes.{any, either, each}
 use Rattle.laws.specs.AcceptedLists.{any-cons}
 use Rattle.laws.specs.AcceptedTurns.{any-append}
 
+-- a list without entries
+pub nil-of-length : {A : Type 0} (l : List A) → length l ≡ 0 → l ≡ []
+nil-of-length [] e = refl
+nil-of-length (x ∷ l) e = absurd (omega arith)
+
 -- ---- parts of a table
 pub part-slice : {A : Type 0} (l : List A) (first count : ℕ) → first + count ≤ length l → slice first (first + count) l ≡ take count (drop first l)
 part-slice l first count h = rw take-add (drop-at (take first l) (take count (drop first l)) first (length-take-le first l (omega arith)))

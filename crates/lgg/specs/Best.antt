@@ -15,6 +15,7 @@ use Rattle.spec.specs.Transport.{planSize, planMass}
 use Rattle.spec.specs.Pool.{Pool, joinRuns, opNode, litNode, variantsNode, Interned, intern, Children, childTerms, bestTermIn, bestTerm, startingTerm}
 use Rattle.spec.specs.Round.{startingQuality, cellsOver, qualityOver}
 use Rattle.spec.specs.Meaning.{In, here, there, Term, lit, node, variants, Runs, termQuality, expand, reading, runsOf, treesAfter, treeAt, member, Belongs, literal}
+use Rattle.laws.specs.Scans.{nil-of-length}
 use Rattle.laws.specs.Valid.{Valid}
 use Rattle.lgg.specs.Bag.{perm-of-eq}
 use Rattle.lgg.specs.BagCount.{written, spread, map-spread, spread-written, occurs-written, written-ones, join-written}
@@ -130,10 +131,6 @@ module _ (lim : Limits) (t : Tables) where
       go : (b : Bool) → isCommutative (kindOf t (m .op)) ≡ b → Covers t (m .op) c (written (childrenOf t m))
       go true e = anyOrder (childrenOf t m) (member m i refl refl) e (λ k. occurs-written k (childrenOf t m))
       go false e = inOrder m i refl e w (written-ones (childrenOf t m) (child-single t v m c i (not-mset (kindOf t (m .op)) e)))
-
-  nil-of-length : (l : List Two) → length l ≡ 0 → l ≡ []
-  nil-of-length [] e = refl
-  nil-of-length (c ∷ l) e = absurd (omega arith)
 
   literal-good : Valid t → (c : ℕ) → c < length (t .classes) → kindOf t (bestMember t c .op) ≡ Lit → TermFor t (c, c) (bestSize t c, 0) (lit (bestMember t c .op) (bestMember t c .value))
   unfolding arities sizeOver sum termQuality reading

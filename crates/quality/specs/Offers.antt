@@ -9,6 +9,7 @@ use Rattle.spec.specs.Bytes.{Two, pick}
 use Rattle.spec.specs.Image.{Tables, tablesOf}
 use Rattle.spec.specs.Action.{Action, structural}
 use Rattle.spec.specs.Round.{better, Turn, offerActions}
+use Rattle.laws.specs.Scans.{nil-of-length}
 use Rattle.laws.specs.Valid.{Valid}
 use Rattle.image.specs.Loaded.{Loaded}
 use Rattle.image.specs.declared.Image.{Image}
@@ -42,10 +43,6 @@ module _ (t : Tables) (x b : Best) where
   stands-pick false h k = k
 
 -- ---- all of them
-nil-of-length : {A : Type 0} (l : List A) → length l ≡ 0 → l ≡ []
-nil-of-length [] e = refl
-nil-of-length (x ∷ l) e = absurd (omega arith)
-
 module _ {s : List ℕ} {im : Image} (L : Loaded s im) (ok : Valid (tablesOf s)) (q : Two → Two) {l r : ℕ} (hl : l < im .classes) (hr : r < im .classes) where
   abbrev t : Tables
   t = tablesOf s
