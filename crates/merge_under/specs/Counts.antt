@@ -1,5 +1,5 @@
 -- "Above a covered engine on plain arrays": the pair table counts the engine's pairs. Where the graph is built in full, each of its pairs is new at its own number and the queried pair is the first, so that all are counted.
-use mathlib.Core.Path.{_≡_, refl, sym, ap, subst, _∙_}
+use mathlib.Core.Path.{_≡_, refl, sym, ap, _∙_}
 use mathlib.Core.List.{List, []}
 use Prim.Native.Nat.{ℕ, _+_, _*_, _≤_}
 use native.Mathlib.Omega.{arith}
@@ -13,7 +13,6 @@ use Rattle.laws.specs.Valid.{Valid}
 use Rattle.laws.specs.Accepted as A
 use Rattle.lgg.specs.BestMembers.{IsPair}
 use Rattle.image.specs.Loaded.{classes-many}
-use Rattle.image.specs.declared.Image.{Image}
 use Rattle.query.specs.Settings.{askedOf}
 use Rattle.query.specs.declared.Query.{Query}
 use Rattle.arrays.specs.Arrays.{unkeyed}

@@ -1,13 +1,13 @@
 -- Each way to be refused, and how many classes an accepted image has.
-use mathlib.Core.Path.{_≡_, refl, ap}
+use mathlib.Core.Path.{_≡_, refl}
 use mathlib.Core.Bool.{Bool, true, false}
 use mathlib.Core.List.{List}
 use Prim.Native.Nat.{ℕ, _≤_, _<_}
 use native.Mathlib.Omega.{arith}
 use lib.ListN.{length}
 use borrow.Author.Tests.{lt-ltb, le-ltb}
-use Rattle.spec.specs.Bytes.{Limits, Res, ok, refused, _>>=_, rule}
-use Rattle.spec.specs.Image.{Tables, imageOf, tablesOf}
+use Rattle.spec.specs.Bytes.{Limits, ok, refused, _>>=_, rule}
+use Rattle.spec.specs.Image.{imageOf, tablesOf}
 use Rattle.laws.specs.Accepted as A
 use Rattle.arrays.specs.ArrayLaws.{square}
 use Rattle.image.specs.Loaded.{Loaded, classes-many}

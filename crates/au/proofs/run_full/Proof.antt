@@ -1,6 +1,6 @@
 -- `au::run_full` meets its contract: a walk of its MIR, by hand: the pair table is an array in a local, lent to `merge_under` for a lifetime of the call; all else is given away.
 -- Assumes nothing.
-use Rattle.walks.specs.Walk.{_≡_, refl, ℕ, _≤_, true, List, [], _∷_, length, lit<, URA, fullShare, named, erased, imm, mut, w16, w64, Ty, tyInt, tyRef, Val}
+use Rattle.walks.specs.Walk.{_≡_, refl, ℕ, true, List, [], _∷_, length, lit<, URA, fullShare, named, erased, imm, mut, w16, w64, Ty, tyInt, tyRef, Val}
 use Rattle.walks.specs.Walk.{SProp, ent, emp, id⊢, GName, Fml, ftrue, fsep, fat, froom, flft, Memory, Routine, Heap, Calls, Loops, Env, WpFn, Tables, Atoms, Fun, fact, givenOf, tables, tablesOf}
 use Rattle.walks.specs.Walk.{Given, Item, ‵, raw, some, later, _⊛_, ⋆, atRet, runs, Sq, _$_, _∵_, !, qed, by, move, keep, drop, use0, use1, use2, use3, split, join, group, pick, await, fsplit, fjoin, feqL, suffices, frame, done}
 use Rattle.walks.specs.Walk.{whole, sub, look-in, agg, look, init, forget, stop, hop, fld, from, load, of-opd, addr, and-then, no-more, assigns, land, returns, enter, alloc1, alloc0, params1, pass1, pass0, WpFn-mono, FmC, fmOf}

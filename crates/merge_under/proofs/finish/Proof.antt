@@ -2,13 +2,11 @@ use mathlib.Core.Path.{subst}
 use Rattle.query.specs.Settings.{limitsOf}
 use Rattle.prepare.specs.declared.Prepared.{Prepared}
 use Rattle.prepare.specs.Preparing.{pairsBegun, pairsOf}
-use Rattle.merge_under.specs.declared.Answer.the-variants.{Refused, Doubled}
-use Rattle.merge_under.specs.Under.{MergesUnder}
 use Rattle.merge_under.specs.Engine.{Stands}
 use Rattle.merge_under.specs.Counts.{counted-same}
 use Rattle.merge_under.specs.UnderLaws.{finish-asks, merges-refused, merges-doubled, merges-run, cleared-of}
 use Prim.Native.Nat.{_-_}
-use mathlib.Core.Path.{_≡_, refl, ap, sym, _∙_}
+use mathlib.Core.Path.{_≡_, ap, _∙_}
 use lib.ListN.{length}
 use borrow.Author.Needs.{needs}
 use Rattle.merge_under.proofs.finish.Statement.{statement}
