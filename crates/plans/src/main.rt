@@ -58,8 +58,8 @@ fn is_digit(b: u8) -> bool {
     b < 58
 }
 
-// Where the text goes on behind a word, if it has it at the place.
-fn behind(s: &[u8], at: usize, word: &[u8]) -> Place
+// Where the text goes on behind a word, if it has it at the place; `found` says whether it had the words before.
+fn behind(s: &[u8], found: bool, at: usize, word: &[u8]) -> Place
     requires { ⌜ at ≤ length (now s) ⌝ }
     ensures { λ r. ⌜ r .next ≤ length (now (s .entry)) ⌝ }
 {
@@ -80,19 +80,9 @@ fn behind(s: &[u8], at: usize, word: &[u8]) -> Place
         i += 1;
     }
     Place {
-        found: true,
+        found: found,
         next: at + i,
     }
-}
-
-fn all(a: bool, b: bool, c: bool) -> bool {
-    if !a {
-        return false;
-    }
-    if !b {
-        return false;
-    }
-    c
 }
 
 // One more digit; a number above 32 bits stays at its last 32-bit value.
@@ -136,6 +126,19 @@ fn number(s: &[u8], from: usize) -> Parsed
     }
 }
 
+// The place behind a space at a place; the end of the text where none is.
+fn entry(s: &[u8], at: usize) -> usize
+    ensures { λ r. ⌜ r ≤ length (now (s .entry)) ⌝ }
+{
+    if at >= s.len() {
+        return s.len();
+    }
+    if s[at] != 32 {
+        return s.len();
+    }
+    at + 1
+}
+
 // Numbers, each behind a space.
 fn numbers(s: &[u8], from: usize, out: &mut [u32]) -> Entries
     requires { ⌜ from ≤ length (now s) ⌝ }
@@ -143,17 +146,12 @@ fn numbers(s: &[u8], from: usize, out: &mut [u32]) -> Entries
 {
     let mut n = 0;
     let mut at = from;
-    while at < s.len() {
-        if s[at] != 32 {
+    while n < out.len() {
+        let i = entry(s, at);
+        if !is_digit(byte(s, i)) {
             return Entries { count: n, next: at };
         }
-        if !is_digit(byte(s, at + 1)) {
-            return Entries { count: n, next: at };
-        }
-        if n >= out.len() {
-            return Entries { count: n, next: at };
-        }
-        let x = number(s, at + 1);
+        let x = number(s, i);
         out[n] = x.value;
         n += 1;
         at = x.next;
@@ -231,20 +229,15 @@ fn cells(
 {
     let mut n = 0;
     let mut at = from;
-    while at < s.len() {
-        if s[at] != 32 {
+    while n < 4400 {
+        let i = entry(s, at);
+        if i >= s.len() {
             return Entries { count: n, next: at };
         }
-        if at + 1 >= s.len() {
-            return Entries { count: n, next: at };
-        }
-        if n >= 4400 {
-            return Entries { count: n, next: at };
-        }
-        let x = read_cell(s, at + 1);
+        let x = read_cell(s, i);
         put_cell(sizes, masses, allowed, n, x);
-        at = x.next;
         n += 1;
+        at = x.next;
     }
     Entries { count: n, next: at }
 }
@@ -453,12 +446,12 @@ fn answer_cells(line: &[u8], from: usize, supply: &[u32], demand: &[u32], out: &
 fn answer(line: &[u8], out: &mut [u8]) -> usize {
     let mut supply = [0u32; 128];
     let mut demand = [0u32; 128];
-    let p = behind(line, 0, b"supply");
+    let p = behind(line, true, 0, b"supply");
     let a = numbers(line, p.next, &mut supply);
-    let q = behind(line, a.next, b" demand");
+    let q = behind(line, p.found, a.next, b" demand");
     let b = numbers(line, q.next, &mut demand);
-    let r = behind(line, b.next, b" cells");
-    if !all(p.found, q.found, r.found) {
+    let r = behind(line, q.found, b.next, b" cells");
+    if !r.found {
         return unreadable(out);
     }
     let rows = a.count;

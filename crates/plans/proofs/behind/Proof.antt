@@ -7,10 +7,10 @@ use Rattle.plans.proofs.behind.Reads as reads
 use Rattle.plans.proofs.behind.Lts as lts
 
 abbrev Inv-loop : tie.InvT-loop
-Inv-loop s at word i₀ i = i ≤ length word
+Inv-loop s found at word i₀ i = i ≤ length word
 
 abbrev μ-loop : tie.MeasureT-loop
-μ-loop s at word i₀ i = length word - i
+μ-loop s found at word i₀ i = length word - i
 
 sub-if1 : tie.Need-sub-if1 Inv-loop μ-loop
 sub-if1 c = search needs
@@ -42,8 +42,8 @@ loop-less c = search needs
 loop-again : tie.Need-loop-again Inv-loop μ-loop
 loop-again c = search needs
 
-add-t5 : tie.Need-add-t5 Inv-loop μ-loop
-add-t5 c = search needs
+add-t6 : tie.Need-add-t6 Inv-loop μ-loop
+add-t6 c = search needs
 
 returns-3 : tie.Need-returns-3 Inv-loop μ-loop
 returns-3 c = search needs
@@ -64,5 +64,5 @@ behind-spec =
     add-i
     loop-less
     loop-again
-    add-t5
+    add-t6
     returns-3)

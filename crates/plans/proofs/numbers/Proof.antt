@@ -7,6 +7,7 @@ use Rattle.plans.proofs.numbers.Tie as tie
 use Rattle.plans.proofs.numbers.Reads as reads
 use Rattle.plans.proofs.numbers.Lts as lts
 use Rattle.plans.proofs.byte.Reads as byte-reads
+use Rattle.plans.proofs.entry.Reads as entry-reads
 use Rattle.plans.proofs.is_digit.Reads as is-digit-reads
 use Rattle.plans.proofs.number.Reads as number-reads
 
@@ -14,22 +15,13 @@ abbrev Inv-loop : tie.InvT-loop
 Inv-loop s from out₀ n₀ at₀ out n at = (at ≤ length s) × (n ≤ length out₀) × (length out ≡ length out₀)
 
 abbrev μ-loop : tie.MeasureT-loop
-μ-loop s from out₀ n₀ at₀ out n at = length s - at
+μ-loop s from out₀ n₀ at₀ out n at = length out₀ - n
 
 loop-holds : tie.Need-loop-holds Inv-loop μ-loop
 loop-holds c = search needs
 
-shared-slice-read-if1 : tie.Need-shared-slice-read-if1 Inv-loop μ-loop
-shared-slice-read-if1 c = search needs
-
-same-length : tie.Need-same-length Inv-loop μ-loop
-same-length c = search needs
-
-returns : tie.Need-returns Inv-loop μ-loop
-returns c = search needs
-
-add-byte : tie.Need-add-byte Inv-loop μ-loop
-add-byte c = search needs
+entry-requires : tie.Need-entry-requires Inv-loop μ-loop
+entry-requires c κs = search needs
 
 byte-requires : tie.Need-byte-requires Inv-loop μ-loop
 byte-requires c κs = search needs
@@ -37,20 +29,11 @@ byte-requires c κs = search needs
 is-digit-requires : tie.Need-is-digit-requires Inv-loop μ-loop
 is-digit-requires c κs = search needs
 
-same-length-2 : tie.Need-same-length-2 Inv-loop μ-loop
-same-length-2 c = search needs
+same-length : tie.Need-same-length Inv-loop μ-loop
+same-length c = search needs
 
-returns-2 : tie.Need-returns-2 Inv-loop μ-loop
-returns-2 c = search needs
-
-same-length-3 : tie.Need-same-length-3 Inv-loop μ-loop
-same-length-3 c = search needs
-
-returns-3 : tie.Need-returns-3 Inv-loop μ-loop
-returns-3 c = search needs
-
-add-number : tie.Need-add-number Inv-loop μ-loop
-add-number c = search needs
+returns : tie.Need-returns Inv-loop μ-loop
+returns c = search needs
 
 number-requires : tie.Need-number-requires Inv-loop μ-loop
 number-requires c κs = search needs
@@ -70,11 +53,11 @@ loop-less c = search needs
 loop-again : tie.Need-loop-again Inv-loop μ-loop
 loop-again c = search needs
 
-same-length-4 : tie.Need-same-length-4 Inv-loop μ-loop
-same-length-4 c = search needs
+same-length-2 : tie.Need-same-length-2 Inv-loop μ-loop
+same-length-2 c = search needs
 
-returns-4 : tie.Need-returns-4 Inv-loop μ-loop
-returns-4 c = search needs
+returns-2 : tie.Need-returns-2 Inv-loop μ-loop
+returns-2 c = search needs
 
 pub numbers-spec : {M : Type 1} → statement M
 numbers-spec =
@@ -83,22 +66,16 @@ numbers-spec =
     Inv-loop
     μ-loop
     loop-holds
-    shared-slice-read-if1
-    same-length
-    returns
-    add-byte
+    entry-requires
     byte-requires
     is-digit-requires
-    same-length-2
-    returns-2
-    same-length-3
-    returns-3
-    add-number
+    same-length
+    returns
     number-requires
     mul-out
     slice-write-out
     add-n
     loop-less
     loop-again
-    same-length-4
-    returns-4)
+    same-length-2
+    returns-2)
