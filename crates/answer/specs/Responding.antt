@@ -1,24 +1,16 @@
 -- What program `merge` writes for an input, as a function on lent buffers.
 use mathlib.Core.Path.{_≡_, _∙_}
 use mathlib.Core.Bool.{Bool, true}
-use mathlib.Core.List.{List, [], _∷_, _++_}
+use mathlib.Core.List.{List, _++_}
 use Prim.Native.Nat.{ℕ, _+_}
-use lib.Dec.{leb, eqb}
 use lib.ListN.{length, take, drop}
-use Rattle.spec.specs.Bytes.{both, be2, be4, text, decimal, refused}
-use Rattle.spec.specs.Listing.{line}
-use Rattle.spec.specs.Merge.{INPUT, OUTPUT, programOf}
+use Rattle.spec.specs.Bytes.{be2, be4, refused}
+use Rattle.spec.specs.Merge.{OUTPUT, programOf}
 use Rattle.merge_under.specs.declared.Answer.{Answer}
 use Rattle.merge_under.specs.declared.Answer.the-variants.{Listing}
 use Rattle.au.specs.Merges.{fitOf, Merges}
 use Rattle.merge_under.specs.Answers.{answerOf}
-
--- the test of `answerTo`: the image ends where its length field says, and the query's eight bytes follow
-abbrev pub framed : List ℕ → Bool
-framed s = both (leb (length s) INPUT) (both (leb 4 (length s)) (eqb (be4 s 0 + 4 + 8) (length s)))
-
-abbrev pub refusalBytes : ℕ → List ℕ
-refusalBytes k = line (text "refused" ∷ decimal k ∷ [])
+use Rattle.frames.specs.Frame.{refusalBytes}
 
 -- the bytes of l stand at the output's front; past them it is as it was
 pub record Front (l out out′ : List ℕ) (r : ℕ) : Type 0 where

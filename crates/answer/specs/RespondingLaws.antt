@@ -1,67 +1,22 @@
 -- What the parts of `respond` give together.
 use mathlib.Core.Path.{_≡_, refl, sym, ap, _∙_}
 use mathlib.Core.Bool.{Bool, true, false}
-use mathlib.Core.List.{List, [], _∷_, _++_}
-use Prim.Native.Nat.{ℕ, _+_, _≤_, _<_}
+use mathlib.Core.List.{List, _++_}
+use Prim.Native.Nat.{ℕ, _+_, _≤_}
 use native.Mathlib.Omega.{arith}
-use lib.Dec.{leb, eqb}
-use lib.ListN.{length, take, drop, length-append}
+use lib.ListN.{length, take, drop}
 use lib.Seq.{length-take-le}
-use borrow.Author.Tests.{le-leb, lt-leb, leb-true, eqb-true}
-use Rattle.spec.specs.Bytes.{both, be2, be4, text, decimal, Res, ok, refused}
-use Rattle.spec.specs.Listing.{line}
-use Rattle.spec.specs.Merge.{INPUT, OUTPUT, mergeOf, outputAfter, printed, answerTo, programOf}
+use Rattle.spec.specs.Bytes.{be2, be4, Res, ok, refused}
+use Rattle.spec.specs.Merge.{OUTPUT, mergeOf, outputAfter, printed, answerTo, programOf}
 use Rattle.lgg.specs.Results.{refused-ok, refused-inj}
 use Rattle.decimals.specs.Writing.{Wrote}
-use Rattle.decimals.specs.WriteLaws.{wrote-then, wrote-length, wrote-as}
-use Rattle.decimals.specs.DecimalLaws.{decimal-short}
+use Rattle.query.specs.declared.Query.{Query}
 use Rattle.merge_under.specs.declared.Answer.{Answer}
 use Rattle.merge_under.specs.declared.Answer.the-variants.{Listing, Refused, Doubled}
 use Rattle.au.specs.Merges.{Merges}
 use Rattle.merge_under.specs.Answers.{answerOf, Cleared}
-use Rattle.answer.specs.Responding.{framed, refusalBytes, Front, Prints, Asks, Responds}
-
--- ---- the test
-two : (a b : Bool) → both a b ≡ true → (a ≡ true) × (b ≡ true)
-two true b e = (refl, e)
-two false b e = let z : _≡_ {A = ℕ} 0 1 = cc in absurd (omega arith)
-
-pub record Framed (s : List ℕ) : Type 0 where
-  pub short : length s ≤ 65536
-  pub some : 4 ≤ length s
-  pub ends : be4 s 0 + 4 + 8 ≡ length s
-
-pub framed-says : (s : List ℕ) → framed s ≡ true → Framed s
-framed-says s e =
-    let (a, r) = two (leb (length s) INPUT) _ e in
-    let (b, c) = two (leb 4 (length s)) _ r in
-    record { short = leb-true (length s) INPUT a; some = leb-true 4 (length s) b; ends = eqb-true (be4 s 0 + 4 + 8) (length s) c }
-
-pub too-long : (s : List ℕ) → 65536 < length s → false ≡ framed s
-too-long s h = rw (lt-leb (length s) INPUT h) refl
-
-pub too-short : (s : List ℕ) → length s ≤ 65536 → length s < 4 → false ≡ framed s
-too-short s g h = rw (le-leb (length s) INPUT g, lt-leb 4 (length s) h) refl
-
-pub by-length : (s : List ℕ) (n : ℕ) → length s ≤ 65536 → 4 ≤ length s → n ≡ be4 s 0 + 4 + 8 → eqb n (length s) ≡ framed s
-by-length s n g h e = rw (le-leb (length s) INPUT g, le-leb 4 (length s) h, e) refl
-
--- ---- a refusal's line
-line-is : (k : ℕ) → refusalBytes k ≡ (text "refused " ++ decimal k) ++ (10 ∷ [])
-unfolding line text
-line-is k = refl
-
-pub room-label : (k n : ℕ) → k < 256 → 29 ≤ n → 0 + length (text "refused " ++ decimal k) ≤ n
-unfolding text
-room-label k n h g = omega (arith, length-append (text "refused ") (decimal k), decimal-short k (omega arith))
-
-module _ (k : ℕ) (out out′ : List ℕ) (a : ℕ) (h : k < 256) (g : 29 ≤ length out) (A : Wrote (text "refused " ++ decimal k) out 0 out′ a) where
-  pub room-end : a + 1 ≤ length out′
-  unfolding text
-  room-end = omega (arith, A .after, wrote-length (room-label k (length out) h g) A, length-append (text "refused ") (decimal k), decimal-short k (omega arith))
-
-  pub wrote-line : {out″ : List ℕ} {r : ℕ} → Wrote (10 ∷ []) out′ a out″ r → Wrote (refusalBytes k) out 0 out″ r
-  wrote-line B = wrote-as (sym (line-is k)) (wrote-then (room-label k (length out) h g) A B)
+use Rattle.frames.specs.Frame.{framed, queryOf, refusalBytes}
+use Rattle.answer.specs.Responding.{Front, Prints, Asks, Responds}
 
 -- ---- the output's front
 pub wrote-front : (l out out′ : List ℕ) (r : ℕ) → Wrote l out 0 out′ r → Front l out out′ r
@@ -122,5 +77,5 @@ pub cleared-asked : (fit : Bool) {a a′ b b′ c c′ d d′ e e′ f f′ : Li
 cleared-asked fit q k = rw q at k
 
 -- the call that `ask` makes is the one that the input asks for
-pub asks-from : (s part : List ℕ) (n l r b : ℕ) (fit : Bool) (out out′ : List ℕ) (a : Answer) → part ≡ take n s → n ≡ be4 s 0 + 4 → l ≡ be2 s n → r ≡ be2 s (n + 2) → b ≡ be4 s (n + 4) → Merges part l r b fit out out′ a → Asks s fit out out′ a
-asks-from s part n l r b fit out out′ a p q x y z m = rw (p, x, y, z, q) at m
+pub asks-from : (s part : List ℕ) (n : ℕ) (q : Query) (fit : Bool) (out out′ : List ℕ) (a : Answer) → part ≡ take n s → n ≡ be4 s 0 + 4 → q ≡ queryOf s → Merges part (q .left) (q .right) (q .budget) fit out out′ a → Asks s fit out out′ a
+asks-from s part n q fit out out′ a p e x m = rw (p, x, e) at m

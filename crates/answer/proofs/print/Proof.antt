@@ -1,7 +1,6 @@
-use mathlib.Core.Path.{ap, sym, _∙_}
+use mathlib.Core.Path.{ap, sym}
 use borrow.Author.Needs.{needs}
 use mathlib.Core.Path.{subst}
-use Rattle.spec.specs.Bytes.{refused}
 use Rattle.merge_under.specs.declared.Answer.{Answer}
 use Rattle.merge_under.specs.Answers.{answerOf}
 use Rattle.answer.specs.Responding.{Prints}
@@ -14,9 +13,6 @@ enum-known-a c = search needs
 
 enum-known-a-2 : tie.Need-enum-known-a-2
 enum-known-a-2 c = search needs
-
-number-requires : tie.Need-number-requires
-number-requires c κs = search needs
 
 refusal-requires : tie.Need-refusal-requires
 refusal-requires c κs = search needs
@@ -36,7 +32,7 @@ same-length c = search needs
 
 returns-2 : tie.Need-returns-2
 returns-2 c =
-    let a = c .before .before .before .before .before .before .before .before .before in prints-refusal (a .args .out .now) _ (a .args .a) _ _ (ap (answerOf (a .args .out .now)) (c .before .before .before .before .before .before .a2 .given .1) ∙ ap refused (sym (c .before .before .before .number .ensures .0))) (c .before .before .refusal .ensures)
+    let a = c .before .before .before .before .before .before .before .before in prints-refusal (a .args .out .now) _ (a .args .a) _ _ (ap (answerOf (a .args .out .now)) (c .before .before .before .before .before .a2 .given .1)) (c .before .before .refusal .ensures)
 
 same-length-2 : tie.Need-same-length-2
 same-length-2 c = search needs
@@ -51,7 +47,6 @@ print-spec =
     (tie.spec
     enum-known-a
     enum-known-a-2
-    number-requires
     refusal-requires
     enum-known-a-3
     refusal-requires-2
