@@ -120,7 +120,7 @@ fn turn(
         × (workOf (now (work .exit)) (now (flow .exit)) x ≡ turnIn (limitsOf lim) (tablesOf (now (s .entry))) (qualityIn (im .classes) (now (graph .entry)) (now (pairs .entry))) (termIn (im .classes) (now (graph .entry)) (now (pairs .entry))) (l, r) (now (work .entry)) (now (flow .entry)))
         × (x .size < 2 ^ 32) × (x .mass < 2 ^ 32) ⌝ }
 {
-    let b = quality::best_aligned(s, im, graph, pairs, l, r);
+    let b = best_aligned::best_aligned(s, im, graph, pairs, l, r);
     offer_transports(lim, s, im, graph, pairs, l, r, work, flow, b)
 }
 
