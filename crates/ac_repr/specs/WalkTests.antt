@@ -1,9 +1,8 @@
--- The walk on a small image, by evaluation: order, the class itself once, both classes as themselves, padding.
+-- The walk on a small image, by evaluation: order, the class itself once.
 use mathlib.Core.Path.{_≡_, refl}
 use mathlib.Core.List.{[], _∷_}
 use Rattle.spec.specs.Image.{Tables}
-use Rattle.spec.specs.Monomial.{pairOf}
-use Rattle.ac_repr.specs.Walk.{walkAt, allWalks, walks, afterOf, actionsAt}
+use Rattle.ac_repr.specs.Walk.{walkAt, allWalks, walks, afterOf}
 
 -- operation 0 Lit, 1 MSet with identity class 0; class 2 holds operation 1 over 1:1 0:2 1:3, class 3 operation 1 over 1:2
 unfoldable pub small : Tables
@@ -30,21 +29,6 @@ in-order = refl
 pub after-second : walks small 2 3 (afterOf (walkAt 1 2 4)) ≡ walkAt 1 3 3 ∷ walkAt 1 3 4 ∷ []
 unfolding small walks
 after-second = refl
-
--- 0:2 1:4 beside 1:2, padded with the identity
-pub padded-right : actionsAt small 2 3 (walkAt 1 2 3) ≡ record { op = 1; sides = pairOf ((0, 2) ∷ (1, 4) ∷ []) ((0, 4) ∷ (1, 2) ∷ []) } ∷ []
-unfolding small actionsAt
-padded-right = refl
-
--- class 2 itself once beside 1:2
-pub padded-left : actionsAt small 2 3 (walkAt 1 3 3) ≡ record { op = 1; sides = pairOf ((0, 1) ∷ (2, 1) ∷ []) ((1, 2) ∷ []) } ∷ []
-unfolding small actionsAt
-padded-left = refl
-
--- both classes as themselves
-pub both-themselves : actionsAt small 2 3 (walkAt 1 3 4) ≡ []
-unfolding small actionsAt
-both-themselves = refl
 
 -- a class paired with itself
 pub same-class : allWalks small 2 2 ≡ []

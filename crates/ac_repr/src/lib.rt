@@ -1,20 +1,14 @@
 // The representation pairs of two classes (ac_repr.rs), walked in the Rust's order without storing them: a state by value and a step.
-// From `first`, over `next`, to `End` the actions that `monomials` finds are the transports of the two classes, in order (specs/Transports: left-first, left-next, left-end; specs/Sides: action-one, action-none).
 ghost use mathlib.Core.Path.{_≡_};
 ghost use Prim.Native.Nat.{suc, _≤_, _<_};
 ghost use lib.Dec.{eqb};
-ghost use lib.ListN.{length};
 ghost use Rattle.spec.specs.Bytes.{any};
 ghost use Rattle.spec.specs.Image.{tablesOf, membersOf};
 ghost use Rattle.laws.specs.Valid.{Valid};
 ghost use Rattle.image.specs.Loaded.{Loaded};
-ghost use Rattle.monomial.specs.Terms.{NUMBERS};
-ghost use Rattle.ac_repr.specs.Walk.{firstFrom, hasPlace, rows, under, acOp, pairsFrom, walks, allWalks, afterOf, Within, InRow, InOp, Stepped, Answered};
+ghost use Rattle.ac_repr.specs.Walk.{firstFrom, hasPlace, rows, under, acOp, pairsFrom, walks, allWalks, afterOf, Within, InRow, InOp, Stepped};
 ghost use Rattle.ac_repr.specs.declared.Step.the-variants.{At};
 use image::Image;
-use monomial::of_place;
-use padding::Padded;
-use padding::pad_pair;
 
 // An operation, a place of the left class and a place of the right class.
 pub struct Walk {
@@ -202,23 +196,4 @@ pub fn next(s: &[u8], im: Image, l: usize, r: usize, w: Walk) -> Step
         Step::At(v) => Step::At(v),
         Step::End => from_op(s, im, l, r, w.op + 1),
     }
-}
-
-// ---- the monomials of a pair of places, padded
-pub fn monomials(
-    s: &[u8],
-    im: Image,
-    l: usize,
-    r: usize,
-    w: Walk,
-    left: &mut [u64],
-    right: &mut [u64],
-) -> Padded
-    requires { ⌜ Loaded (now s) im × Valid (tablesOf (now s)) × (l < im .classes) × (r < im .classes) × (w .op < im .operations) × (length (now left) ≡ NUMBERS) × (length (now right) ≡ NUMBERS) ⌝ }
-    ensures { λ x. ⌜ Answered (tablesOf (now (s .entry))) l r w (now (left .entry)) (now (right .entry)) (now (left .exit)) (now (right .exit)) x ⌝ }
-{
-    let n = of_place(s, im, l, w.a, left);
-    let m = of_place(s, im, r, w.b, right);
-    let id = operations::identity(s, im, w.op);
-    pad_pair(id, l, r, left, n, right, m)
 }

@@ -16,7 +16,6 @@ use augmenting_path::less;
 use augmenting_path::send;
 use clearing::clear_u64;
 use cost_matrix::WIDEST;
-use cost_matrix::total;
 use labels::NET;
 use labels::NODES;
 use numbers::long_u32;
@@ -24,6 +23,7 @@ use search::MARGINS;
 use search::TAKEN;
 use search::search;
 use search::trace;
+use weights::total;
 
 // ---- what is left at the margins
 fn put_left(left: &mut [u64; MARGINS], at: usize, x: u64)

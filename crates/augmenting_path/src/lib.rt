@@ -6,11 +6,11 @@ ghost use Rattle.spec.specs.Transport.{WIDEST};
 ghost use Rattle.search.specs.Walk.{LAST, stepsFrom};
 ghost use Rattle.augmenting_path.specs.Path.{Step, Steps, leftOn, leastOn, sentOn, sent};
 use cost_matrix::WIDEST;
-use cost_matrix::least;
 use labels::NODES;
 use numbers::put_u64;
 use search::LAST;
 use search::MARGINS;
+use weights::least;
 
 // a - b, or 0
 pub fn less(a: u64, b: u64) -> u64

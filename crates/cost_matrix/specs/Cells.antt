@@ -43,6 +43,14 @@ problemOf supply demand sizes masses allowed = record { supply = supply; demand 
 abbrev pub ifAllowed : List ℕ → ℕ → ℕ → ℕ
 ifAllowed allowed k x = pick (eqb (getD allowed k 0) 0) 0 x
 
+-- a cell's mass
+pub mass-is : (flag size mass : ℕ) → massOf (pick (eqb flag 0) forbidden (cost size mass)) ≡ pick (eqb flag 0) 0 mass
+mass-is flag size mass = go (eqb flag 0)
+  where
+    go : (b : Bool) → massOf (pick b forbidden (cost size mass)) ≡ pick b 0 mass
+    go true = refl
+    go false = refl
+
 module _ (supply demand sizes masses flags : List ℕ) where
   -- as many cells as sizes
   pub cells-many : length (problemOf supply demand sizes masses flags .cells) ≡ length sizes

@@ -16,7 +16,8 @@ use Rattle.spec.specs.Transport.{Cell, forbidden, allowed, massOf, cellCost, la
 use Rattle.wide.specs.declared.Wide.{Wide}
 use Rattle.wide.specs.Wrap.{Natural}
 use Rattle.flow.specs.Magnitude.{Small, cost-lt}
-use Rattle.cost_matrix.specs.Matrix.{costOf, capOf, celled, wordsOf, laidCell, laidFrom, costsAfter, CostsHold, Given, Laid}
+use Rattle.weights.specs.Words.{wordsOf}
+use Rattle.cost_matrix.specs.Matrix.{costOf, capOf, celled, laidCell, laidFrom, costsAfter, CostsHold, Given, Laid}
 
 -- ---- V: v is the largest mass of the first k cells
 abbrev pub LargestTo : Problem → ℕ → ℕ → Type 0

@@ -1,13 +1,14 @@
 -- The cost matrix laid out in a list of numbers: three numbers a cell, its cost's low word and high word, and its capacity; row by row.
 use mathlib.Core.Path.{_≡_}
 use mathlib.Core.List.{List}
-use Prim.Native.Nat.{ℕ, zero, suc, _+_, _*_, _/_, _%_, _^_, _<_, min}
+use Prim.Native.Nat.{ℕ, zero, suc, _+_, _*_, _/_, _%_, _<_, min}
 use lib.ListN.{length, getD, set}
 use Rattle.spec.specs.Bytes.{pick}
 use Rattle.spec.specs.Transport.{Cell, forbidden, allowed, cellCost, Problem, weight, rowsOf, colsOf, cellAt, supplyAt, demandAt, capacity, WIDEST}
 use Rattle.wide.specs.declared.Wide.{Wide}
 use Rattle.wide.specs.Wrap.{Natural}
 use Rattle.flow.specs.Magnitude.{Small}
+use Rattle.weights.specs.Words.{wordsOf}
 
 -- the cells at most, and their numbers
 abbrev pub CELLS : ℕ
@@ -25,10 +26,6 @@ capOf g k = getD g (3 * k + 2) 0
 -- one cell's cost and capacity, three numbers
 abbrev pub celled : List ℕ → ℕ → Wide → ℕ → List ℕ
 celled g k d cap = set (set (set g (3 * k) (d .lo)) (3 * k + 1) (d .hi)) (3 * k + 2) cap
-
--- the two words of a number
-abbrev pub wordsOf : ℕ → Wide
-wordsOf x = record { lo = x % 2 ^ 64; hi = x / 2 ^ 64 }
 
 -- cell c as the matrix's cell k, of a row with supply s and a column with demand d: "a cell costs size × W + mass"; its capacity is the smaller margin, nothing where it is forbidden
 abbrev pub laidCell : ℕ → Cell → ℕ → ℕ → ℕ → List ℕ → List ℕ

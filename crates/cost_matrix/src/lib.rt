@@ -1,16 +1,22 @@
 // The cost matrix of a transport (transport.rs): each cell's cost, size * W + mass, as a number of two words, and its capacity; three numbers a cell, row by row.
 ghost use mathlib.Core.Path.{_≡_};
 ghost use mathlib.Core.List.{List, map};
-ghost use Prim.Native.Nat.{ℕ, _+_, _*_, _^_, _≤_, _<_, min, max};
+ghost use Prim.Native.Nat.{ℕ, _+_, _*_, _^_, _≤_, _<_};
 ghost use lib.Dec.{eqb};
 ghost use lib.ListN.{length, getD};
-ghost use Rattle.spec.specs.Bytes.{sum, pick};
+ghost use Rattle.spec.specs.Bytes.{pick};
 ghost use Rattle.spec.specs.Transport.{cost, forbidden, largest, massOf, weight, Problem, WIDEST};
 ghost use Rattle.wide.specs.Value.{unsigned};
-ghost use Rattle.cost_matrix.specs.Matrix.{costOf, celled, wordsOf, laidCell, costsAfter};
+ghost use Rattle.cost_matrix.specs.Matrix.{costOf, celled, laidCell, costsAfter};
 ghost use Rattle.cost_matrix.specs.Cells.{problemOf};
 use numbers::long_u32;
 use numbers::put_u64;
+use weights::cell_cost;
+use weights::if_allowed;
+use weights::larger;
+use weights::least;
+use weights::total;
+use weights::weight;
 use wide::Wide;
 
 // "At most 65 rows and 65 columns": so many cells, and so many numbers of the matrix.
@@ -32,74 +38,7 @@ pub fn cost(costs: &[u64], k: usize) -> Wide
     }
 }
 
-// ---- F, V and W
-pub fn least(a: u64, b: u64) -> u64
-    ensures { λ r. ⌜ r ≡ min a b ⌝ }
-{
-    if a < b { a } else { b }
-}
-
-pub fn larger(a: u32, b: u32) -> u32
-    ensures { λ r. ⌜ r ≡ max a b ⌝ }
-{
-    if a < b { b } else { a }
-}
-
-// F: the sum of at most 65 numbers.
-pub fn total(s: &[u32]) -> u64
-    requires { ⌜ length (now s) ≤ WIDEST ⌝ }
-    ensures { λ r. ⌜ (r ≡ sum (now (s .entry))) × (r < 2 ^ 39) ⌝ }
-{
-    let mut t = 0u64;
-    let mut i = 0;
-    while i < s.len() {
-        t += long_u32(s[i]);
-        i += 1;
-    }
-    t
-}
-
-// x where the cell's flag is set, else 0.
-pub fn if_allowed(flag: u8, x: u32) -> u32
-    ensures { λ r. ⌜ r ≡ pick (eqb flag 0) 0 x ⌝ }
-{
-    if flag == 0 {
-        return 0;
-    }
-    x
-}
-
-// V: the largest mass in an allowed cell.
-fn largest_mass(masses: &[u32], allowed: &[u8]) -> u32
-    requires { ⌜ length (now allowed) ≡ length (now masses) ⌝ }
-    ensures { λ r. ⌜ ((supply demand sizes : List ℕ) → length sizes ≡ length (now (masses .entry)) → r ≡ largest (map massOf (problemOf supply demand sizes (now (masses .entry)) (now (allowed .entry)) .cells))) ⌝ }
-{
-    let mut v = 0u32;
-    let mut i = 0;
-    while i < masses.len() {
-        v = larger(v, if_allowed(allowed[i], masses[i]));
-        i += 1;
-    }
-    v
-}
-
-// W = F * V + 1
-pub fn weight(f: u64, v: u32) -> Wide
-    requires { ⌜ f < 2 ^ 39 ⌝ }
-    ensures { λ w. ⌜ (unsigned w ≡ f * v + 1) × (unsigned w < 2 ^ 71) ⌝ }
-{
-    Wide::weight(f, v)
-}
-
 // ---- one cell
-// What a cell costs: size * W + mass.
-pub fn cell_cost(size: u32, mass: u32, w: Wide) -> Wide
-    requires { ⌜ unsigned w < 2 ^ 71 ⌝ }
-    ensures { λ d. ⌜ d ≡ wordsOf (size * unsigned w + mass) ⌝ }
-{
-    Wide::weigh(size, mass, w)
-}
-
 // The cost d and the capacity of cell k.
 pub fn put_cell(costs: &mut [u64], k: usize, d: Wide, cap: u64)
     requires { ⌜ 3 * k + 2 < length (now costs) ⌝ }
@@ -151,6 +90,20 @@ fn lay_flagged(
 }
 
 // ---- all cells
+// V: the largest mass in an allowed cell.
+fn largest_mass(masses: &[u32], allowed: &[u8]) -> u32
+    requires { ⌜ length (now allowed) ≡ length (now masses) ⌝ }
+    ensures { λ r. ⌜ ((supply demand sizes : List ℕ) → length sizes ≡ length (now (masses .entry)) → r ≡ largest (map massOf (problemOf supply demand sizes (now (masses .entry)) (now (allowed .entry)) .cells))) ⌝ }
+{
+    let mut v = 0u32;
+    let mut i = 0;
+    while i < masses.len() {
+        v = larger(v, if_allowed(allowed[i], masses[i]));
+        i += 1;
+    }
+    v
+}
+
 fn lay_cells(
     supply: &[u32],
     demand: &[u32],

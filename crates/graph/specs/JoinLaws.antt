@@ -26,9 +26,10 @@ use Rattle.enumeration.specs.SeekLaws.{seek-list}
 use Rattle.monomial.specs.Terms.{TERMS, NUMBERS, terms, held}
 use Rattle.monomial.specs.TermLaws.{terms-length}
 use Rattle.padding.specs.Pad.{Few}
-use Rattle.ac_repr.specs.Walk.{Within, Stepped, Answered, walks, allWalks, leftOf, afterOf, actionsAt}
-use Rattle.ac_repr.specs.Sides.{action-one, action-none}
-use Rattle.ac_repr.specs.Transports.{actionsLeft, left-first, left-next, left-end}
+use Rattle.ac_repr.specs.Walk.{Within, Stepped, walks, allWalks, leftOf, afterOf}
+use Rattle.ac_monomials.specs.Actions.{Answered, actionsAt}
+use Rattle.ac_monomials.specs.Sides.{action-one, action-none}
+use Rattle.ac_monomials.specs.Transports.{actionsLeft, left-first, left-next, left-end}
 use Rattle.padding.specs.declared.Padded.{Padded}
 use Rattle.padding.specs.declared.Padded.the-variants.{Pair, Nothing}
 use Rattle.ac_repr.specs.declared.Walk.{Walk}

@@ -17,9 +17,9 @@ ghost use Rattle.laying.specs.Tried.{Tried};
 use arrays::mass_of;
 use arrays::size_of;
 use cells::cell;
-use cost_matrix::larger;
 use numbers::put_u32;
 use numbers::short_u64;
+use weights::larger;
 use wide::Wide;
 
 // the largest number of rows and of columns
@@ -108,9 +108,9 @@ fn solve(
         × (3 * (rows * cols) ≤ length (now costs)) × (rows * cols ≤ length (now flow)) ⌝ }
     ensures { λ b. ⌜ Tried (qualityIn w (now (graph .entry)) (now (pairs .entry))) (sidesOf (now (left .entry)) rows (now (right .entry)) cols) (now (costs .entry)) (now (flow .entry)) (now (costs .exit)) (now (flow .exit)) b ⌝ }
 {
-    let f = cost_matrix::total(supply);
+    let f = weights::total(supply);
     let v = largest_mass(graph, pairs, w, left, rows, right, cols);
-    let x = cost_matrix::weight(f, v);
+    let x = weights::weight(f, v);
     lay_cells(
         graph,
         pairs,

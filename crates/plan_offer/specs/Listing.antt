@@ -13,7 +13,7 @@ use Rattle.spec.specs.Monomial.{MonomialPair}
 use Rattle.spec.specs.Action.{cellPairs}
 use Rattle.spec.specs.Round.{planRuns}
 use Rattle.laws.specs.Buffers.{over}
-use Rattle.quality.specs.Runs.{packed, runsOver}
+use Rattle.action_runs.specs.Runs.{packed, runsOver}
 
 abbrev pub runsAt : (Two → ℕ) → MonomialPair → List ℕ → List ℕ
 runsAt of m x = runsOver of (cellPairs m) x

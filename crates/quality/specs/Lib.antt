@@ -1,4 +1,2 @@
-pub mod Runs
-pub mod Aligned
+pub mod Offer
 pub mod Sums
-pub mod Offers

@@ -1,29 +1,20 @@
-// The best structural action of a pair (exact_fixed.rs).
+// The quality of a structural action (exact_fixed.rs), and which of two is better.
 ghost use mathlib.Core.Path.{_≡_};
-ghost use Prim.Native.Nat.{_+_, _*_, _≤_, _<_};
-ghost use lib.ListN.{length};
 ghost use Rattle.spec.specs.Image.{tablesOf};
 ghost use Rattle.spec.specs.Round as round;
-ghost use Rattle.laws.specs.Buffers.{over};
 ghost use Rattle.laws.specs.Valid.{Valid};
-ghost use Rattle.arrays.specs.Arrays.{Known, qualityIn, termIn};
+ghost use Rattle.arrays.specs.Arrays.{Known, qualityIn};
 ghost use Rattle.image.specs.Loaded.{Loaded};
 ghost use Rattle.actions.specs.Place.{Stands, actionAt};
-ghost use Rattle.quality.specs.Runs.{runsOf};
-ghost use Rattle.quality.specs.Aligned.{bestAligned, offerAt, structuralQuality};
+ghost use Rattle.quality.specs.Offer.{offerAt, structuralQuality};
 use actions::State;
 use actions::count;
 use actions::left_class;
 use actions::right_class;
 use arrays::mass_of;
 use arrays::size_of;
-use arrays::term_of;
-use enumeration::Sought;
-use enumeration::seek;
-use enumeration::start;
 use image::Image;
 use numbers::long_u32;
-use numbers::put_u64;
 
 // What a pair's turn chose: nothing better; a structural action; a plan by its operation and how many runs of it stand in the list.
 pub enum How {
@@ -58,7 +49,6 @@ pub fn better(size: u64, mass: u64, b: Best) -> bool
     mass < b.mass
 }
 
-// ---- the structural actions of a pair
 // "An action gives 1 plus the sum of count × size, and the sum of count × mass."
 fn structural_quality(s: &[u8], im: Image, v: State, graph: &[u16], pairs: &[u32]) -> Quality
     requires { ⌜ Loaded (now s) im × Valid (tablesOf (now s)) × Stands (tablesOf (now s)) v × Known (im .classes) (now graph) (now pairs) ⌝ }
@@ -82,7 +72,7 @@ fn structural_quality(s: &[u8], im: Image, v: State, graph: &[u16], pairs: &[u32
 }
 
 // "a strictly better action replaces"
-fn offer(s: &[u8], im: Image, v: State, graph: &[u16], pairs: &[u32], b: Best) -> Best
+pub fn offer(s: &[u8], im: Image, v: State, graph: &[u16], pairs: &[u32], b: Best) -> Best
     requires { ⌜ Loaded (now s) im × Valid (tablesOf (now s)) × Stands (tablesOf (now s)) v × Known (im .classes) (now graph) (now pairs) ⌝ }
     ensures { λ x. ⌜ x ≡ offerAt (tablesOf (now (s .entry))) (qualityIn (im .classes) (now (graph .entry)) (now (pairs .entry))) v b ⌝ }
 {
@@ -95,55 +85,4 @@ fn offer(s: &[u8], im: Image, v: State, graph: &[u16], pairs: &[u32], b: Best) -
         };
     }
     b
-}
-
-// The pair's own quality, or the first strictly best of its structural actions.
-pub fn best_aligned(s: &[u8], im: Image, graph: &[u16], pairs: &[u32], l: usize, r: usize) -> Best
-    requires { ⌜ Loaded (now s) im × Valid (tablesOf (now s)) × (l < im .classes) × (r < im .classes) × Known (im .classes) (now graph) (now pairs) ⌝ }
-    ensures { λ x. ⌜ x ≡ bestAligned (tablesOf (now (s .entry))) (qualityIn (im .classes) (now (graph .entry)) (now (pairs .entry))) (l, r) ⌝ }
-{
-    let mut best = Best {
-        size: long_u32(size_of(graph, pairs, im.classes, l, r)),
-        mass: long_u32(mass_of(graph, pairs, im.classes, l, r)),
-        how: How::Stay,
-    };
-    let mut w = start(s, im, l, r);
-    loop {
-        match seek(s, im, l, r, w) {
-            Sought::End => {
-                return best;
-            }
-            Sought::At(v) => {
-                best = offer(s, im, v, graph, pairs, best);
-                w = v.after();
-            }
-        }
-    }
-}
-
-// The terms of a structural action's pairs, each once: how many.
-pub fn list_action(
-    s: &[u8],
-    im: Image,
-    v: State,
-    graph: &[u16],
-    pairs: &[u32],
-    list: &mut [u64],
-) -> usize
-    requires { ⌜ Loaded (now s) im × Valid (tablesOf (now s)) × Stands (tablesOf (now s)) v × Known (im .classes) (now graph) (now pairs) × (64 ≤ length (now list)) ⌝ }
-    ensures { λ m. ⌜ (m ≡ length (runsOf (termIn (im .classes) (now (graph .entry)) (now (pairs .entry))) (actionAt (tablesOf (now (s .entry))) v .pairs))) × (now (list .exit) ≡ over (runsOf (termIn (im .classes) (now (graph .entry)) (now (pairs .entry))) (actionAt (tablesOf (now (s .entry))) v .pairs)) (now (list .entry))) ⌝ }
-{
-    let m = count(s, im, v);
-    let mut k = 0;
-    while k < m {
-        let l = left_class(s, im, v, k);
-        let r = right_class(s, im, v, k);
-        put_u64(
-            list,
-            k,
-            16384 + long_u32(term_of(graph, pairs, im.classes, l, r)),
-        );
-        k += 1;
-    }
-    m
 }

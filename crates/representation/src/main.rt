@@ -72,7 +72,7 @@ fn line(s: &[u8], im: Image, l: usize, r: usize, w: Walk)
 {
     let mut left = [0u64; monomial::NUMBERS];
     let mut right = [0u64; monomial::NUMBERS];
-    let found = ac_repr::monomials(s, im, l, r, w, &mut left, &mut right);
+    let found = ac_monomials::monomials(s, im, l, r, w, &mut left, &mut right);
     match found {
         Padded::Pair(n, m) => {
             write(l, r, w.op, &left, n, &right, m);

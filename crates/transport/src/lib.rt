@@ -13,9 +13,9 @@ use clearing::clear_u64;
 use cost_matrix::CELLS;
 use cost_matrix::COSTS;
 use cost_matrix::WIDEST;
-use cost_matrix::if_allowed;
 use cost_matrix::lay;
 use numbers::long_u32;
+use weights::if_allowed;
 use wide::Wide;
 
 // A plan's size and mass.

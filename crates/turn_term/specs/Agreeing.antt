@@ -7,8 +7,8 @@ use Rattle.spec.specs.Bytes.{Two}
 use Rattle.spec.specs.Image.{Tables}
 use Rattle.spec.specs.Round.{Choice, stay, act, Turn}
 use Rattle.actions.specs.Place.{Stands}
-use Rattle.quality.specs.Aligned.{actAt}
-use Rattle.quality.specs.Runs.{runsOver}
+use Rattle.quality.specs.Offer.{actAt}
+use Rattle.action_runs.specs.Runs.{runsOver}
 use Rattle.quality.specs.declared.How.{How}
 use Rattle.quality.specs.declared.How.the-variants as H
 use Rattle.quality.specs.declared.Best.{Best}

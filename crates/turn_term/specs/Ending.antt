@@ -31,7 +31,7 @@ use Rattle.interning.specs.declared.Entered.{Entered}
 use Rattle.interning.specs.declared.Entered.the-variants as E
 use Rattle.arrays.specs.Arrays.{Known, TermsBelow, qualityIn, termIn}
 use Rattle.arrays.specs.ArrayLaws.{place-lt, known-low}
-use Rattle.quality.specs.Runs.{packed, runsOver}
+use Rattle.action_runs.specs.Runs.{packed, runsOver}
 use Rattle.quality.specs.declared.How.{How}
 use Rattle.quality.specs.declared.How.the-variants as H
 use Rattle.quality.specs.declared.Best.{Best}

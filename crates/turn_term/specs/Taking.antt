@@ -15,7 +15,7 @@ use Rattle.interning.specs.Interning.{enteredOf, poolAfter}
 use Rattle.interning.specs.Growing.{Grows}
 use Rattle.interning.specs.declared.Entered.{Entered}
 use Rattle.action_term.specs.Results.{actionList}
-use Rattle.quality.specs.Runs.{runsOver}
+use Rattle.action_runs.specs.Runs.{runsOver}
 use Rattle.quality.specs.declared.How.{How}
 use Rattle.quality.specs.declared.How.the-variants as H
 use Rattle.turn_term.specs.declared.Taken.{Taken}

@@ -65,7 +65,7 @@ fn turn_term(
     match how {
         How::Stay => Entered::Term(size_u32(arrays::term_of(graph, pairs, im.classes, l, r))),
         How::Aligned(v) => {
-            let m = quality::list_action(s, im, v, graph, pairs, list);
+            let m = action_runs::list_action(s, im, v, graph, pairs, list);
             intern_action(lim, s, im, actions::op(s, im, v), m, list, terms, runs)
         }
         How::Plan(o, m) => intern_action(lim, s, im, o, m, list, terms, runs),

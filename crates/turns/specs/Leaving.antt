@@ -6,7 +6,7 @@ use Rattle.spec.specs.Bytes.{Two, Limits}
 use Rattle.spec.specs.Image.{Tables}
 use Rattle.spec.specs.Action.{transports}
 use Rattle.spec.specs.Round.{turnOf}
-use Rattle.quality.specs.Aligned.{bestAligned}
+use Rattle.best_aligned.specs.Aligned.{bestAligned}
 use Rattle.offers.specs.Offers.{Work, workOf, offersIn}
 use Rattle.turn_term.specs.Taking.{termList}
 

@@ -18,11 +18,11 @@ use Rattle.laws.specs.Buffers.{over}
 use Rattle.lgg.specs.TurnBounds.{turn-small}
 use Rattle.lgg.specs.Cells.{CellsFit}
 use Rattle.arrays.specs.Arrays.{Scratch}
-use Rattle.quality.specs.Aligned.{bestAligned, choiceAt, StandsAt, afterAligned, Aligns}
+use Rattle.best_aligned.specs.Aligned.{bestAligned, choiceAt, StandsAt, afterAligned, Aligns}
 use Rattle.quality.specs.declared.How.{How}
 use Rattle.quality.specs.declared.How.the-variants as H
 use Rattle.quality.specs.declared.Best.{Best}
-use Rattle.quality.specs.Runs.{packed, runsOver}
+use Rattle.action_runs.specs.Runs.{packed, runsOver}
 use Rattle.cost_matrix.specs.Matrix.{costsAfter}
 use Rattle.cells.specs.Problem.{problemAt}
 use Rattle.plan_offer.specs.Listing.{runsAt}

@@ -16,11 +16,12 @@ use Rattle.lgg.specs.Cells.{CellsFit}
 use Rattle.lgg.specs.TurnAgree.{transport-joins}
 use Rattle.lgg.specs.ReadingsWithin.{joins-within}
 use Rattle.monomial.specs.Terms.{NUMBERS, held}
-use Rattle.ac_repr.specs.Walk.{walks, allWalks, actionsAt, afterOf, leftOf, Within, Stepped, Answered}
-use Rattle.ac_repr.specs.Sides.{action-none, action-one, action-narrow}
+use Rattle.ac_repr.specs.Walk.{walks, allWalks, afterOf, leftOf, Within, Stepped}
+use Rattle.ac_monomials.specs.Actions.{actionsAt, Answered}
+use Rattle.ac_monomials.specs.Sides.{action-none, action-one, action-narrow}
 use Rattle.padding.specs.declared.Padded.{Padded}
 use Rattle.padding.specs.declared.Padded.the-variants.{Pair, Nothing}
-use Rattle.ac_repr.specs.Transports.{actionsLeft, left-first, left-next, left-end}
+use Rattle.ac_monomials.specs.Transports.{actionsLeft, left-first, left-next, left-end}
 use Rattle.ac_repr.specs.declared.Walk.{Walk}
 use Rattle.ac_repr.specs.declared.Step.{Step}
 use Rattle.ac_repr.specs.declared.Step.the-variants.{At, End}

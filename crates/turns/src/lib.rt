@@ -10,7 +10,7 @@ ghost use Rattle.lgg.specs.Cells.{CellsFit};
 ghost use Rattle.query.specs.Settings.{limitsOf};
 ghost use Rattle.image.specs.Loaded.{Loaded};
 ghost use Rattle.arrays.specs.Arrays.{Known, TermsBelow, Scratch, qualityIn, termIn};
-ghost use Rattle.ac_repr.specs.Walk.{actionsAt};
+ghost use Rattle.ac_monomials.specs.Actions.{actionsAt};
 ghost use Rattle.terms.specs.Buffers.{countIn};
 ghost use Rattle.terms.specs.Chains.{Holds, Rooms};
 ghost use Rattle.offers.specs.Offers.{offersIn, workOf};
@@ -49,7 +49,7 @@ fn offer_walk(
 {
     let mut left = [0u64; 130];
     let mut right = [0u64; 130];
-    let p = ac_repr::monomials(s, im, l, r, w, &mut left, &mut right);
+    let p = ac_monomials::monomials(s, im, l, r, w, &mut left, &mut right);
     match p {
         Padded::Nothing => best,
         Padded::Pair(rows, cols) => offers::offer_transport(
@@ -120,7 +120,7 @@ fn turn(
         × (workOf (now (work .exit)) (now (flow .exit)) x ≡ turnIn (limitsOf lim) (tablesOf (now (s .entry))) (qualityIn (im .classes) (now (graph .entry)) (now (pairs .entry))) (termIn (im .classes) (now (graph .entry)) (now (pairs .entry))) (l, r) (now (work .entry)) (now (flow .entry)))
         × (x .size < 2 ^ 32) × (x .mass < 2 ^ 32) ⌝ }
 {
-    let b = quality::best_aligned(s, im, graph, pairs, l, r);
+    let b = best_aligned::best_aligned(s, im, graph, pairs, l, r);
     offer_transports(lim, s, im, graph, pairs, l, r, work, flow, b)
 }
 

@@ -1,6 +1,5 @@
 use Rattle.ac_repr.proofs.Steps.{first-none, first-some}
 use Rattle.spec.specs.Image.{tablesOf}
-use borrow.Author.Needs.{needs}
 use Rattle.ac_repr.proofs.first.Statement.{statement}
 use Rattle.ac_repr.proofs.first.Tie as tie
 
@@ -10,7 +9,7 @@ returns c =
     first-none (tablesOf (b .args .s .now)) (b .args .l) (b .args .r) (c .if1 .taken)
 
 from-op-requires : tie.Need-from-op-requires
-from-op-requires c κs = search needs
+from-op-requires c κs = let b = c .before .before in (b .pre .0, b .pre .1, b .pre .2, b .pre .3)
 
 returns-2 : tie.Need-returns-2
 returns-2 c =

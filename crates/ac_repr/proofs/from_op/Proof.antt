@@ -15,10 +15,10 @@ abbrev μ-loop : tie.MeasureT-loop
 μ-loop s im l r o from i₀ i = im .operations - i
 
 first-member-requires : tie.Need-first-member-requires Inv-loop μ-loop
-first-member-requires c κs = search needs
+first-member-requires c κs = let b = c .before in (b .pre .0, b .pre .2)
 
 next-op-requires : tie.Need-next-op-requires Inv-loop μ-loop
-next-op-requires c κs = search needs
+next-op-requires c κs = let b = c .before .before in (b .pre .0, b .pre .1, b .pre .2, b .pre .3)
 
 loop-holds : tie.Need-loop-holds Inv-loop μ-loop
 loop-holds c =
@@ -26,7 +26,7 @@ loop-holds c =
     ahead (tablesOf (b .args .s .now)) (b .args .l) (b .args .r) (b .args .o) (c .next-op .result) (b .args .im .operations) (sym (operations-many (b .args .s .now) (b .args .im) (b .pre .0))) (c .next-op .ensures)
 
 in-rows-requires : tie.Need-in-rows-requires Inv-loop μ-loop
-in-rows-requires c κs = search needs
+in-rows-requires c κs = let b = c .before .before .before .before .before .before in (b .pre .0, b .pre .1, b .pre .2, b .pre .3, c .if1 .taken)
 
 enum-known-x : tie.Need-enum-known-x Inv-loop μ-loop
 enum-known-x c = search needs
@@ -46,7 +46,7 @@ add-next-op : tie.Need-add-next-op Inv-loop μ-loop
 add-next-op c = search needs
 
 next-op-requires-2 : tie.Need-next-op-requires-2 Inv-loop μ-loop
-next-op-requires-2 c κs = search needs
+next-op-requires-2 c κs = let b = c .before .before .before .before .before .before .before .before .before in (b .pre .0, b .pre .1, b .pre .2, b .pre .3)
 
 loop-less : tie.Need-loop-less Inv-loop μ-loop
 loop-less c =

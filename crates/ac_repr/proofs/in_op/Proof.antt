@@ -6,7 +6,7 @@ use Rattle.ac_repr.proofs.in_op.Statement.{statement}
 use Rattle.ac_repr.proofs.in_op.Tie as tie
 
 members-of-requires : tie.Need-members-of-requires
-members-of-requires c κs = search needs
+members-of-requires c κs = let b = c .before in (b .pre .0, b .pre .2)
 
 has-place-requires : tie.Need-has-place-requires
 has-place-requires c κs =
@@ -14,7 +14,7 @@ has-place-requires c κs =
     (b .pre .0, span-members (b .args .s .now) (b .args .im) (b .args .l) (c .members-of .result) (b .pre .0) (b .pre .1) (b .pre .2) (c .members-of .ensures .0), b .pre .4)
 
 in-row-requires : tie.Need-in-row-requires
-in-row-requires c κs = search needs
+in-row-requires c κs = let b = c .before .before .before .before in (b .pre .0, b .pre .1, b .pre .3, b .pre .4)
 
 enum-known-x : tie.Need-enum-known-x
 enum-known-x c = search needs
@@ -34,7 +34,7 @@ add-in-rows : tie.Need-add-in-rows
 add-in-rows c = search needs
 
 in-rows-requires : tie.Need-in-rows-requires
-in-rows-requires c κs = search needs
+in-rows-requires c κs = let b = c .before .before .before .before .before .before .before .before in (b .pre .0, b .pre .1, b .pre .2, b .pre .3, b .pre .4)
 
 returns-2 : tie.Need-returns-2
 returns-2 c =
@@ -48,7 +48,7 @@ add-in-rows-2 : tie.Need-add-in-rows-2
 add-in-rows-2 c = search needs
 
 in-rows-requires-2 : tie.Need-in-rows-requires-2
-in-rows-requires-2 c κs = search needs
+in-rows-requires-2 c κs = let b = c .before .before .before .before .before in (b .pre .0, b .pre .1, b .pre .2, b .pre .3, b .pre .4)
 
 returns-3 : tie.Need-returns-3
 returns-3 c =

@@ -1,12 +1,11 @@
 use Rattle.ac_repr.proofs.Steps.{row-ends, row-goes}
 use Rattle.ac_repr.proofs.Places.{span-members, span-end}
 use Rattle.spec.specs.Image.{tablesOf}
-use borrow.Author.Needs.{needs}
 use Rattle.ac_repr.proofs.in_row.Statement.{statement}
 use Rattle.ac_repr.proofs.in_row.Tie as tie
 
 members-of-requires : tie.Need-members-of-requires
-members-of-requires c κs = search needs
+members-of-requires c κs = let b = c .before in (b .pre .0, b .pre .2)
 
 next-place-requires : tie.Need-next-place-requires
 next-place-requires c κs =

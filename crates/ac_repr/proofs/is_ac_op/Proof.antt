@@ -6,7 +6,7 @@ use Rattle.ac_repr.proofs.is_ac_op.Statement.{statement}
 use Rattle.ac_repr.proofs.is_ac_op.Tie as tie
 
 kind-requires : tie.Need-kind-requires
-kind-requires c κs = search needs
+kind-requires c κs = let b = c .before in (b .pre .0, b .pre .4)
 
 is-ac-requires : tie.Need-is-ac-requires
 is-ac-requires c κs = search needs
@@ -17,7 +17,7 @@ returns c =
     op-other (tablesOf (b .args .s .now)) (b .args .l) (b .args .r) (b .args .op) (c .before .before .kind .result) (c .before .is-ac .result) (c .before .before .kind .ensures .0) (c .before .is-ac .ensures) (not-true _ (c .if1 .taken))
 
 has-op-requires : tie.Need-has-op-requires
-has-op-requires c κs = search needs
+has-op-requires c κs = let b = c .before .before .before .before in (b .pre .0, b .pre .1, b .pre .2)
 
 returns-2 : tie.Need-returns-2
 returns-2 c =

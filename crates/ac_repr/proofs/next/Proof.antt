@@ -28,7 +28,7 @@ add-from-op : tie.Need-add-from-op
 add-from-op c = search needs
 
 from-op-requires : tie.Need-from-op-requires
-from-op-requires c κs = search needs
+from-op-requires c κs = let b = c .before .before .before .before .before .before in (b .pre .0, b .pre .1, b .pre .2, b .pre .3)
 
 returns : tie.Need-returns
 returns c =

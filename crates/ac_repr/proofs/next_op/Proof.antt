@@ -17,7 +17,7 @@ loop-holds : tie.Need-loop-holds Inv-loop μ-loop
 loop-holds c = refl
 
 is-ac-op-requires : tie.Need-is-ac-op-requires Inv-loop μ-loop
-is-ac-op-requires c κs = search needs
+is-ac-op-requires c κs = let b = c .before .before .before .before in (b .pre .0, b .pre .1, b .pre .2, b .pre .3, c .if1 .taken)
 
 returns : tie.Need-returns Inv-loop μ-loop
 returns c =

@@ -8,7 +8,7 @@ use Rattle.augment.proofs.solve_laid.Reads as reads
 use Rattle.augment.proofs.solve_laid.Lts as lts
 use Rattle.augment.proofs.empty_plan.Reads as empty-plan-reads
 use Rattle.augment.proofs.solve_even.Reads as solve-even-reads
-use Rattle.cost_matrix.proofs.total.Reads as total-reads
+use Rattle.weights.proofs.total.Reads as total-reads
 
 total-requires : tie.Need-total-requires
 total-requires c κs = laid-few (c .before .before .before .before .pre .0) .0

@@ -9,7 +9,7 @@ use Rattle.augmenting_path.proofs.bottleneck.Statement.{statement}
 use Rattle.augmenting_path.proofs.bottleneck.Tie as tie
 use Rattle.augmenting_path.proofs.bottleneck.Reads as reads
 use Rattle.augmenting_path.proofs.bottleneck.Lts as lts
-use Rattle.cost_matrix.proofs.least.Reads as least-reads
+use Rattle.weights.proofs.least.Reads as least-reads
 use Rattle.augmenting_path.proofs.left_on.Reads as left-on-reads
 
 abbrev Inv-loop : tie.InvT-loop

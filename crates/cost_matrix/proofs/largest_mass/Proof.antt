@@ -1,5 +1,4 @@
-use Rattle.cost_matrix.proofs.Totals.{mass-is}
-use Rattle.cost_matrix.specs.Cells.{problemOf, cellOf, cells-many, cell-at}
+use Rattle.cost_matrix.specs.Cells.{problemOf, cellOf, mass-is, cells-many, cell-at}
 use Rattle.cost_matrix.specs.Laying.{LargestTo, largest-none, largest-more, largest-all}
 use Prim.Native.Nat.{max}
 use borrow.Author.Needs.{needs}
@@ -12,8 +11,8 @@ use Rattle.cost_matrix.proofs.largest_mass.Statement.{statement}
 use Rattle.cost_matrix.proofs.largest_mass.Tie as tie
 use Rattle.cost_matrix.proofs.largest_mass.Reads as reads
 use Rattle.cost_matrix.proofs.largest_mass.Lts as lts
-use Rattle.cost_matrix.proofs.if_allowed.Reads as if-allowed-reads
-use Rattle.cost_matrix.proofs.larger.Reads as larger-reads
+use Rattle.weights.proofs.if_allowed.Reads as if-allowed-reads
+use Rattle.weights.proofs.larger.Reads as larger-reads
 
 abbrev Inv-loop : tie.InvT-loop
 Inv-loop masses allowed v₀ i₀ v i = (i ≤ length masses) × ((supply demand sizes : List ℕ) → length sizes ≡ length masses → LargestTo (problemOf supply demand sizes masses allowed) i v)

@@ -9,8 +9,8 @@ use Rattle.cost_matrix.proofs.lay.Reads as reads
 use Rattle.cost_matrix.proofs.lay.Lts as lts
 use Rattle.cost_matrix.proofs.largest_mass.Reads as largest-mass-reads
 use Rattle.cost_matrix.proofs.lay_cells.Reads as lay-cells-reads
-use Rattle.cost_matrix.proofs.total.Reads as total-reads
-use Rattle.cost_matrix.proofs.weight.Reads as weight-reads
+use Rattle.weights.proofs.total.Reads as total-reads
+use Rattle.weights.proofs.weight.Reads as weight-reads
 
 total-requires : tie.Need-total-requires
 total-requires c κs = search needs

@@ -6,8 +6,8 @@ use Rattle.cost_matrix.proofs.lay_cell.Statement.{statement}
 use Rattle.cost_matrix.proofs.lay_cell.Tie as tie
 use Rattle.cost_matrix.proofs.lay_cell.Reads as reads
 use Rattle.cost_matrix.proofs.lay_cell.Lts as lts
-use Rattle.cost_matrix.proofs.cell_cost.Reads as cell-cost-reads
-use Rattle.cost_matrix.proofs.least.Reads as least-reads
+use Rattle.weights.proofs.cell_cost.Reads as cell-cost-reads
+use Rattle.weights.proofs.least.Reads as least-reads
 use Rattle.cost_matrix.proofs.put_cell.Reads as put-cell-reads
 use Rattle.numbers.proofs.long_u32.Reads as long-u32-reads
 

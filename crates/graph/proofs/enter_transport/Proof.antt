@@ -1,4 +1,4 @@
-use Rattle.ac_repr.specs.Walk.{actionsAt}
+use Rattle.ac_monomials.specs.Actions.{actionsAt}
 use Rattle.entering.specs.GrowLaws.{going-end, going-last, going-same, going-small, going-start}
 use Rattle.graph.specs.JoinLaws.{cellsOf, transport-few, transport-none, transport-one}
 use Rattle.spec.specs.Image.{tablesOf}

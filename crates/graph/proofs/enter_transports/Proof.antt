@@ -1,6 +1,7 @@
 use Prim.Native.Nat.{_<_}
-use Rattle.ac_repr.specs.Transports.{actionsLeft}
-use Rattle.ac_repr.specs.Walk.{Within, actionsAt, afterOf, walks}
+use Rattle.ac_monomials.specs.Transports.{actionsLeft}
+use Rattle.ac_repr.specs.Walk.{Within, afterOf, walks}
+use Rattle.ac_monomials.specs.Actions.{actionsAt}
 use Rattle.arrays.specs.Arrays.{pairsIn}
 use Rattle.entering.specs.GrowLaws.{going-end, going-full, going-on, going-same, going-small, going-start}
 use Rattle.entering.specs.Growing.{Going}

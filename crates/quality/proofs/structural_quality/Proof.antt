@@ -40,7 +40,8 @@ add-size : tie.Need-add-size Inv-loop μ-loop
 add-size c = search needs
 
 mass-of-requires : tie.Need-mass-of-requires Inv-loop μ-loop
-mass-of-requires c κs = search needs
+mass-of-requires c κs =
+    let a = c .before .before .before .before .before .before .before .before .before .before in (a .pre .3, (c .before .before .before .left-class .ensures .1), (c .before .before .right-class .ensures .1))
 
 long-u32-requires-2 : tie.Need-long-u32-requires-2 Inv-loop μ-loop
 long-u32-requires-2 c κs = search needs

@@ -8,7 +8,7 @@ use Rattle.transport.proofs.plan_total.Statement.{statement}
 use Rattle.transport.proofs.plan_total.Tie as tie
 use Rattle.transport.proofs.plan_total.Reads as reads
 use Rattle.transport.proofs.plan_total.Lts as lts
-use Rattle.cost_matrix.proofs.if_allowed.Reads as if-allowed-reads
+use Rattle.weights.proofs.if_allowed.Reads as if-allowed-reads
 use Rattle.numbers.proofs.long_u32.Reads as long-u32-reads
 use Rattle.wide.proofs.Wide.wrapping_add.Reads as wrapping-add-reads
 

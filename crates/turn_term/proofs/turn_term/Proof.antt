@@ -6,7 +6,7 @@ use Rattle.image.specs.Loaded.{operations-many, classes-many}
 use Rattle.actions.specs.Place.{actionAt}
 use Rattle.arrays.specs.Arrays.{qualityIn, termIn}
 use Rattle.terms.specs.Buffers.{countIn}
-use Rattle.quality.specs.Runs.{runsOver}
+use Rattle.action_runs.specs.Runs.{runsOver}
 use Rattle.quality.specs.declared.How.the-variants as H
 use Rattle.turn_term.specs.Agreeing.{Chosen, Planned}
 use Rattle.turn_term.specs.Ending.{choice-below, over-front, act-given, ended-stay, ended-act}

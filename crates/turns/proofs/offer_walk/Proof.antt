@@ -1,6 +1,6 @@
 use Rattle.spec.specs.Image.{tablesOf}
 use Rattle.arrays.specs.Arrays.{qualityIn, termIn}
-use Rattle.ac_repr.specs.Walk.{actionsAt}
+use Rattle.ac_monomials.specs.Actions.{actionsAt}
 use Rattle.offers.specs.Offers.{workOf}
 use Rattle.turns.specs.Walking.{offers-none, offers-one, found-none, found-one, found-sides, found-fits}
 use native.Mathlib.Omega.{arith}

@@ -3,7 +3,7 @@ use Rattle.query.specs.Settings.{limitsOf}
 use Rattle.image.specs.Loaded.{classes-many}
 use Rattle.arrays.specs.Arrays.{qualityIn, termIn}
 use Rattle.arrays.specs.ArrayLaws.{known-low}
-use Rattle.quality.specs.Offers.{best-aligns}
+use Rattle.best_aligned.specs.Offers.{best-aligns}
 use Rattle.turn_term.specs.Ending.{joined-low}
 use Rattle.turns.specs.TurnLaws.{turn-done, turn-left, turn-fits}
 use mathlib.Core.Path.{sym}

@@ -16,10 +16,11 @@ use Rattle.spec.specs.Action.{TransportAction, acOps, transports}
 use Rattle.laws.specs.Valid.{Valid}
 use Rattle.laws.specs.AcceptedUses.{membersWithin}
 use Rattle.monomial.specs.Places.{monomialAt}
-use Rattle.ac_repr.specs.Walk.{passing, endOf, hasPlace, placesFrom, walkAt, row, rows, acOp, pairsFrom, walks, allWalks, afterOf, leftOf, Stepped, actionOver, actionsAt}
+use Rattle.ac_repr.specs.Walk.{passing, endOf, hasPlace, placesFrom, walkAt, row, rows, acOp, pairsFrom, walks, allWalks, afterOf, leftOf, Stepped}
+use Rattle.ac_monomials.specs.Actions.{actionOver, actionsAt}
 use Rattle.ac_repr.specs.declared.Walk.{Walk}
 use Rattle.ac_repr.specs.declared.Step.{Step}
 use Rattle.ac_repr.specs.declared.Step.the-variants.{At, End}
 
 -- ---- lists, one after the other
 each-append : {A B : Type 0} (f : A → List B) (a b : List A) → each f (a ++ b) ≡ each f a ++ each f b

@@ -1,14 +1,14 @@
 use Rattle.arrays.specs.Arrays.{qualityIn}
-use Rattle.quality.specs.Aligned.{bestFrom, bestAligned}
-use Rattle.quality.specs.Offers.{best-first, best-last, best-next}
+use Rattle.best_aligned.specs.Aligned.{bestFrom, bestAligned}
+use Rattle.best_aligned.specs.Offers.{best-first, best-last, best-next}
 use Rattle.enumeration.specs.Remaining.{listFrom}
 use Rattle.enumeration.specs.SeekLaws.{found-stands, found-fewer}
 use Rattle.spec.specs.Image.{tablesOf}
 use mathlib.Core.Path.{_≡_, sym, _∙_}
 use lib.ListN.{length}
 use borrow.Author.Needs.{needs}
-use Rattle.quality.proofs.best_aligned.Statement.{statement}
-use Rattle.quality.proofs.best_aligned.Tie as tie
+use Rattle.best_aligned.proofs.best_aligned.Statement.{statement}
+use Rattle.best_aligned.proofs.best_aligned.Tie as tie
 
 abbrev Inv-loop : tie.InvT-loop
 Inv-loop s im graph pairs l r best₀ w₀ best w = bestFrom (tablesOf s) (qualityIn (im .classes) graph pairs) (l, r) (length (listFrom (tablesOf s) l r w)) w best ≡ bestAligned (tablesOf s) (qualityIn (im .classes) graph pairs) (l, r)

@@ -1,9 +1,9 @@
-use Rattle.cost_matrix.proofs.Totals.{w-within, weighed}
+use Rattle.weights.proofs.Totals.{w-within, weighed}
 use native.Mathlib.Omega.{arith}
-use Rattle.cost_matrix.proofs.cell_cost.Statement.{statement}
-use Rattle.cost_matrix.proofs.cell_cost.Tie as tie
-use Rattle.cost_matrix.proofs.cell_cost.Reads as reads
-use Rattle.cost_matrix.proofs.cell_cost.Lts as lts
+use Rattle.weights.proofs.cell_cost.Statement.{statement}
+use Rattle.weights.proofs.cell_cost.Tie as tie
+use Rattle.weights.proofs.cell_cost.Reads as reads
+use Rattle.weights.proofs.cell_cost.Lts as lts
 use Rattle.wide.proofs.Wide.weigh.Reads as weigh-reads
 
 weigh-requires : tie.Need-weigh-requires

@@ -1,4 +1,4 @@
-use Rattle.cost_matrix.proofs.Totals.{sum-start, sum-next, sum-end}
+use Rattle.weights.proofs.Totals.{sum-start, sum-next, sum-end}
 use Rattle.spec.specs.Bytes.{sum}
 use lib.ListN.{drop}
 use borrow.Author.Needs.{needs}
@@ -6,10 +6,10 @@ use Prim.Native.Nat.{_≤_, _-_, _+_, _*_, _^_}
 use native.Mathlib.Omega.{arith}
 use mathlib.Core.Path.{_≡_}
 use lib.ListN.{length}
-use Rattle.cost_matrix.proofs.total.Statement.{statement}
-use Rattle.cost_matrix.proofs.total.Tie as tie
-use Rattle.cost_matrix.proofs.total.Reads as reads
-use Rattle.cost_matrix.proofs.total.Lts as lts
+use Rattle.weights.proofs.total.Statement.{statement}
+use Rattle.weights.proofs.total.Tie as tie
+use Rattle.weights.proofs.total.Reads as reads
+use Rattle.weights.proofs.total.Lts as lts
 use Rattle.numbers.proofs.long_u32.Reads as long-u32-reads
 
 abbrev Inv-loop : tie.InvT-loop

@@ -1,10 +1,10 @@
-use Rattle.cost_matrix.proofs.Totals.{weight-is}
+use Rattle.weights.proofs.Totals.{weight-is}
 use native.Mathlib.Omega.{arith}
 use borrow.Author.Needs.{needs}
-use Rattle.cost_matrix.proofs.weight.Statement.{statement}
-use Rattle.cost_matrix.proofs.weight.Tie as tie
-use Rattle.cost_matrix.proofs.weight.Reads as reads
-use Rattle.cost_matrix.proofs.weight.Lts as lts
+use Rattle.weights.proofs.weight.Statement.{statement}
+use Rattle.weights.proofs.weight.Tie as tie
+use Rattle.weights.proofs.weight.Reads as reads
+use Rattle.weights.proofs.weight.Lts as lts
 use Rattle.wide.proofs.Wide.weight.Reads as weight-reads
 
 weight-requires : tie.Need-weight-requires

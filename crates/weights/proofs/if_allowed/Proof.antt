@@ -1,9 +1,9 @@
 use borrow.Author.Tests.{eq-eqb, ne-eqb}
 use mathlib.Core.Path.{refl}
-use Rattle.cost_matrix.proofs.if_allowed.Statement.{statement}
-use Rattle.cost_matrix.proofs.if_allowed.Tie as tie
-use Rattle.cost_matrix.proofs.if_allowed.Reads as reads
-use Rattle.cost_matrix.proofs.if_allowed.Lts as lts
+use Rattle.weights.proofs.if_allowed.Statement.{statement}
+use Rattle.weights.proofs.if_allowed.Tie as tie
+use Rattle.weights.proofs.if_allowed.Reads as reads
+use Rattle.weights.proofs.if_allowed.Lts as lts
 
 returns : tie.Need-returns
 returns c = rw (eq-eqb (c .before .args .flag) 0 (c .if1 .taken)) refl

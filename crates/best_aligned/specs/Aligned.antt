@@ -2,28 +2,19 @@
 use mathlib.Core.Path.{_≡_}
 use Prim.Native.Nat.{ℕ, zero, suc}
 use lib.ListN.{length}
-use Rattle.spec.specs.Bytes.{pick, Two}
+use Rattle.spec.specs.Bytes.{Two}
 use Rattle.spec.specs.Image.{Tables}
-use Rattle.spec.specs.Action.{Action, structural}
-use Rattle.spec.specs.Round.{better, ofAction, worth, Choice, stay, act, Turn, offerActions}
-use Rattle.actions.specs.Place.{Stands, actionAt, afterOf}
+use Rattle.spec.specs.Action.{structural}
+use Rattle.spec.specs.Round.{Choice, stay, Turn, offerActions}
+use Rattle.actions.specs.Place.{Stands, afterOf}
 use Rattle.enumeration.specs.Seek.{startOf, seekRows, seekOf}
 use Rattle.actions.specs.declared.State.{State}
 use Rattle.enumeration.specs.declared.Sought.{Sought}
 use Rattle.enumeration.specs.declared.Sought.the-variants.{At, End}
+use Rattle.quality.specs.Offer.{offerAt, actAt}
 use Rattle.quality.specs.declared.How.{How}
 use Rattle.quality.specs.declared.How.the-variants.{Stay, Aligned, Plan}
 use Rattle.quality.specs.declared.Best.{Best}
-
--- "An action gives 1 plus the sum of count × size, and the sum of count × mass."
-abbrev pub structuralQuality : (Two → Two) → Action → Two
-structuralQuality q a = worth q (ofAction a)
-
--- "a strictly better action replaces": the action at v is offered to b
-abbrev pub offerAt : Tables → (Two → Two) → State → Best → Best
-offerAt t q v b =
-    let x = structuralQuality q (actionAt t v) in
-    pick (better x (b .size, b .mass)) (record { size = x .0; mass = x .1; how = Aligned v }) b
 
 -- the next n actions from w on are offered to b, as far as there are any
 abbrev pub atFound : Sought → Best → (State → Best) → Best
@@ -41,10 +32,6 @@ unfolding bestFrom structural
 bestAligned t q p = bestFrom t q p (length (structural t (p .0) (p .1))) (startOf t (p .0) (p .1)) (record { size = q p .0; mass = q p .1; how = Stay })
 
 -- ---- the same as a turn
--- the choice of the structural action at a state
-abbrev pub actAt : Tables → State → Choice
-actAt t v = act (ofAction (actionAt t v))
-
 -- what was chosen; a plan is not chosen among structural actions
 abbrev pub choiceAt : Tables → How → Choice
 choiceAt t Stay = stay

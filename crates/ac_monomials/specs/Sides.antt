@@ -15,8 +15,8 @@ use Rattle.laws.specs.Monomials.{total-insert}
 use Rattle.monomial.specs.Terms.{terms, held}
 use Rattle.monomial.specs.Places.{monomialAt}
 use Rattle.padding.specs.Pad.{levelled, unmatched, bothNarrow, paddedOf, answerOf, sidesOf}
-use Rattle.ac_repr.specs.Walk.{actionOver, actionsAt, Answered}
+use Rattle.ac_monomials.specs.Actions.{actionOver, actionsAt, Answered}
 use Rattle.ac_repr.specs.declared.Walk.{Walk}
 use Rattle.padding.specs.declared.Padded.the-variants.{Pair, Nothing}
 
 -- ---- the definitions' pair, by what the buffers hold

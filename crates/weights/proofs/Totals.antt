@@ -1,21 +1,18 @@
--- One turn of each loop over numbers, and what the words of W and of a cost say.
-use mathlib.Core.Path.{_≡_, refl, sym, ap, _∙_}
-use mathlib.Core.Bool.{Bool, true, false}
+-- One turn of the loop that adds numbers, and what the words of W and of a cost say.
+use mathlib.Core.Path.{_≡_, refl}
 use mathlib.Core.List.{List}
 use Prim.Native.Nat.{ℕ, _+_, _*_, _/_, _%_, _^_, _≤_, _<_}
 use native.Mathlib.Omega.{arith}
 use native.Mathlib.Numerals.{add-one}
-use lib.Dec.{eqb}
 use lib.IntN.{pos, natAbs}
 use lib.ListN.{length, getD, drop, drop-of-length-le}
 use lib.Seq.{drop-cons}
-use Rattle.spec.specs.Bytes.{pick, sum}
-use Rattle.spec.specs.Transport.{cost, forbidden, massOf}
+use Rattle.spec.specs.Bytes.{sum}
 use Rattle.wide.specs.declared.Wide.{Wide}
 use Rattle.wide.specs.Value.{val, unsigned, weightOf, weighOf}
 use Rattle.wide.specs.Bounds.{within-pos, weigh-pos, weight-lt, cost-lt}
 use Rattle.wide.specs.Sign.{words-of, val-unsigned}
-use Rattle.cost_matrix.specs.Matrix.{wordsOf}
+use Rattle.weights.specs.Words.{wordsOf}
 
 -- ---- the sum of a list
 pub sum-start : (s : List ℕ) → 0 + sum (drop 0 s) ≡ sum s
@@ -28,14 +25,6 @@ sum-next s i t h e = let q : sum (drop i s) ≡ getD s i 0 + sum (drop (i + 1) s
 pub sum-end : (s : List ℕ) (i t : ℕ) → length s ≤ i → t + sum (drop i s) ≡ sum s → t ≡ sum s
 unfolding sum
 sum-end s i t h e = let q : sum (drop i s) ≡ 0 = rw (drop-of-length-le s h) refl in omega arith
-
--- ---- a cell's mass
-pub mass-is : (flag size mass : ℕ) → massOf (pick (eqb flag 0) forbidden (cost size mass)) ≡ pick (eqb flag 0) 0 mass
-mass-is flag size mass = go (eqb flag 0)
-  where
-    go : (b : Bool) → massOf (pick b forbidden (cost size mass)) ≡ pick b 0 mass
-    go true = refl
-    go false = refl
 
 -- ---- words
 pub weight-is : (f v : ℕ) (w : Wide) → f < 2 ^ 39 → v < 2 ^ 32 → w .lo < 2 ^ 64 → w .hi < 2 ^ 64 → val w ≡ pos (weightOf f v) → (unsigned w ≡ f * v + 1) × (unsigned w < 2 ^ 71)

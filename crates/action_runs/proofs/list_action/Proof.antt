@@ -1,6 +1,6 @@
 use Rattle.arrays.specs.Arrays.{termIn}
-use Rattle.quality.specs.Sums.{Listed, listed-more, listed-all, many-runs}
-use Rattle.quality.specs.Runs.{runsOf}
+use Rattle.action_runs.specs.Listed.{Listed, listed-more, listed-all, many-runs}
+use Rattle.action_runs.specs.Runs.{runsOf}
 use Rattle.laws.specs.Buffers.{filled-none}
 use Rattle.actions.specs.Place.{actionAt}
 use Rattle.spec.specs.Image.{tablesOf}
@@ -8,8 +8,8 @@ use Prim.Native.Nat.{_-_}
 use native.Mathlib.Omega.{arith}
 use mathlib.Core.Path.{sym, _∙_}
 use borrow.Author.Needs.{needs}
-use Rattle.quality.proofs.list_action.Statement.{statement}
-use Rattle.quality.proofs.list_action.Tie as tie
+use Rattle.action_runs.proofs.list_action.Statement.{statement}
+use Rattle.action_runs.proofs.list_action.Tie as tie
 
 abbrev Inv-loop : tie.InvT-loop
 Inv-loop s im v graph pairs list₀ m k₀ list k = Listed (termIn (im .classes) graph pairs) (actionAt (tablesOf s) v .pairs) list₀ k list

@@ -20,15 +20,10 @@ use Rattle.enumeration.specs.SeekLaws.{start-list, seek-list, seek-stands}
 use Rattle.actions.specs.declared.State.{State}
 use Rattle.enumeration.specs.declared.Sought.{Sought}
 use Rattle.enumeration.specs.declared.Sought.the-variants.{At, End}
 use Rattle.quality.specs.declared.How.the-variants.{Stay, Aligned}
 use Rattle.quality.specs.declared.Best.{Best}
-use Rattle.quality.specs.Aligned.{structuralQuality, offerAt, atFound, bestFrom, bestAligned, choiceAt, StandsAt, afterAligned, Aligns}
-
--- ---- one offer
-pub offer-by : {y : Two} {size mass : ℕ} {c : Bool} (v : State) (b : Best) → (size, mass) ≡ y → c ≡ better (size, mass) (b .size, b .mass)
-    → pick c (record { size = size; mass = mass; how = Aligned v }) b ≡ pick (better y (b .size, b .mass)) (record { size = y .0; mass = y .1; how = Aligned v }) b
-offer-by {size = size} {mass = mass} v b e f =
-    (λ i. pick (f i) (record { size = size; mass = mass; how = Aligned v }) b) ∙ (λ i. pick {A = Best} (better (e i) (b .size, b .mass)) (record { size = e i .0; mass = e i .1; how = Aligned v }) b)
+use Rattle.quality.specs.Offer.{structuralQuality, offerAt}
+use Rattle.best_aligned.specs.Aligned.{atFound, bestFrom, bestAligned, choiceAt, StandsAt, afterAligned, Aligns}
 
 abbrev turnAt : Tables → Best → Turn
 turnAt t b = record { quality = (b .size, b .mass); choice = choiceAt t (b .how) }

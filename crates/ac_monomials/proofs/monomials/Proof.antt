@@ -3,17 +3,17 @@ use Rattle.monomial.specs.Places.{monomialAt}
 use Rattle.spec.specs.Image.{tablesOf, identityOf}
 use mathlib.Core.Path.{_∙_}
 use borrow.Author.Needs.{needs}
-use Rattle.ac_repr.proofs.monomials.Statement.{statement}
-use Rattle.ac_repr.proofs.monomials.Tie as tie
+use Rattle.ac_monomials.proofs.monomials.Statement.{statement}
+use Rattle.ac_monomials.proofs.monomials.Tie as tie
 
 of-place-requires : tie.Need-of-place-requires
-of-place-requires c κs = search needs
+of-place-requires c κs = let b = c .before .before .before .before in (b .pre .0, b .pre .1, b .pre .2, b .pre .5)
 
 of-place-requires-2 : tie.Need-of-place-requires-2
 of-place-requires-2 c κs = search needs
 
 identity-requires : tie.Need-identity-requires
-identity-requires c κs = search needs
+identity-requires c κs = let b = c .before .before .before .before .before .before .before .before .before .before .before in (b .pre .0, b .pre .4)
 
 pad-pair-requires : tie.Need-pad-pair-requires
 pad-pair-requires c κs =

@@ -1,0 +1,4 @@
+pub mod Actions
+pub mod Sides
+pub mod Transports
+pub mod ActionTests
