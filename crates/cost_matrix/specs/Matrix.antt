@@ -2,7 +2,7 @@
 use mathlib.Core.Path.{_≡_}
 use mathlib.Core.List.{List}
 use Prim.Native.Nat.{ℕ, zero, suc, _+_, _*_, _/_, _%_, _<_, min}
-use lib.ListN.{length, getD, set}
+use lib.ListN.{getD, set}
 use Rattle.spec.specs.Bytes.{pick}
 use Rattle.spec.specs.Transport.{Cell, forbidden, allowed, cellCost, Problem, weight, rowsOf, colsOf, cellAt, supplyAt, demandAt, capacity, WIDEST}
 use Rattle.wide.specs.declared.Wide.{Wide}

@@ -10,7 +10,7 @@ use lib.Seq.{drop-cons}
 use Rattle.spec.specs.Bytes.{sum}
 use Rattle.wide.specs.declared.Wide.{Wide}
 use Rattle.wide.specs.Value.{val, unsigned, weightOf, weighOf}
-use Rattle.wide.specs.Bounds.{within-pos, weigh-pos, weight-lt, cost-lt}
+use Rattle.wide.specs.Bounds.{within-pos, weigh-pos, weight-lt}
 use Rattle.wide.specs.Sign.{words-of, val-unsigned}
 use Rattle.weights.specs.Words.{wordsOf}
 
