@@ -8,7 +8,7 @@ use native.Mathlib.Decide.{decLt}
 use native.Mathlib.Omega.{arith}
 use borrow.Author.Tests.{eq-eqb, ne-eqb}
 use lib.Dec.{eqb}
-use lib.ListN.{length, getD, replicate, List·getD-eq-default}
+use lib.ListN.{length, getD, List·getD-eq-default}
 use Rattle.spec.specs.Bytes.{pick}
 use Rattle.spec.specs.Transport.{Cell, cost, forbidden, Problem, sizeOf, massOf, WIDEST}
 use Rattle.flow.specs.Magnitude.{Small}
@@ -91,13 +91,3 @@ module _ (supply demand sizes masses flags : List ℕ) where
           go : (o : Bool) → massOf (pick o forbidden (cost (getD sizes k 0) (getD masses k 0))) < 2 ^ 32
           go true = omega arith
           go false = c k
-
--- every flag is set
-pub one-at : (n i : ℕ) → i < n → _≡_ {A = ℕ} (getD (replicate n 1) i 0) 1
-one-at zero i h = absurd (omega arith)
-one-at (suc n) zero h = refl
-one-at (suc n) (suc i) h = one-at n i (omega arith)
-
-module _ (supply demand sizes masses : List ℕ) (n : ℕ) where
-  pub cell-open : (k : ℕ) → k < length sizes → k < n → getD (problemOf supply demand sizes masses (replicate n 1) .cells) k forbidden ≡ cost (getD sizes k 0) (getD masses k 0)
-  cell-open k h l = cell-allowed supply demand sizes masses (replicate n 1) k h (λ e. absurd (omega (arith, e, one-at n k l)))

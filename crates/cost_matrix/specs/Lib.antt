@@ -1,5 +1,4 @@
 pub mod Matrix
 pub mod Places
 pub mod Cells
-pub mod Open
 pub mod Laying
