@@ -2,6 +2,7 @@
 use mathlib.Core.Bool.{Bool, true, false}
 use mathlib.Core.List.{List, [], _∷_}
 use Prim.Native.Nat.{ℕ, zero, suc}
+use Rattle.spec.specs.Bytes.{all}
 use Rattle.budget.specs.declared.Budget.{Budget}
 use Rattle.budget.specs.declared.Spent.{Spent}
 
@@ -24,3 +25,6 @@ checks (suc n) b = spendOf b .passed ∷ checks n (spendOf b .budget)
 unfoldable pub after : ℕ → Budget → Budget
 after zero b = b
 after (suc n) b = after n (spendOf b .budget)
+
+abbrev pub spendManyOf : ℕ → Budget → Spent
+spendManyOf n b = record { budget = after n b; passed = all (λ x. x) (checks n b) }

@@ -2,21 +2,15 @@
 use mathlib.Core.Path.{_≡_, refl, sym, ap, _∙_}
 use mathlib.Core.Bool.{Bool, true, false}
 use mathlib.Core.List.{List, [], _∷_, _++_}
-use Prim.Native.Nat.{ℕ, zero, suc, _-_, _<_, min}
+use Prim.Native.Nat.{ℕ, zero, suc, _-_, _≤_, _<_, min}
 use native.Mathlib.Decide.{decLt}
 use native.Mathlib.Omega.{arith}
 use lib.Dec.{ltb}
 use borrow.Author.Tests.{lt-ltb, le-ltb}
 use lib.ListN.{replicate}
 use Rattle.budget.specs.declared.Budget.{Budget}
-use Rattle.budget.specs.Budget.{budgetOf, spendAt, spendOf, checks, after}
-
--- one check, by what is left
-pub spend-none : (b : Budget) → b .left ≡ 0 → record { budget = b; passed = false } ≡ spendOf b
-spend-none b e = (λ i. record { budget = budgetOf (e i); passed = false }) ∙ sym (ap spendAt e)
-
-pub spend-one : (b : Budget) → (b .left ≡ 0 → ⊥) → record { budget = budgetOf (b .left - 1); passed = true } ≡ spendOf b
-spend-one b h = let e : b .left ≡ suc (b .left - 1) = omega arith in sym (ap spendAt e)
+use Rattle.spec.specs.Bytes.{all}
+use Rattle.budget.specs.Budget.{budgetOf, spendAt, spendOf, spendManyOf, checks, after}
 
 -- with budget b, the first b checks pass and the next one is expired
 pub first-pass : (b : ℕ) → checks (suc b) (budgetOf b) ≡ replicate b true ++ (false ∷ [])
@@ -55,3 +49,33 @@ passes k b (no h) = let e : b - k ≡ 0 = omega arith in ap (λ (n : ℕ). spend
 
 pub check-passes : (k b : ℕ) → spendOf (after k (budgetOf b)) .passed ≡ ltb k b
 check-passes k b = ap (λ (s : Budget). spendOf s .passed) (after-is k b) ∙ passes k b (decLt k b)
+
+-- ---- n checks at once
+all-pass : (n b : ℕ) → n ≤ b → all (λ x. x) (checks n (budgetOf b)) ≡ true
+unfolding checks all
+all-pass zero b h = refl
+all-pass (suc n) zero h = absurd (let z : suc n ≤ 0 = h in omega arith)
+all-pass (suc n) (suc b) h = all-pass n b (omega arith)
+
+one-expires : (n b : ℕ) → b < n → all (λ x. x) (checks n (budgetOf b)) ≡ false
+unfolding checks all
+one-expires zero b h = absurd (let z : b < 0 = h in omega arith)
+one-expires (suc n) zero h = refl
+one-expires (suc n) (suc b) h = one-expires n b (omega arith)
+
+pub many-pass : (n : ℕ) (b : Budget) → n ≤ b .left → record { budget = budgetOf (b .left - n); passed = true } ≡ spendManyOf n b
+many-pass n b h = (λ i. record { budget = sym (after-is n (b .left)) i; passed = sym (all-pass n (b .left) h) i })
+
+pub many-expire : (n : ℕ) (b : Budget) → b .left < n → record { budget = budgetOf 0; passed = false } ≡ spendManyOf n b
+many-expire n b h =
+    let e : 0 ≡ b .left - n = omega arith in
+    (λ i. record { budget = (ap budgetOf e ∙ sym (after-is n (b .left))) i; passed = sym (one-expires n (b .left) h) i })
+
+-- one of them is a check
+pub many-one : (b : Budget) → spendManyOf 1 b ≡ spendOf b
+unfolding checks after all
+many-one b = go (b .left)
+  where
+    go : (n : ℕ) → spendManyOf 1 (budgetOf n) ≡ spendAt n
+    go zero = refl
+    go (suc n) = refl

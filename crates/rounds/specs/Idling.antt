@@ -14,7 +14,8 @@ use Rattle.laws.specs.Valid.{Valid}
 use Rattle.lgg.specs.Lists.{clash, get-in}
 use Rattle.arrays.specs.Arrays.{given}
 use Rattle.arrays.specs.ArrayLaws.{given-other, given-size, given-mass, given-term}
-use Rattle.settling.specs.Settling.{liveIn, settledAt, settled, Ends}
+use Rattle.live_pairs.specs.Live.{liveIn}
+use Rattle.settling.specs.Settling.{settledAt, settled, Ends}
 use Rattle.settling.specs.SettleLaws.{settled-length, settled-new}
 use Rattle.visits.specs.Visiting.{Idle}
 use Rattle.rounds.specs.Graphs.{InRange}
@@ -22,10 +23,6 @@ use Rattle.rounds.specs.Graphs.{InRange}
 -- every pair of ps from k on that is not live has what the round gives it
 abbrev pub Idles : List Two → List ℕ → List ℕ → List ℕ → ℕ → Type 0
 Idles ps pairs llive rlive k = (j : ℕ) → k ≤ j → j < length ps → liveIn llive rlive (getD ps j (0, 0)) ≡ false → Idle pairs j
-
--- ---- one pair
-pub idle-here : (ps : List Two) (pairs llive rlive : List ℕ) (k : ℕ) → Idles ps pairs llive rlive k → k < length ps → (p : Two) → p ≡ getD ps k (0, 0) → liveIn llive rlive p ≡ false → Idle pairs k
-idle-here ps pairs llive rlive k I h p is e = I k (omega arith) h (ap (liveIn llive rlive) (sym is) ∙ e)
 
 -- pair k has had its turn
 pub idles-more : (ps : List Two) (pairs llive rlive : List ℕ) (k : ℕ) → Idles ps pairs llive rlive k → (pairs′ : List ℕ) (size mass term : ℕ) → pairs′ ≡ given pairs (6 * k + 3) size mass term → Idles ps pairs′ llive rlive (k + 1)

@@ -1,5 +1,5 @@
 pub mod Graphs
-pub mod Spending
 pub mod Idling
 pub mod Turning
+pub mod Passing
 pub mod Running

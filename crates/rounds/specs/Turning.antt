@@ -23,14 +23,14 @@ use Rattle.arrays.specs.ArrayLaws.{given-length, qualities-more, terms-more, ol
 use Rattle.terms.specs.Buffers.{poolOf, countIn}
 use Rattle.terms.specs.PoolLaws.{pool-length}
 use Rattle.terms.specs.Chains.{Holds}
-use Rattle.settling.specs.Settling.{liveIn}
+use Rattle.live_pairs.specs.Live.{liveIn}
 use Rattle.settling.specs.Quiet.{unturned, Quiet}
 use Rattle.visits.specs.Visiting.{turnIn, termMade}
 use Rattle.visits.specs.VisitLaws.{Moved}
 use Rattle.rounds.specs.Graphs.{Graphs, Reads, turn-here, choice-here, agree-quality, among}
 use Rattle.budget.specs.declared.Budget.{Budget}
-use Rattle.rounds.specs.declared.Round.{Round}
-use Rattle.rounds.specs.declared.Round.the-variants as R
+use Rattle.round_outcome.specs.declared.Round.{Round}
+use Rattle.round_outcome.specs.declared.Round.the-variants as R
 
 -- ---- a round
 -- the first k pairs of a round from state s have had their turn, and b checks are left; `whole` is what the round comes to

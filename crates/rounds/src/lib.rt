@@ -1,12 +1,11 @@
 // Rounds over the pairs of a graph, with the budget that starting terms left, and their listing (`run_in` of exact_fixed.rs).
-use arrays::MASS;
-use arrays::TERM;
 use budget::Budget;
 use image::Image;
 use outcome::Answer;
-use outcome::Outcome;
 use outcome::Ran;
 use query::Limits;
+use round_outcome::After;
+use round_outcome::Round;
 use visits::Step;
 ghost use mathlib.Core.Path.{_≡_};
 ghost use Prim.Native.Nat.{_*_, _≤_};
@@ -26,21 +25,8 @@ ghost use Rattle.outcome.specs.Outcomes.{RanTo};
 ghost use Rattle.settling.specs.Quiet.{Quiet};
 ghost use Rattle.rounds.specs.Graphs.{stateIn, Graphs};
 ghost use Rattle.rounds.specs.Idling.{Idles};
+ghost use Rattle.rounds.specs.Passing.{dueOf};
 ghost use Rattle.rounds.specs.Turning.{Relaxes};
-ghost use Rattle.rounds.specs.Running.{reportedIn, afterOf};
-
-// a round: whether a pair changed, with the budget left; cut short; refusal 13
-enum Round {
-    Finished(bool, Budget),
-    Cut,
-    Full,
-}
-
-// after a round: the next, with the budget left; or the run's end
-enum After {
-    Next(Budget),
-    Ended(Ran),
-}
 
 // ---- a round
 fn either(a: bool, b: bool) -> bool
@@ -52,7 +38,17 @@ fn either(a: bool, b: bool) -> bool
     b
 }
 
-// A round over the pairs: "one [check] a pair in it".
+// the checks of a step from pair k, where j is the next live one: one for each pair that keeps what it has, or one for a live pair
+fn due(k: usize, j: usize) -> usize
+    ensures { λ r. ⌜ r ≡ dueOf k j ⌝ }
+{
+    if k < j {
+        return j - k;
+    }
+    1
+}
+
+// A round over the pairs: "one [check] a pair in it". Pairs that are not live keep what they have, and the round gives them that already.
 fn relax_all(
     lim: Limits,
     s: &[u8],
@@ -78,36 +74,26 @@ fn relax_all(
     let mut bud = b;
     let mut k = 0;
     while k < n {
-        let sp = bud.spend();
+        let j = live_pairs::next_live(graph, w, n, k, llive, rlive);
+        let sp = bud.spend_many(due(k, j));
         bud = sp.budget;
         if !sp.passed {
             return Round::Cut;
         }
-        let l = arrays::left_at(graph, w, k);
-        let r = arrays::right_at(graph, w, k);
-        let x = visits::visit(
-            lim,
-            s,
-            im,
-            graph,
-            l,
-            r,
-            k,
-            llive,
-            rlive,
-            pairs,
-            work,
-            flow,
-            terms,
-            runs,
-        );
-        match x {
-            Step::Full => {
-                return Round::Full;
-            }
-            Step::To(c) => {
-                changed = either(changed, c);
-                k += 1;
+        if k < j {
+            k = j;
+        } else {
+            let l = arrays::left_at(graph, w, k);
+            let r = arrays::right_at(graph, w, k);
+            let x = visits::visit(lim, s, im, graph, l, r, k, pairs, work, flow, terms, runs);
+            match x {
+                Step::Full => {
+                    return Round::Full;
+                }
+                Step::To(c) => {
+                    changed = either(changed, c);
+                    k += 1;
+                }
             }
         }
     }
@@ -115,41 +101,6 @@ fn relax_all(
 }
 
 // ---- the rounds
-fn reported(pairs: &[u32], complete: bool, n: usize, rounds: u32) -> Outcome
-    requires { ⌜ 6 ≤ length (now pairs) ⌝ }
-    ensures { λ o. ⌜ o ≡ reportedIn (now (pairs .entry)) complete n rounds ⌝ }
-{
-    Outcome {
-        complete: complete,
-        pairs: n,
-        rounds: rounds,
-        size: pairs[0],
-        mass: pairs[MASS],
-        root: numbers::size_u32(pairs[TERM]),
-    }
-}
-
-// "The run is complete at the first finished round without change."
-fn after_round(x: Round, pairs: &[u32], n: usize, rounds: u32) -> After
-    requires { ⌜ 6 ≤ length (now pairs) ⌝ }
-    ensures { λ y. ⌜ y ≡ afterOf x (now (pairs .entry)) n rounds ⌝ }
-{
-    match x {
-        Round::Full => {
-            return After::Ended(Ran::Stopped(13));
-        }
-        Round::Cut => {
-            return After::Ended(Ran::Done(reported(pairs, false, n, rounds)));
-        }
-        Round::Finished(changed, left) => {
-            if !changed {
-                return After::Ended(Ran::Done(reported(pairs, true, n, rounds)));
-            }
-            After::Next(left)
-        }
-    }
-}
-
 // "The rounds reported are the finished ones that changed a quality."
 fn relax(
     lim: Limits,
@@ -175,7 +126,7 @@ fn relax(
         let sp = bud.spend();
         let rest = sp.budget;
         if !sp.passed {
-            return Ran::Done(reported(pairs, false, n, rounds));
+            return Ran::Done(round_outcome::reported(pairs, false, n, rounds));
         }
         let x = relax_all(
             lim,
@@ -192,7 +143,7 @@ fn relax(
             runs,
             rest,
         );
-        let y = after_round(x, pairs, n, rounds);
+        let y = round_outcome::after_round(x, pairs, n, rounds);
         match y {
             After::Ended(z) => {
                 return z;

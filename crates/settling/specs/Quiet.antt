@@ -22,7 +22,8 @@ use Rattle.changes.specs.Marks.{markedIn}
 use Rattle.changes.specs.MarkLaws.{live-at}
 use Rattle.arrays.specs.Arrays.{unkey, pairsIn, NEW, qualitiesIn}
 use Rattle.arrays.specs.ArrayLaws.{unkeyed-length, unkeyed-at}
-use Rattle.settling.specs.Settling.{liveIn, differsAt, left, right, marksOf, Ends}
+use Rattle.live_pairs.specs.Live.{liveIn}
+use Rattle.settling.specs.Settling.{differsAt, left, right, marksOf, Ends}
 use Rattle.settling.specs.SettleLaws.{marks-made, same-quality, settled-qualities}
 
 -- a turn that keeps the quality z

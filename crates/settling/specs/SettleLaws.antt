@@ -8,7 +8,7 @@ use native.Mathlib.Nat.{not-suc-le-zero, eq-or-lt-of-le}
 use native.Mathlib.Decide.{ℕ-discrete}
 use native.Mathlib.Numerals.{add-one}
 use native.Mathlib.Omega.{arith}
-use borrow.Author.Tests.{lt-ltb, le-ltb, eq-eqb, ne-eqb, eqb-true}
+use borrow.Author.Tests.{eq-eqb, ne-eqb, eqb-true}
 use lib.Dec.{ltb, eqb}
 use lib.ListN.{length, getD, set, length-set}
 use lib.Seq.{getD-set-same, getD-set-other, set-getD}
@@ -17,14 +17,7 @@ use Rattle.lgg.specs.Lists.{clash}
 use Rattle.changes.specs.Marks.{markedIn}
 use Rattle.arrays.specs.Arrays.{unkey, NEW, qualitiesIn, termsIn, qualitiesFrom, termsFrom, given}
 use Rattle.arrays.specs.ArrayLaws.{given-length, given-other, qualities-more, terms-more, qualities-snoc, terms-snoc, quality-at}
-use Rattle.settling.specs.Settling.{liveIn, differsAt, movedBy, markedBy, marksOf, settledAt, settled}
-
--- ---- live
-pub live-left : (llive rlive : List ℕ) (l r : ℕ) → 0 < getD llive l 0 → ltb 0 (getD rlive r 0) ≡ liveIn llive rlive (l, r)
-live-left llive rlive l r h = rw (lt-ltb 0 (getD llive l 0) h) refl
-
-pub live-none : (llive rlive : List ℕ) (l r : ℕ) → getD llive l 0 ≤ 0 → false ≡ liveIn llive rlive (l, r)
-live-none llive rlive l r h = rw (le-ltb 0 (getD llive l 0) h) refl
+use Rattle.settling.specs.Settling.{differsAt, movedBy, markedBy, marksOf, settledAt, settled}
 
 -- ---- a pair that differs
 -- by its four numbers

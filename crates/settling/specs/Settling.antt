@@ -5,15 +5,11 @@ use mathlib.Core.List.{List}
 use Prim.Native.Nat.{ℕ, zero, suc, _+_, _*_}
 use lib.Dec.{eqb}
 use lib.ListN.{getD, set, replicate}
-use Rattle.spec.specs.Bytes.{pick, both, Two}
+use Rattle.spec.specs.Bytes.{pick, Two}
 use Rattle.spec.specs.Image.{Tables}
 use Rattle.laws.specs.Buffers.{over}
-use Rattle.changes.specs.Marks.{markedIn, liveOf}
+use Rattle.changes.specs.Marks.{liveOf}
 use Rattle.arrays.specs.Arrays.{unkey, given}
-
--- pair p is live
-abbrev pub liveIn : List ℕ → List ℕ → Two → Bool
-liveIn llive rlive p = both (markedIn llive (p .0)) (markedIn rlive (p .1))
 
 -- the round gives pair k another size or mass than it has
 abbrev pub differsAt : List ℕ → ℕ → Bool

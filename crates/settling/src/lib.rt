@@ -11,18 +11,7 @@ ghost use Rattle.spec.specs.Image.{tablesOf};
 ghost use Rattle.laws.specs.Valid.{Valid};
 ghost use Rattle.image.specs.Loaded.{Loaded};
 ghost use Rattle.arrays.specs.Arrays.{unkey};
-ghost use Rattle.settling.specs.Settling.{liveIn, differsAt, markedBy, left, right, marksOf, settledAt, settled, Ends, movedBy};
-
-// pair (l, r) is live: both classes are over one that changed
-pub fn live(llive: &[u8; 256], rlive: &[u8; 256], l: usize, r: usize) -> bool
-    requires { ⌜ (l < 256) × (r < 256) ⌝ }
-    ensures { λ x. ⌜ x ≡ liveIn (now (llive .entry)) (now (rlive .entry)) (l, r) ⌝ }
-{
-    if 0 < llive[l] {
-        return 0 < rlive[r];
-    }
-    false
-}
+ghost use Rattle.settling.specs.Settling.{differsAt, markedBy, left, right, marksOf, settledAt, settled, Ends, movedBy};
 
 // the round gives pair k another size or mass than it has
 fn differs(pairs: &[u32], k: usize) -> bool

@@ -21,7 +21,6 @@ use Rattle.terms.specs.Buffers.{poolOf, countIn}
 use Rattle.terms.specs.PoolLaws.{pool-length}
 use Rattle.terms.specs.Chains.{Holds}
 use Rattle.interning.specs.Interning.{poolAfter}
-use Rattle.interning.specs.GrowLaws.{grows-none}
 use Rattle.turn_term.specs.Taking.{takenOf, Takes}
 use Rattle.turns.specs.Leaving.{Leaves}
 use Rattle.turn_term.specs.declared.Turned.{Turned}
@@ -41,7 +40,7 @@ taken-to w (refused n) x e = absurd (let z : _≡_ {A = ℕ} 0 1 = cc in omega a
 
 module _ (lim : Limits) (t : Tables) (w : ℕ) (graph pairs : List ℕ) (p : Two) (terms runs terms′ runs′ : List ℕ) where
   pub take-full : (k : ℕ) (work flow work′ flow′ : List ℕ) → Takes lim t (qualityIn w graph pairs) (termIn w graph pairs) p terms runs terms′ runs′ K.Full → Leaves lim t (qualityIn w graph pairs) (termIn w graph pairs) p terms runs work flow work′ flow′
-      → Visits lim t w graph p k true pairs work flow terms runs pairs work′ flow′ terms′ runs′ P.Full
+      → Visits lim t w graph p k pairs work flow terms runs pairs work′ flow′ terms′ runs′ P.Full
   take-full k work flow work′ flow′ X Y =
       let u = turnIn t w graph pairs p in
       let (n, e) = taken-full u (termMade lim t w graph pairs (poolOf terms runs) p) (X .answer) in
@@ -63,7 +62,7 @@ module _ (lim : Limits) (t : Tables) (w : ℕ) (graph pairs : List ℕ) (p : Two
         omega (arith, ap (λ (z : Turned). z .term) f, G .within, ap length (X .pool ∙ ap (poolAfter (poolOf terms runs)) e), pool-length terms′ runs′, X .holds .few)
 
     pub take-moves : (k term : ℕ) (pairs′ work flow work′ flow′ : List ℕ) → term ≡ x .term → pairs′ ≡ given pairs (6 * k + 3) (x .size) (x .mass) term → Leaves lim t (qualityIn w graph pairs) (termIn w graph pairs) p terms runs work flow work′ flow′
-        → Visits lim t w graph p k true pairs work flow terms runs pairs′ work′ flow′ terms′ runs′ (P.To (x .changed))
+        → Visits lim t w graph p k pairs work flow terms runs pairs′ work′ flow′ terms′ runs′ (P.To (x .changed))
     take-moves k term pairs′ work flow work′ flow′ et ep Y =
         let u = turnIn t w graph pairs p in
         let (a, e, f) = made in
@@ -77,42 +76,6 @@ module _ (lim : Limits) (t : Tables) (w : ℕ) (graph pairs : List ℕ) (p : Two
           flowIs = Y .flowIs;
         }
 
--- ---- a pair that is not live
--- to give what is there changes nothing
-given-same : (pairs : List ℕ) (i : ℕ) → given pairs i (getD pairs i 0) (getD pairs (i + 1) 0) (getD pairs (i + 2) 0) ≡ pairs
-unfolding given
-given-same pairs i =
-    ap (λ (l : List ℕ). set (set l (i + 1) (getD pairs (i + 1) 0)) (i + 2) (getD pairs (i + 2) 0)) (set-getD pairs i 0)
-    ∙ ap (λ (l : List ℕ). set l (i + 2) (getD pairs (i + 2) 0)) (set-getD pairs (i + 1) 0)
-    ∙ set-getD pairs (i + 2) 0
-
-pub idle-given : (pairs : List ℕ) (k : ℕ) → Idle pairs k → pairs ≡ given pairs (6 * k + 3) (getD pairs (6 * k) 0) (getD pairs (6 * k + 1) 0) (getD pairs (6 * k + 2) 0)
-idle-given pairs k (a, b, c) =
-    let x : 6 * k + 3 + 1 ≡ 6 * k + 4 = omega arith in
-    let y : 6 * k + 3 + 2 ≡ 6 * k + 5 = omega arith in
-    let b′ : getD pairs (6 * k + 3 + 1) 0 ≡ getD pairs (6 * k + 1) 0 = ap (λ (i : ℕ). getD pairs i 0) x ∙ b in
-    let c′ : getD pairs (6 * k + 3 + 2) 0 ≡ getD pairs (6 * k + 2) 0 = ap (λ (i : ℕ). getD pairs i 0) y ∙ c in
-    sym (given-same pairs (6 * k + 3)) ∙ (λ i. given pairs (6 * k + 3) (a i) (b′ i) (c′ i))
-
-pub idle-visits : (lim : Limits) (t : Tables) (w : ℕ) (graph pairs : List ℕ) (p : Two) (k : ℕ) (work flow terms runs : List ℕ) → numberIn w graph p ≡ k → turnIn t w graph pairs p ≡ unturned (qualityIn w graph pairs p) → Holds terms runs → Idle pairs k
-    → Visits lim t w graph p k false pairs work flow terms runs pairs work flow terms runs (P.To false)
-unfolding choiceTerm
-idle-visits lim t w graph pairs p k work flow terms runs n e h idle =
-    let is : termMade lim t w graph pairs (poolOf terms runs) p ≡ ok (interned (poolOf terms runs) (termIn w graph pairs p)) = ap (λ (u : Turn). choiceTerm lim t (termIn w graph pairs) (poolOf terms runs) (termIn w graph pairs p) (u .choice)) e in
-    record {
-      answer = ap (λ (u : Turn). P.To (changes u)) (sym e) ∙ sym (ap (stepOf (turnIn t w graph pairs p)) is);
-      numbers = idle-given pairs k idle
-          ∙ ap (λ (i : ℕ). given pairs (6 * k + 3) (getD pairs (6 * i) 0) (getD pairs (6 * i + 1) 0) (getD pairs (6 * i + 2) 0)) (sym n)
-          ∙ ap (λ (u : Turn). given pairs (6 * k + 3) (u .quality .0) (u .quality .1) (termIn w graph pairs p)) (sym e)
-          ∙ sym (ap (λ (m : Res Interned). numbersAfter (turnIn t w graph pairs p) m k pairs) is);
-      grows = rw is (grows-none terms runs h);
-      workIs = refl;
-      flowIs = refl;
-    }
-
-pub visits-as : {lim : Limits} {t : Tables} {w : ℕ} {graph : List ℕ} {p : Two} {k : ℕ} {pairs work flow terms runs pairs′ work′ flow′ terms′ runs′ : List ℕ} {r : Step} (live live′ : Bool) → live ≡ live′ → Visits lim t w graph p k live′ pairs work flow terms runs pairs′ work′ flow′ terms′ runs′ r → Visits lim t w graph p k live pairs work flow terms runs pairs′ work′ flow′ terms′ runs′ r
-visits-as live live′ e X = rw e X
-
 -- ---- by what a visit answered
 -- the turn u of pair k, whose term is m: its new numbers, and whether it changes
 pub record Moved (u : Turn) (m : Res Interned) (k : ℕ) (pairs pairs′ terms′ runs′ : List ℕ) (c : Bool) : Type 0 where
@@ -123,7 +86,7 @@ pub record Moved (u : Turn) (m : Res Interned) (k : ℕ) (pairs pairs′ terms�
   pub holds : Holds terms′ runs′
   pub changed : c ≡ changes u
 
-module _ {lim : Limits} {t : Tables} {w : ℕ} {graph : List ℕ} {p : Two} {k : ℕ} {live : Bool} {pairs work flow terms runs pairs′ work′ flow′ terms′ runs′ : List ℕ} (r : Step) (X : Visits lim t w graph p k live pairs work flow terms runs pairs′ work′ flow′ terms′ runs′ r) where
+module _ {lim : Limits} {t : Tables} {w : ℕ} {graph : List ℕ} {p : Two} {k : ℕ} {pairs work flow terms runs pairs′ work′ flow′ terms′ runs′ : List ℕ} (r : Step) (X : Visits lim t w graph p k pairs work flow terms runs pairs′ work′ flow′ terms′ runs′ r) where
   abbrev Made : Res Interned
   Made = termMade lim t w graph pairs (poolOf terms runs) p
 
@@ -140,3 +103,34 @@ module _ {lim : Limits} {t : Tables} {w : ℕ} {graph : List ℕ} {p : Two} {k :
       go : (m : Res Interned) → Made ≡ m → P.To c ≡ stepOf (turnIn t w graph pairs p) m → pairs′ ≡ numbersAfter (turnIn t w graph pairs p) m k pairs → poolOf terms′ runs′ ≡ poolAfter (poolOf terms runs) m → Moved (turnIn t w graph pairs p) Made k pairs pairs′ terms′ runs′ c
       go (ok a) i q n o = record { made = a; is = i; numbers = n; pool = o; holds = X .grows .holds; changed = cc }
       go (refused n) i q m o = absurd (let z : _≡_ {A = ℕ} 0 1 = cc in omega arith)
+
+-- ---- a pair that keeps what it has: as if it had its turn
+-- to give what is there changes nothing
+given-same : (pairs : List ℕ) (i : ℕ) → given pairs i (getD pairs i 0) (getD pairs (i + 1) 0) (getD pairs (i + 2) 0) ≡ pairs
+unfolding given
+given-same pairs i =
+    ap (λ (l : List ℕ). set (set l (i + 1) (getD pairs (i + 1) 0)) (i + 2) (getD pairs (i + 2) 0)) (set-getD pairs i 0)
+    ∙ ap (λ (l : List ℕ). set l (i + 2) (getD pairs (i + 2) 0)) (set-getD pairs (i + 1) 0)
+    ∙ set-getD pairs (i + 2) 0
+
+idle-given : (pairs : List ℕ) (k : ℕ) → Idle pairs k → pairs ≡ given pairs (6 * k + 3) (getD pairs (6 * k) 0) (getD pairs (6 * k + 1) 0) (getD pairs (6 * k + 2) 0)
+idle-given pairs k (a, b, c) =
+    let x : 6 * k + 3 + 1 ≡ 6 * k + 4 = omega arith in
+    let y : 6 * k + 3 + 2 ≡ 6 * k + 5 = omega arith in
+    let b′ : getD pairs (6 * k + 3 + 1) 0 ≡ getD pairs (6 * k + 1) 0 = ap (λ (i : ℕ). getD pairs i 0) x ∙ b in
+    let c′ : getD pairs (6 * k + 3 + 2) 0 ≡ getD pairs (6 * k + 2) 0 = ap (λ (i : ℕ). getD pairs i 0) y ∙ c in
+    sym (given-same pairs (6 * k + 3)) ∙ (λ i. given pairs (6 * k + 3) (a i) (b′ i) (c′ i))
+
+pub idle-moved : (lim : Limits) (t : Tables) (w : ℕ) (graph pairs : List ℕ) (p : Two) (k : ℕ) (terms runs : List ℕ) → numberIn w graph p ≡ k → turnIn t w graph pairs p ≡ unturned (qualityIn w graph pairs p) → Holds terms runs → Idle pairs k
+    → Moved (turnIn t w graph pairs p) (termMade lim t w graph pairs (poolOf terms runs) p) k pairs pairs terms runs false
+unfolding choiceTerm
+idle-moved lim t w graph pairs p k terms runs n e h idle = record {
+  made = interned (poolOf terms runs) (termIn w graph pairs p);
+  is = ap (λ (u : Turn). choiceTerm lim t (termIn w graph pairs) (poolOf terms runs) (termIn w graph pairs p) (u .choice)) e;
+  numbers = idle-given pairs k idle
+      ∙ ap (λ (i : ℕ). given pairs (6 * k + 3) (getD pairs (6 * i) 0) (getD pairs (6 * i + 1) 0) (getD pairs (6 * i + 2) 0)) (sym n)
+      ∙ ap (λ (u : Turn). given pairs (6 * k + 3) (u .quality .0) (u .quality .1) (termIn w graph pairs p)) (sym e);
+  pool = refl;
+  holds = h;
+  changed = ap changes (sym e);
+}

@@ -1,6 +1,5 @@
 -- A pair's visit in a round: what it answers, and what it leaves in the arrays.
 use mathlib.Core.Path.{_≡_}
-use mathlib.Core.Bool.{Bool, true, false}
 use mathlib.Core.List.{List}
 use Prim.Native.Nat.{ℕ, _+_, _*_}
 use lib.ListN.{getD}
@@ -35,20 +34,15 @@ abbrev pub numbersAfter : Turn → Res Interned → ℕ → List ℕ → List �
 numbersAfter u (ok a) k pairs = given pairs (6 * k + 3) (u .quality .0) (u .quality .1) (a .term)
 numbersAfter u (refused n) k pairs = pairs
 
--- a work buffer after a turn; as it was where there was none
-abbrev pub ifLive : Bool → List ℕ → List ℕ → List ℕ
-ifLive true after was = after
-ifLive false after was = was
-
 -- what the round gives pair k is what it has
 abbrev pub Idle : List ℕ → ℕ → Type 0
 Idle pairs k = (getD pairs (6 * k + 3) 0 ≡ getD pairs (6 * k) 0) × (getD pairs (6 * k + 4) 0 ≡ getD pairs (6 * k + 1) 0) × (getD pairs (6 * k + 5) 0 ≡ getD pairs (6 * k + 2) 0)
 
 -- pair p, which is pair k, is visited
-pub record Visits (lim : Limits) (t : Tables) (w : ℕ) (graph : List ℕ) (p : Two) (k : ℕ) (live : Bool) (pairs work flow terms runs pairs′ work′ flow′ terms′ runs′ : List ℕ) (r : Step) : Type 0 where
+pub record Visits (lim : Limits) (t : Tables) (w : ℕ) (graph : List ℕ) (p : Two) (k : ℕ) (pairs work flow terms runs pairs′ work′ flow′ terms′ runs′ : List ℕ) (r : Step) : Type 0 where
   pub answer : r ≡ stepOf (turnIn t w graph pairs p) (termMade lim t w graph pairs (poolOf terms runs) p)
   pub numbers : pairs′ ≡ numbersAfter (turnIn t w graph pairs p) (termMade lim t w graph pairs (poolOf terms runs) p) k pairs
   -- terms and runs hold the pool with the turn's term
   pub grows : Grows terms runs terms′ runs′ (poolAfter (poolOf terms runs) (termMade lim t w graph pairs (poolOf terms runs) p))
-  pub workIs : work′ ≡ ifLive live (termList t (termIn w graph pairs) terms runs (turnIn t w graph pairs p .choice) (leaving.turnIn lim t (qualityIn w graph pairs) (termIn w graph pairs) p work flow .work)) work
-  pub flowIs : flow′ ≡ ifLive live (leaving.turnIn lim t (qualityIn w graph pairs) (termIn w graph pairs) p work flow .flow) flow
+  pub workIs : work′ ≡ termList t (termIn w graph pairs) terms runs (turnIn t w graph pairs p .choice) (leaving.turnIn lim t (qualityIn w graph pairs) (termIn w graph pairs) p work flow .work)
+  pub flowIs : flow′ ≡ leaving.turnIn lim t (qualityIn w graph pairs) (termIn w graph pairs) p work flow .flow

@@ -1,24 +1,20 @@
-// A pair's visit in a round: its turn, whose numbers go beside those of the round before; none where the pair is not live (`relax` of exact_fixed.rs).
+// A pair's visit in a round: its turn, whose numbers go beside those of the round before (`relax` of exact_fixed.rs).
 use arrays::NEW;
 use arrays::WIDTH;
 use image::Image;
 use query::Limits;
 use turn_term::Taken;
-ghost use mathlib.Core.Path.{_≡_};
-ghost use mathlib.Core.Bool.{true, false};
 ghost use Prim.Native.Nat.{_+_, _*_, _≤_, _<_};
 ghost use lib.ListN.{length};
 ghost use Rattle.spec.specs.Image.{tablesOf};
 ghost use Rattle.laws.specs.Valid.{Valid};
 ghost use Rattle.lgg.specs.Cells.{CellsFit};
 ghost use Rattle.query.specs.Settings.{limitsOf};
-ghost use Rattle.arrays.specs.Arrays.{numberIn, qualityIn, Known, TermsBelow, Scratch};
+ghost use Rattle.arrays.specs.Arrays.{Known, TermsBelow, Scratch};
 ghost use Rattle.image.specs.Loaded.{Loaded};
 ghost use Rattle.terms.specs.Buffers.{countIn};
 ghost use Rattle.terms.specs.Chains.{Holds, Rooms};
-ghost use Rattle.settling.specs.Settling.{liveIn};
-ghost use Rattle.settling.specs.Quiet.{unturned};
-ghost use Rattle.visits.specs.Visiting.{turnIn, Idle, Visits};
+ghost use Rattle.visits.specs.Visiting.{Visits};
 
 // a pair's turn: whether it changed; or refusal 13
 pub enum Step {
@@ -26,8 +22,8 @@ pub enum Step {
     Full,
 }
 
-// pair k's turn over the previous round: its new size, mass and term
-fn take_one(
+// Pair k's turn over the previous round: its new size, mass and term.
+pub fn visit(
     lim: Limits,
     s: &[u8],
     im: Image,
@@ -42,7 +38,7 @@ fn take_one(
     runs: &mut [u64],
 ) -> Step
     requires { ⌜ Loaded (now s) im × Valid (tablesOf (now s)) × (l < im .classes) × (r < im .classes) × Known (im .classes) (now graph) (now pairs) × TermsBelow (im .classes) (now graph) (now pairs) (countIn (now terms)) × CellsFit (limitsOf lim) (tablesOf (now s)) (l, r) × Scratch (limitsOf lim) (now work) (now flow) × Holds (now terms) (now runs) × Rooms (limitsOf lim) (now terms) (now runs) × (k < 65536) × (6 * k + 6 ≤ length (now pairs)) ⌝ }
-    ensures { λ x. ⌜ Visits (limitsOf lim) (tablesOf (now (s .entry))) (im .classes) (now (graph .entry)) (l, r) k true (now (pairs .entry)) (now (work .entry)) (now (flow .entry)) (now (terms .entry)) (now (runs .entry)) (now (pairs .exit)) (now (work .exit)) (now (flow .exit)) (now (terms .exit)) (now (runs .exit)) x ⌝ }
+    ensures { λ x. ⌜ Visits (limitsOf lim) (tablesOf (now (s .entry))) (im .classes) (now (graph .entry)) (l, r) k (now (pairs .entry)) (now (work .entry)) (now (flow .entry)) (now (terms .entry)) (now (runs .entry)) (now (pairs .exit)) (now (work .exit)) (now (flow .exit)) (now (terms .exit)) (now (runs .exit)) x ⌝ }
 {
     let x = turns::take_turn(lim, s, im, graph, pairs, l, r, work, flow, terms, runs);
     match x {
@@ -55,32 +51,4 @@ fn take_one(
             return Step::To(y.changed);
         }
     }
-}
-
-// pair k's turn; a pair that is not live keeps what it has, and the round gives it that already
-pub fn visit(
-    lim: Limits,
-    s: &[u8],
-    im: Image,
-    graph: &[u16],
-    l: usize,
-    r: usize,
-    k: usize,
-    llive: &[u8; 256],
-    rlive: &[u8; 256],
-    pairs: &mut [u32],
-    work: &mut [u64],
-    flow: &mut [u64],
-    terms: &mut [u32],
-    runs: &mut [u64],
-) -> Step
-    requires { ⌜ Loaded (now s) im × Valid (tablesOf (now s)) × (l < im .classes) × (r < im .classes) × Known (im .classes) (now graph) (now pairs) × TermsBelow (im .classes) (now graph) (now pairs) (countIn (now terms)) × CellsFit (limitsOf lim) (tablesOf (now s)) (l, r) × Scratch (limitsOf lim) (now work) (now flow) × Holds (now terms) (now runs) × Rooms (limitsOf lim) (now terms) (now runs) × (k < 65536) × (6 * k + 6 ≤ length (now pairs))
-        × (numberIn (im .classes) (now graph) (l, r) ≡ k) × (liveIn (now llive) (now rlive) (l, r) ≡ false → turnIn (tablesOf (now s)) (im .classes) (now graph) (now pairs) (l, r) ≡ unturned (qualityIn (im .classes) (now graph) (now pairs) (l, r)))
-        × (liveIn (now llive) (now rlive) (l, r) ≡ false → Idle (now pairs) k) ⌝ }
-    ensures { λ x. ⌜ Visits (limitsOf lim) (tablesOf (now (s .entry))) (im .classes) (now (graph .entry)) (l, r) k (liveIn (now (llive .entry)) (now (rlive .entry)) (l, r)) (now (pairs .entry)) (now (work .entry)) (now (flow .entry)) (now (terms .entry)) (now (runs .entry)) (now (pairs .exit)) (now (work .exit)) (now (flow .exit)) (now (terms .exit)) (now (runs .exit)) x ⌝ }
-{
-    if settling::live(llive, rlive, l, r) {
-        return take_one(lim, s, im, graph, l, r, k, pairs, work, flow, terms, runs);
-    }
-    Step::To(false)
 }

@@ -1,7 +1,7 @@
 use Rattle.exact_fixed.specs.Starting.{Starting, starting-none, start-cut, start-full, start-more}
 use Rattle.best_terms.specs.Starting.{kept-none}
 use Rattle.rounds.specs.Graphs.{pair-at, pair-ranged}
-use Rattle.rounds.specs.Spending.{expired, spent}
+use Rattle.budget.specs.Spending.{expired, spent}
 use Rattle.best_terms.specs.Bests.{Kept}
 use Rattle.terms.specs.Buffers.{poolOf}
 use Rattle.image.specs.Loaded.{classes-many}

@@ -7,9 +7,10 @@ use Rattle.settling.specs.Quiet.{Quiet, quiet-first}
 use Rattle.rounds.specs.Graphs.{stateIn}
 use Rattle.terms.specs.PoolLaws.{rooms-same}
 use Rattle.turns.specs.TurnLaws.{scratch-kept}
-use Rattle.rounds.specs.Spending.{expired, spent}
+use Rattle.budget.specs.Spending.{expired, spent}
+use Rattle.round_outcome.specs.After.{after-next}
 use Rattle.rounds.specs.Idling.{Idles, idles-first, idles-after}
-use Rattle.rounds.specs.Running.{Running, standing-any, after-next, run-expired, round-ended, round-left, round-next, round-quiets}
+use Rattle.rounds.specs.Running.{Running, standing-any, run-expired, round-ended, round-left, round-next, round-quiets}
 use borrow.Author.Needs.{needs}
 use Prim.Native.Nat.{_≤_, _+_}
 use native.Mathlib.Omega.{arith}

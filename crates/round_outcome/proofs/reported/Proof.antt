@@ -2,8 +2,8 @@ use Prim.Native.Nat.{ℕ}
 use mathlib.Core.Path.{ap}
 use lib.ListN.{getD}
 use borrow.Author.Needs.{needs}
-use Rattle.rounds.proofs.reported.Statement.{statement}
-use Rattle.rounds.proofs.reported.Tie as tie
+use Rattle.round_outcome.proofs.reported.Statement.{statement}
+use Rattle.round_outcome.proofs.reported.Tie as tie
 
 shared-slice-read-t6 : tie.Need-shared-slice-read-t6
 shared-slice-read-t6 c = search needs

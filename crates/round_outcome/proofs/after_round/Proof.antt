@@ -1,8 +1,8 @@
-use Rattle.rounds.specs.Spending.{was-false, was-true}
+use Rattle.budget.specs.Spending.{was-false, was-true}
 use mathlib.Core.Path.{refl}
 use borrow.Author.Needs.{needs}
-use Rattle.rounds.proofs.after_round.Statement.{statement}
-use Rattle.rounds.proofs.after_round.Tie as tie
+use Rattle.round_outcome.proofs.after_round.Statement.{statement}
+use Rattle.round_outcome.proofs.after_round.Tie as tie
 
 enum-told : tie.Need-enum-told
 enum-told c = search needs

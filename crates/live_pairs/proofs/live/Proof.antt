@@ -1,7 +1,7 @@
-use Rattle.settling.specs.SettleLaws.{live-left, live-none}
+use Rattle.live_pairs.specs.LiveLaws.{live-left, live-none}
 use borrow.Author.Needs.{needs}
-use Rattle.settling.proofs.live.Statement.{statement}
-use Rattle.settling.proofs.live.Tie as tie
+use Rattle.live_pairs.proofs.live.Statement.{statement}
+use Rattle.live_pairs.proofs.live.Tie as tie
 
 element-copy-out-if1 : tie.Need-element-copy-out-if1
 element-copy-out-if1 c = search needs

@@ -1,0 +1,59 @@
+// What a round came to, and what follows it: the next one, or the run's end with its outcome.
+use arrays::MASS;
+use arrays::TERM;
+use budget::Budget;
+use outcome::Outcome;
+use outcome::Ran;
+ghost use mathlib.Core.Path.{_≡_};
+ghost use Prim.Native.Nat.{_≤_};
+ghost use lib.ListN.{length};
+ghost use Rattle.round_outcome.specs.After.{reportedIn, afterOf};
+
+// a round: whether a pair changed, with the budget left; cut short; refusal 13
+pub enum Round {
+    Finished(bool, Budget),
+    Cut,
+    Full,
+}
+
+// after a round: the next, with the budget left; or the run's end
+pub enum After {
+    Next(Budget),
+    Ended(Ran),
+}
+
+// The first pair is the one that was asked for.
+pub fn reported(pairs: &[u32], complete: bool, n: usize, rounds: u32) -> Outcome
+    requires { ⌜ 6 ≤ length (now pairs) ⌝ }
+    ensures { λ o. ⌜ o ≡ reportedIn (now (pairs .entry)) complete n rounds ⌝ }
+{
+    Outcome {
+        complete: complete,
+        pairs: n,
+        rounds: rounds,
+        size: pairs[0],
+        mass: pairs[MASS],
+        root: numbers::size_u32(pairs[TERM]),
+    }
+}
+
+// "The run is complete at the first finished round without change."
+pub fn after_round(x: Round, pairs: &[u32], n: usize, rounds: u32) -> After
+    requires { ⌜ 6 ≤ length (now pairs) ⌝ }
+    ensures { λ y. ⌜ y ≡ afterOf x (now (pairs .entry)) n rounds ⌝ }
+{
+    match x {
+        Round::Full => {
+            return After::Ended(Ran::Stopped(13));
+        }
+        Round::Cut => {
+            return After::Ended(Ran::Done(reported(pairs, false, n, rounds)));
+        }
+        Round::Finished(changed, left) => {
+            if !changed {
+                return After::Ended(Ran::Done(reported(pairs, true, n, rounds)));
+            }
+            After::Next(left)
+        }
+    }
+}
