@@ -18,7 +18,7 @@ use Rattle.laws.specs.Valid.{Valid}
 use Rattle.laws.specs.Accepted as A
 use Rattle.flow.specs.Theorems.{margins, least, totals}
 use Rattle.lgg.specs.Pool.{PoolValid}
-use Rattle.lgg.specs.Readings as L
+use Rattle.readings.specs.Readings as L
 use Rattle.merge_under.specs.declared.Answer.the-variants.{Listing}
 use Rattle.au.specs.Merges.{Merges}
 use Rattle.demands.specs.Calls.{accepted, read-of}

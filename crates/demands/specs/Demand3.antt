@@ -16,10 +16,10 @@ use Rattle.lgg.specs.Lists.{Distinct}
 use Rattle.lgg.specs.Results.{ok-inj}
 use Rattle.lgg.specs.Rounds.{LeastOf, qualityAfter}
 use Rattle.lgg.specs.Graph.{PairCount, build-cut}
-use Rattle.lgg.specs.Run.{Ends, inBuilding, inStarting, inRounds, run-ends}
-use Rattle.lgg.specs.Outcomes.{root-in, started-says}
-use Rattle.lgg.specs.Demand3 as D
-use Rattle.lgg.specs.Demand3.{FirstQuiet, Reported}
+use Rattle.budgets.specs.Run.{Ends, inBuilding, inStarting, inRounds, run-ends}
+use Rattle.budgets.specs.Outcomes.{root-in, started-says}
+use Rattle.budgets.specs.Demand3 as D
+use Rattle.budgets.specs.Demand3.{FirstQuiet, Reported}
 use Rattle.merge_under.specs.declared.Answer.{Answer}
 use Rattle.merge_under.specs.declared.Answer.the-variants.{Listing, Refused}
 use Rattle.au.specs.Merges.{Merges}

@@ -19,8 +19,8 @@ use Rattle.laws.specs.Accepted as A
 use Rattle.lgg.specs.Lists.{clash}
 use Rattle.lgg.specs.Results.{refused-ok, refused-inj}
 use Rattle.lgg.specs.Graph.{PairCount}
-use Rattle.lgg.specs.CountedRun.{root-starts}
-use Rattle.lgg.specs.Demand3 as D
+use Rattle.counted.specs.CountedRun.{root-starts}
+use Rattle.budgets.specs.Demand3 as D
 use Rattle.merge_under.specs.declared.Answer.{Answer}
 use Rattle.merge_under.specs.declared.Answer.the-variants.{Listing, Refused, Doubled}
 use Rattle.au.specs.Merges.{Merges}

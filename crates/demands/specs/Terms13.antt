@@ -15,11 +15,11 @@ use Rattle.spec.specs.Meaning.{In, treeAt}
 use Rattle.laws.specs.Valid.{Valid}
 use Rattle.laws.specs.Accepted as A
 use Rattle.lgg.specs.Graph.{PairCount}
-use Rattle.lgg.specs.Demand3.{FirstQuiet}
-use Rattle.lgg.specs.Counted.{termAfter, Counted, Beyond}
-use Rattle.lgg.specs.CountedFew.{Ends, FinalRuns}
-use Rattle.lgg.specs.CountedRun as L
-use Rattle.lgg.specs.Refused13 as N
+use Rattle.budgets.specs.Demand3.{FirstQuiet}
+use Rattle.counted.specs.Counted.{termAfter, Counted, Beyond}
+use Rattle.counted.specs.CountedFew.{Ends, FinalRuns}
+use Rattle.counted.specs.CountedRun as L
+use Rattle.counted.specs.Refused13 as N
 use Rattle.merge_under.specs.declared.Answer.{Answer}
 use Rattle.merge_under.specs.declared.Answer.the-variants.{Listing, Refused}
 use Rattle.au.specs.Merges.{Merges}

@@ -8,15 +8,10 @@ pub mod Rounds
 pub mod Enter
 pub mod Graph
 pub mod Checks
-pub mod Run
 pub mod Repeats
 pub mod Dedup
 pub mod Within
-pub mod Count
 pub mod Refusals
-pub mod Outcomes
-pub mod Transport
-pub mod Demand3
 pub mod Bag
 pub mod BagCount
 pub mod BagPlan
@@ -30,8 +25,6 @@ pub mod Best
 pub mod ReadingsNode
 pub mod ReadingsActions
 pub mod ReadingsWithin
-pub mod ReadingsRounds
-pub mod Readings
 pub mod OrderTerms
 pub mod OrderRuns
 pub mod Order
@@ -48,10 +41,3 @@ pub mod RoundsFrom
 pub mod Standing
 pub mod TurnRead
 pub mod RunFrom
-pub mod Counted
-pub mod CountedTrees
-pub mod CountedRuns
-pub mod CountedPool
-pub mod CountedFew
-pub mod CountedRun
-pub mod Refused13

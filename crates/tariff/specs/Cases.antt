@@ -13,7 +13,7 @@ use Rattle.spec.specs.Run.{documentLimits}
 use Rattle.spec.specs.Merge.{mergeOf}
 use Rattle.laws.specs.Accepted as A
 use Rattle.lgg.specs.Results.{refused-ok, refused-inj}
-use Rattle.lgg.specs.Demand3 as D
+use Rattle.budgets.specs.Demand3 as D
 use Rattle.merge_under.specs.declared.Answer.{Answer}
 use Rattle.merge_under.specs.declared.Answer.the-variants.{Listing, Refused, Doubled}
 use Rattle.au.specs.Merges.{fitOf, Merges}

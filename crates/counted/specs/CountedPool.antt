@@ -16,16 +16,16 @@ use Rattle.spec.specs.Round.{Act, Choice, stay, act, planRuns, actionTerm, choi
 use Rattle.spec.specs.Run.{documentLimits}
 use Rattle.spec.specs.Meaning.{In, here, there, Term, lit, node, variants, Runs, run, runsOf, treeOf, treesAfter, treeAt}
 use Rattle.laws.specs.Valid.{Valid}
 use Rattle.lgg.specs.Lists.{Distinct, none, more}
 use Rattle.lgg.specs.Bag.{map-append, sum-append}
 use Rattle.lgg.specs.Pool.{RunsBelow, runs-below-nil, runs-below-cons, NodeValid, PoolValid, op-valid, lit-valid, variants-valid, trees-length, tree-grows, tree-last, tree-literal, tree-marked}
 use Rattle.lgg.specs.PoolTrees.{trees-apart}
 use Rattle.lgg.specs.PoolIntern.{Extends, extends-refl, extends-trans, extends-within, extends-tree, Interns, intern-enters, added}
 use Rattle.lgg.specs.PoolSort.{actionRuns}
 use Rattle.lgg.specs.BestMembers.{IsClass, IsPair, best-in, best-falls, child-within, child-counted}
-use Rattle.lgg.specs.Counted.{joinTrees, childTrees, bestTreeIn, bestTree, startingTree, choiceTree, Beyond}
-use Rattle.lgg.specs.CountedTrees.{op-tree, pool-runs}
-use Rattle.lgg.specs.CountedRuns.{Stands, Acts, choice-valid, choice-tree}
+use Rattle.counted.specs.Counted.{joinTrees, childTrees, bestTreeIn, bestTree, startingTree, choiceTree, Beyond}
+use Rattle.counted.specs.CountedTrees.{op-tree, pool-runs}
+use Rattle.counted.specs.CountedRuns.{Stands, Acts, choice-valid, choice-tree}
 
 -- a valid pool whose terms are all of the kind C
 pub record Kept (C : Term → Type 0) (p : Pool) : Type 0 where

@@ -15,15 +15,15 @@ use Rattle.spec.specs.Meaning.{In, here, there, Term, lit, node, variants, Runs
 use Rattle.laws.specs.Valid.{Valid}
 use Rattle.laws.specs.Buffers.{up-length}
 use Rattle.flow.specs.Queue.{upFrom-in}
 use Rattle.lgg.specs.Lists.{clash, in-cons, in-nil, in-map, in-each, length-map, Distinct, none, more, pigeon}
 use Rattle.lgg.specs.Quality.{⊏-not, ⊑-of-eq}
 use Rattle.lgg.specs.Turn.{Told, turn-told}
 use Rattle.lgg.specs.TurnPlaces.{children-few}
 use Rattle.lgg.specs.Rounds.{qualityAfter, q-next}
 use Rattle.lgg.specs.BestMembers.{IsClass, IsPair, best-in}
-use Rattle.lgg.specs.Counted.{joinTrees, treeRuns, childTrees, bestTree, startingTree, termAfter, Improved, Begun, Counted, best, starting, final, Beyond}
-use Rattle.lgg.specs.CountedRuns.{join-runs, child-runs, marked-runs, choice-places}
-use Rattle.lgg.specs.CountedPool.{best-tree}
+use Rattle.counted.specs.Counted.{joinTrees, treeRuns, childTrees, bestTree, startingTree, termAfter, Improved, Begun, Counted, best, starting, final, Beyond}
+use Rattle.counted.specs.CountedRuns.{join-runs, child-runs, marked-runs, choice-places}
+use Rattle.counted.specs.CountedPool.{best-tree}
 
 -- ---- the runs of a term
 -- "child count (2, at most 64)"

@@ -15,13 +15,13 @@ use Rattle.spec.specs.Pool.{Interned}
 use Rattle.spec.specs.Round.{startingQuality, lookUp, qualitiesAfter}
 use Rattle.spec.specs.Run.{Outcome, started, runOf}
 use Rattle.spec.specs.Meaning.{In, here, _⊑_, Derivation, start, action, transport}
 use Rattle.lgg.specs.Lists.{clash, same-refl}
 use Rattle.lgg.specs.Quality.{⊑-of-eq}
 use Rattle.lgg.specs.Turn.{TransportTheorems}
 use Rattle.lgg.specs.Rounds.{LeastOf, Closed, qualityAfter, changed, quiet-same, changed-differs, bound}
 use Rattle.lgg.specs.Enter.{Starts}
 use Rattle.lgg.specs.Graph.{PairCount, build-whole, build-first, build-passed, build-cut, build-same}
-use Rattle.lgg.specs.Run.{Status, Ended, Ends, inBuilding, inStarting, inRounds, run-ends}
+use Rattle.budgets.specs.Run.{Status, Ended, Ends, inBuilding, inStarting, inRounds, run-ends}
 
 -- ---- the queried pair stands first
 first-place : (p : Two) (ps qs : List Two) → Starts (p ∷ []) ps → getD qs 0 (0, 0) ≡ lookUp (0, 0) ps qs p

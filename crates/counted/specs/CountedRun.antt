@@ -16,23 +16,23 @@ use Rattle.spec.specs.Round.{Terms, prepend, Choice, stay, act, Turn, changes, 
 use Rattle.spec.specs.Run.{documentLimits, State, Outcome, outcome, startingTerms, roundTerms, afterRound, roundsFrom, started, afterStarting, afterBuilding, runOf}
 use Rattle.spec.specs.Meaning.{In, here, there, Term, treeAt}
 use Rattle.laws.specs.Valid.{Valid}
 use Rattle.lgg.specs.Lists.{clash, in-cons, in-nil, same-eq, same-refl}
 use Rattle.lgg.specs.Results.{ok-inj, refused-ok, bind-ok, bind-refused}
 use Rattle.lgg.specs.Quality.{_⊏_}
 use Rattle.lgg.specs.Turn.{Told, turn-told}
 use Rattle.lgg.specs.TurnPlaces.{choice-joins}
 use Rattle.lgg.specs.Rounds.{Closed, qualityAfter, q-next}
 use Rattle.lgg.specs.Enter.{Starts}
 use Rattle.lgg.specs.Graph.{build-whole, build-first, build-closed, build-passed, build-same, build-refused}
-use Rattle.lgg.specs.Outcomes.{root-in}
+use Rattle.budgets.specs.Outcomes.{root-in}
 use Rattle.lgg.specs.Pool.{PoolValid, empty-valid}
 use Rattle.lgg.specs.PoolIntern.{Extends, extends-refl, extends-trans, extends-within, extends-tree}
 use Rattle.lgg.specs.BestMembers.{IsClass, IsPair}
-use Rattle.lgg.specs.Readings.{reach-within}
-use Rattle.lgg.specs.Counted.{treeRuns, bestTree, startingTree, choiceTree, termAfter, Improved, Counted, best, starting, final, Beyond}
-use Rattle.lgg.specs.CountedFew.{best-runs, starting-runs, counted-few}
-use Rattle.lgg.specs.CountedPool.{Kept, Goes, fine, full, goes-bind, Entered, starting-goes, choice-goes}
-use Rattle.lgg.specs.CountedRuns.{Stands, Acts, turn-few}
+use Rattle.readings.specs.Readings.{reach-within}
+use Rattle.counted.specs.Counted.{treeRuns, bestTree, startingTree, choiceTree, termAfter, Improved, Counted, best, starting, final, Beyond}
+use Rattle.counted.specs.CountedFew.{best-runs, starting-runs, counted-few}
+use Rattle.counted.specs.CountedPool.{Kept, Goes, fine, full, goes-bind, Entered, starting-goes, choice-goes}
+use Rattle.counted.specs.CountedRuns.{Stands, Acts, turn-few}
 
 -- a term for each pair of a list: pair c has the tree `f c`
 data Holds (pool : Pool) (f : Two → Term) : List Two → List ℕ → Type 0 where

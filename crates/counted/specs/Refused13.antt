@@ -15,17 +15,17 @@ use Rattle.spec.specs.Round.{lookUp, qualitiesAfter}
 use Rattle.spec.specs.Run.{documentLimits, runOf}
 use Rattle.spec.specs.Meaning.{In, here, there}
 use Rattle.laws.specs.Valid.{Valid}
 use Rattle.lgg.specs.Results.{refused-ok}
 use Rattle.lgg.specs.Quality.{⊏-not, ⊑-of-eq}
 use Rattle.lgg.specs.Rounds.{qualityAfter, forever}
 use Rattle.lgg.specs.Graph.{PairCount, build-whole, build-passed, build-same, build-over}
 use Rattle.lgg.specs.TurnPlaces.{turn-choice}
 use Rattle.lgg.specs.BestMembers.{IsPair}
-use Rattle.lgg.specs.Readings.{reach-within}
-use Rattle.lgg.specs.Demand3.{FirstQuiet, settled}
-use Rattle.lgg.specs.Counted.{Improved, Counted, Beyond}
-use Rattle.lgg.specs.CountedFew.{Ends, FinalRuns, final-runs, counted-few}
-use Rattle.lgg.specs.CountedRun.{Slim, refused-13-slim, refused-13-beyond}
+use Rattle.readings.specs.Readings.{reach-within}
+use Rattle.budgets.specs.Demand3.{FirstQuiet, settled}
+use Rattle.counted.specs.Counted.{Improved, Counted, Beyond}
+use Rattle.counted.specs.CountedFew.{Ends, FinalRuns, final-runs, counted-few}
+use Rattle.counted.specs.CountedRun.{Slim, refused-13-slim, refused-13-beyond}
 
 -- ---- the rounds that improve a pair
 -- the budget ends before round R

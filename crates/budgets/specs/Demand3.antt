@@ -18,15 +18,15 @@ use Rattle.spec.specs.Run.{Outcome, started, runOf}
 use Rattle.spec.specs.Listing.{listingOf}
 use Rattle.spec.specs.Merge.{mergeUnder}
 use Rattle.spec.specs.Meaning.{In, _⊑_, Derivation, Reachable}
 use Rattle.lgg.specs.Lists.{clash, Distinct}
 use Rattle.lgg.specs.Results.{refused-ok, ok-inj}
-use Rattle.lgg.specs.Transport.{transport-theorems}
+use Rattle.budgets.specs.Transport.{transport-theorems}
 use Rattle.lgg.specs.Rounds.{LeastOf, qualityAfter, changed, q-start, quiet-same, changed-differs, attained, least, least-every, bound}
 use Rattle.lgg.specs.Graph.{PairCount, some-count, count-unique, build-closed, build-whole, build-first, build-passed, build-cut, build-same, build-short, build-enough, build-over, build-at}
-use Rattle.lgg.specs.Count as C
-use Rattle.lgg.specs.Run.{Status, Ended, Ends, inBuilding, inStarting, inRounds, run-ends, Stays, run-later}
+use Rattle.budgets.specs.Count as C
+use Rattle.budgets.specs.Run.{Status, Ended, Ends, inBuilding, inStarting, inRounds, run-ends, Stays, run-later}
 use Rattle.lgg.specs.Refusals.{run-refused}
-use Rattle.lgg.specs.Outcomes.{root-in, root-quality, started-says, started-least, quiet-if-complete, complete-if, rounds-reported, rounds-grow}
+use Rattle.budgets.specs.Outcomes.{root-in, root-quality, started-says, started-least, quiet-if-complete, complete-if, rounds-reported, rounds-grow}
 
 -- ---- 5. the graph
 -- "Built in full, it holds the queried pair and, with each pair, every pair of classes that an action of it joins. Its n pairs are counted once each."

@@ -15,18 +15,18 @@ use Rattle.spec.specs.Pool.{Pool, joinTo, joinRuns, opNode, isGreater, sortRuns
 use Rattle.spec.specs.Round.{Act, Choice, stay, act, turnOf, planRuns}
 use Rattle.spec.specs.Meaning.{In, here, there, Term, node, variants, Runs, done, run, treeOf, treesAfter, treeAt}
 use Rattle.laws.specs.Valid.{Valid}
 use Rattle.lgg.specs.Lists.{in-nil, in-cons, in-map, length-map, Distinct, none, more, pigeon}
 use Rattle.lgg.specs.Bag.{perm-sym, perm-in}
 use Rattle.lgg.specs.Pool.{RunsBelow, runs-below-tail, NodeValid, PoolValid, op-valid}
 use Rattle.lgg.specs.PoolSort.{sort-perm, perm-below, plan-below, actionRuns, action-perm}
 use Rattle.lgg.specs.Order.{NotAfter, antisymmetric}
 use Rattle.lgg.specs.OrderSort.{Sorted, sort-sorted, not-after-self, all-later}
 use Rattle.lgg.specs.OrderSort as S
 use Rattle.lgg.specs.Rounds.{Closed}
 use Rattle.lgg.specs.TurnPlaces.{turn-choice, choice-joins, structural-made, children-few}
 use Rattle.lgg.specs.ReadingsActions.{transport-carries}
-use Rattle.lgg.specs.Counted.{sameTree, joinTree, joinTrees, runsIn, treeRuns, treeCmp, insertTree, sortTrees, childTrees, planTrees, choiceTree}
-use Rattle.lgg.specs.CountedTrees.{action-tree, plan-trees, node-runs}
+use Rattle.counted.specs.Counted.{sameTree, joinTree, joinTrees, runsIn, treeRuns, treeCmp, insertTree, sortTrees, childTrees, planTrees, choiceTree}
+use Rattle.counted.specs.CountedTrees.{action-tree, plan-trees, node-runs}
 
 -- ---- the runs of a term
 pub join-runs : (r : Runs) → runsIn (joinTrees r) ≤ runsIn r

@@ -1,0 +1,5 @@
+pub mod Transport
+pub mod Run
+pub mod Count
+pub mod Outcomes
+pub mod Demand3

@@ -1,0 +1,1 @@
+// how many distinct terms a run makes, as theorems: see specs/

@@ -1,0 +1,2 @@
+pub mod ReadingsRounds
+pub mod Readings
