@@ -12,8 +12,6 @@ pub mod Merge
 pub mod Meaning
 pub mod Edges
 pub mod Asked
-pub mod Refusals
-pub mod Limits
 pub mod Found
 pub mod Kept
 pub mod Belonging
