@@ -1,26 +1,14 @@
 -- What program `merge` writes for an input, as a function on lent buffers.
 use mathlib.Core.Path.{_≡_, _∙_}
 use mathlib.Core.Bool.{Bool, true}
-use mathlib.Core.List.{List, _++_}
+use mathlib.Core.List.{List}
 use Prim.Native.Nat.{ℕ, _+_}
-use lib.ListN.{length, take, drop}
-use Rattle.spec.specs.Bytes.{be2, be4, refused}
+use lib.ListN.{length, take}
+use Rattle.spec.specs.Bytes.{be2, be4}
 use Rattle.spec.specs.Merge.{OUTPUT, programOf}
-use Rattle.merge_under.specs.declared.Answer.{Answer}
-use Rattle.merge_under.specs.declared.Answer.the-variants.{Listing}
-use Rattle.au.specs.Merges.{fitOf, Merges}
-use Rattle.merge_under.specs.Answers.{answerOf}
-use Rattle.frames.specs.Frame.{refusalBytes}
-
--- the bytes of l stand at the output's front; past them it is as it was
-pub record Front (l out out′ : List ℕ) (r : ℕ) : Type 0 where
-  pub long : r ≡ length l
-  pub bytes : out′ ≡ l ++ drop (length l) out
-
--- what is printed of an answer whose listing, if any, is there already
-pub record Prints (out out′ : List ℕ) (a : Answer) (r : ℕ) : Type 0 where
-  pub listing : (n : ℕ) → a ≡ Listing n → (r ≡ n) × (out′ ≡ out)
-  pub refusal : (k : ℕ) → answerOf out a ≡ refused k → Front (refusalBytes k) out out′ r
+use Rattle.contract.specs.declared.Answer.{Answer}
+use Rattle.contract.specs.Merges.{fitOf, Merges}
+use Rattle.frames.specs.Printing.{Front}
 
 -- the call of `merge` for a framed input
 abbrev pub Asks : List ℕ → Bool → List ℕ → List ℕ → Answer → Type 0

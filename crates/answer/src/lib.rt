@@ -1,31 +1,19 @@
 // What program `merge` writes for an input: the listing, or `refused` and its number.
 ghost use mathlib.Core.Path.{_≡_};
 ghost use mathlib.Core.Bool.{true};
-ghost use Prim.Native.Nat.{_≤_};
 ghost use lib.ListN.{length};
 ghost use Rattle.frames.specs.Frame.{framed};
-ghost use Rattle.answer.specs.Responding.{Prints, Asks, Rooms, Responds};
-ghost use Rattle.au.specs.Merges.{fitOf};
-ghost use Rattle.merge_under.specs.Answers.{Cleared};
+ghost use Rattle.answer.specs.Responding.{Asks, Rooms, Responds};
+ghost use Rattle.contract.specs.Merges.{fitOf};
+ghost use Rattle.contract.specs.Answers.{Cleared};
 use au::merge_plain;
 use frames::image_length;
 use frames::is_framed;
+use frames::print;
 use frames::query_of;
 use frames::refusal;
-use merge_under::Answer;
+use contract::Answer;
 use outcome::clear_all;
-
-// the answer's bytes, in the output buffer
-fn print(out: &mut [u8], a: Answer) -> usize
-    requires { ⌜ 29 ≤ length (now out) ⌝ }
-    ensures { λ r. ⌜ Prints (now (out .entry)) (now (out .exit)) a r ⌝ }
-{
-    match a {
-        Answer::Listing(n) => n,
-        Answer::Refused(k) => refusal(out, k),
-        Answer::Doubled(c) => refusal(out, 10),
-    }
-}
 
 // the merge that a framed input asks for
 fn ask(

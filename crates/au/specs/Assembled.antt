@@ -17,13 +17,14 @@ use Rattle.query.specs.Settings.{limitsOf}
 use Rattle.query.specs.declared.Limits.{Limits}
 use Rattle.query.specs.declared.Query.{Query}
 use Rattle.pair_search.specs.declared.Pair.{Pair}
-use Rattle.merge_under.specs.declared.Answer.{Answer}
-use Rattle.merge_under.specs.declared.Answer.the-variants.{Listing, Refused, Doubled}
-use Rattle.merge_under.specs.Answers.{answerOf, Cleared, Table}
+use Rattle.contract.specs.declared.Answer.{Answer}
+use Rattle.contract.specs.declared.Answer.the-variants.{Listing, Refused, Doubled}
+use Rattle.contract.specs.Answers.{answerOf, Cleared, Table}
 use Rattle.merge_under.specs.Under.{mergeAt, Roomy, MergesUnder}
 use Rattle.merge_under.specs.UnderLaws.{under-same, under-full}
-use Rattle.au.specs.Merges.{fits, Merges}
-use Rattle.au.specs.Twice.{smallLimits, Full, limited, Settles}
+use Rattle.contract.specs.Merges.{fits, Merges}
+use Rattle.au.specs.Twice.{smallLimits, Full, Settles}
+use Rattle.contract.specs.Limited.{limited}
 
 pub is-short : (b : Bool) → T (not b) → b ≡ false
 is-short true h = absurd h

@@ -3,13 +3,11 @@ use mathlib.Core.Path.{_≡_}
 use mathlib.Core.Bool.{Bool, true, false}
 use mathlib.Core.List.{List}
 use Prim.Native.Nat.{ℕ, _≤_}
-use lib.Dec.{eqb}
 use lib.ListN.{length}
-use Rattle.spec.specs.Bytes.{either, Limits}
+use Rattle.spec.specs.Bytes.{Limits}
 use Rattle.query.specs.declared.Query.{Query}
-use Rattle.merge_under.specs.declared.Answer.{Answer}
-use Rattle.merge_under.specs.declared.Answer.the-variants.{Listing, Refused, Doubled}
-use Rattle.au.specs.Merges.{Merges}
+use Rattle.contract.specs.declared.Answer.{Answer}
+use Rattle.contract.specs.Merges.{Merges}
 
 -- The limits of the first run, for which the lent buffers have room.
 abbrev pub smallLimits : Limits
@@ -23,12 +21,6 @@ pub record Full (a b c d e f : List ℕ) : Type 0 where
   pub flow : 4096 ≤ length d
   pub terms : 66562 ≤ length e
   pub runs : 65536 ≤ length f
-
--- "12 and 13 as met": a limit was met
-abbrev pub limited : Answer → Bool
-limited (Listing n) = false
-limited (Refused k) = either (eqb k 12) (eqb k 13)
-limited (Doubled c) = false
 
 -- what is answered after the first run's answer a: a itself, or where a limit was met what the call answers at document 01's limits
 abbrev pub Settles : Bool → List ℕ → Query → Answer → List ℕ → List ℕ → Answer → Type 0

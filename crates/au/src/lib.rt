@@ -4,11 +4,13 @@ ghost use mathlib.Core.Bool.{true, not};
 ghost use lib.ListN.{length, replicate};
 ghost use Rattle.query.specs.Settings.{limitsOf};
 ghost use Rattle.pair_search.specs.Records.{none};
-ghost use Rattle.merge_under.specs.Answers.{Cleared, Table};
-ghost use Rattle.merge_under.specs.declared.Answer.the-variants.{Refused};
-ghost use Rattle.au.specs.Merges.{fitOf, fits, Merges};
-ghost use Rattle.au.specs.Twice.{smallLimits, limited, Settles, Full};
-use merge_under::Answer;
+ghost use Rattle.contract.specs.Answers.{Cleared, Table};
+ghost use Rattle.contract.specs.declared.Answer.the-variants.{Refused};
+ghost use Rattle.contract.specs.Limited.{limited};
+ghost use Rattle.contract.specs.Merges.{fitOf, fits, Merges};
+ghost use Rattle.au.specs.Twice.{smallLimits, Settles, Full};
+use contract::Answer;
+use contract::met_limit;
 use merge_under::merge_under;
 use pair_search::Pair;
 use query::Limits;
@@ -166,22 +168,6 @@ fn run_again(s: &[u8], q: Query, out: &mut [u8]) -> Answer
         &mut runs,
         out,
     )
-}
-
-// Whether a limit was met: 12 or 13.
-fn met_limit(a: Answer) -> bool
-    ensures { λ r. ⌜ r ≡ limited a ⌝ }
-{
-    match a {
-        Answer::Listing(n) => false,
-        Answer::Refused(k) => {
-            if k == 12 {
-                return true;
-            }
-            k == 13
-        }
-        Answer::Doubled(c) => false,
-    }
 }
 
 // After the first run's answer: that answer, or where it met a limit the second run's.

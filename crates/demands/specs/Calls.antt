@@ -17,10 +17,10 @@ use Rattle.spec.specs.Merge.{mergeOf, outputAfter}
 use Rattle.laws.specs.Valid.{Keeps}
 use Rattle.laws.specs.Accepted as A
 use Rattle.lgg.specs.Results.{refused-ok, ok-inj, refused-inj}
-use Rattle.merge_under.specs.declared.Answer.{Answer}
-use Rattle.merge_under.specs.declared.Answer.the-variants.{Listing, Refused, Doubled}
-use Rattle.au.specs.Merges.{Merges}
-use Rattle.merge_under.specs.Answers.{answerOf, Carries}
+use Rattle.contract.specs.declared.Answer.{Answer}
+use Rattle.contract.specs.declared.Answer.the-variants.{Listing, Refused, Doubled}
+use Rattle.contract.specs.Merges.{Merges}
+use Rattle.contract.specs.Answers.{answerOf, Carries}
 
 -- both queried classes are classes of the image
 abbrev pub Asked : List ℕ → ℕ → ℕ → Type 0

@@ -19,8 +19,8 @@ use Rattle.laws.specs.Accepted as A
 use Rattle.flow.specs.Theorems.{margins, least, totals}
 use Rattle.lgg.specs.Pool.{PoolValid}
 use Rattle.readings.specs.Readings as L
-use Rattle.merge_under.specs.declared.Answer.the-variants.{Listing}
-use Rattle.au.specs.Merges.{Merges}
+use Rattle.contract.specs.declared.Answer.the-variants.{Listing}
+use Rattle.contract.specs.Merges.{Merges}
 use Rattle.demands.specs.Calls.{accepted, read-of}
 
 module _ (image : List ℕ) (left right budget : ℕ) (fit : Bool) (out out′ : List ℕ) (n : ℕ) (m : Merges image left right budget fit out out′ (Listing n)) where

@@ -20,9 +20,9 @@ use Rattle.budgets.specs.Run.{Ends, inBuilding, inStarting, inRounds, run-ends}
 use Rattle.budgets.specs.Outcomes.{root-in, started-says}
 use Rattle.budgets.specs.Demand3 as D
 use Rattle.budgets.specs.Demand3.{FirstQuiet, Reported}
-use Rattle.merge_under.specs.declared.Answer.{Answer}
-use Rattle.merge_under.specs.declared.Answer.the-variants.{Listing, Refused}
-use Rattle.au.specs.Merges.{Merges}
+use Rattle.contract.specs.declared.Answer.{Answer}
+use Rattle.contract.specs.declared.Answer.the-variants.{Listing, Refused}
+use Rattle.contract.specs.Merges.{Merges}
 use Rattle.demands.specs.Calls.{Taken, accepted}
 use Rattle.demands.specs.Refusals.{refused-12, refused-13, listing-where}
 

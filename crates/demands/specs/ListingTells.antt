@@ -19,8 +19,8 @@ use Rattle.lgg.specs.Pool.{Formed, operation, literal, marked, PoolValid, numbe
 use Rattle.lgg.specs.PoolTrees.{tree-is}
 use Rattle.numbering.specs.WalkLaws.{visit-fresh, visit-new, subterms-closed}
 use Rattle.numbering.specs.NumberLaws.{at-in}
-use Rattle.merge_under.specs.declared.Answer.the-variants.{Listing}
-use Rattle.au.specs.Merges.{Merges}
+use Rattle.contract.specs.declared.Answer.the-variants.{Listing}
+use Rattle.contract.specs.Merges.{Merges}
 use Rattle.demands.specs.Calls.{accepted}
 use Rattle.demands.specs.Demand2 as D
 use Rattle.demands.specs.Fields.{Solid, Solids, all-append, solids-append, solid-of, heads, nil-cons, cut, line-cut, decimal-digits, decimal-solid, decimal-tells}

@@ -20,9 +20,9 @@ use Rattle.counted.specs.Counted.{termAfter, Counted, Beyond}
 use Rattle.counted.specs.CountedFew.{Ends, FinalRuns}
 use Rattle.counted.specs.CountedRun as L
 use Rattle.counted.specs.Refused13 as N
-use Rattle.merge_under.specs.declared.Answer.{Answer}
-use Rattle.merge_under.specs.declared.Answer.the-variants.{Listing, Refused}
-use Rattle.au.specs.Merges.{Merges}
+use Rattle.contract.specs.declared.Answer.{Answer}
+use Rattle.contract.specs.declared.Answer.the-variants.{Listing, Refused}
+use Rattle.contract.specs.Merges.{Merges}
 use Rattle.demands.specs.Calls.{Taken, read-of, accepted}
 use Rattle.demands.specs.Refusals.{refused-13}
 

@@ -1,4 +1,4 @@
-// The frame of program `merge`'s input: an image, then left class (2 bytes), right class (2), budget (4); and the line of a refusal.
+// The frame of program `merge`'s input: an image, then left class (2 bytes), right class (2), budget (4); the line of a refusal; and what is printed of an answer.
 ghost use mathlib.Core.Path.{_≡_};
 ghost use mathlib.Core.Bool.{true};
 ghost use Prim.Native.Nat.{_+_, _≤_, _<_};
@@ -6,6 +6,8 @@ ghost use lib.ListN.{length};
 ghost use Rattle.spec.specs.Bytes as b;
 ghost use Rattle.decimals.specs.Writing.{Wrote};
 ghost use Rattle.frames.specs.Frame.{framed, queryOf, refusalBytes};
+ghost use Rattle.frames.specs.Printing.{Prints};
+use contract::Answer;
 use image::be2;
 use image::be4;
 use numbers::long_size;
@@ -66,4 +68,16 @@ pub fn refusal(out: &mut [u8], k: u8) -> usize
     let n = long_size(size_u8(k));
     let a = decimals::labelled(out, 0, b"refused ", n);
     decimals::text(out, a, b"\n")
+}
+
+// The answer's bytes, at the output buffer's front: a listing stands there already.
+pub fn print(out: &mut [u8], a: Answer) -> usize
+    requires { ⌜ 29 ≤ length (now out) ⌝ }
+    ensures { λ r. ⌜ Prints (now (out .entry)) (now (out .exit)) a r ⌝ }
+{
+    match a {
+        Answer::Listing(n) => n,
+        Answer::Refused(k) => refusal(out, k),
+        Answer::Doubled(c) => refusal(out, 10),
+    }
 }

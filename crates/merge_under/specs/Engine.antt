@@ -17,8 +17,8 @@ use Rattle.beginning.specs.declared.Begun.the-variants as B
 use Rattle.prepare.specs.Preparing.{acceptedOf, Goes}
 use Rattle.prepare.specs.declared.Prepared.{Prepared}
 use Rattle.prepare.specs.declared.Prepared.the-variants as P
-use Rattle.merge_under.specs.declared.Answer.{Answer}
-use Rattle.merge_under.specs.declared.Answer.the-variants.{Listing, Refused}
+use Rattle.contract.specs.declared.Answer.{Answer}
+use Rattle.contract.specs.declared.Answer.the-variants.{Listing, Refused}
 
 -- what `prepare` answered, and the arrays as it left them
 abbrev pub Stands : Limits → List ℕ → Query → Prepared → List ℕ → List ℕ → List ℕ → Type 0

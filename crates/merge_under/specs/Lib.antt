@@ -1,4 +1,3 @@
-pub mod Answers
 pub mod Under
 pub mod Engine
 pub mod Counts

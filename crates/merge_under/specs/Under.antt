@@ -13,8 +13,8 @@ use Rattle.query.specs.declared.Query.{Query}
 use Rattle.arrays.specs.Arrays.{Scratch}
 use Rattle.terms.specs.Chains.{Rooms}
 use Rattle.prepare.specs.Preparing.{acceptedOf}
-use Rattle.merge_under.specs.declared.Answer.{Answer}
-use Rattle.merge_under.specs.Answers.{answerOf, Carries}
+use Rattle.contract.specs.declared.Answer.{Answer}
+use Rattle.contract.specs.Answers.{answerOf, Carries}
 
 -- `mergeUnder` past 1 (crate spec), but refused 12 too where the graph's array of m numbers has no room for the classes of the image
 unfoldable pub mergeAt : Limits → ℕ → List ℕ → Query → ℕ → Res (List ℕ)

@@ -36,9 +36,9 @@ use Rattle.prepare.specs.Preparing.{roomFor, acceptedOf, Goes, Prepares}
 use Rattle.prepare.specs.PreparingLaws.{goes-accepted}
 use Rattle.prepare.specs.declared.Prepared.{Prepared}
 use Rattle.prepare.specs.declared.Prepared.the-variants as P
-use Rattle.merge_under.specs.declared.Answer.{Answer}
-use Rattle.merge_under.specs.declared.Answer.the-variants.{Listing, Refused, Doubled}
-use Rattle.merge_under.specs.Answers.{answerOf, Carries, Cleared, Table}
+use Rattle.contract.specs.declared.Answer.{Answer}
+use Rattle.contract.specs.declared.Answer.the-variants.{Listing, Refused, Doubled}
+use Rattle.contract.specs.Answers.{answerOf, Carries, Cleared, Table}
 use Rattle.merge_under.specs.Under.{mergeAt, Roomy, MergesUnder}
 use Rattle.merge_under.specs.Engine.{Stands, answerAs}
 

@@ -5,22 +5,16 @@ ghost use Prim.Native.Nat.{_≤_};
 ghost use lib.ListN.{length};
 ghost use Rattle.query.specs.Settings.{limitsOf};
 ghost use Rattle.prepare.specs.Preparing.{pairsOf};
-ghost use Rattle.merge_under.specs.Answers.{Cleared, Table};
+ghost use Rattle.contract.specs.Answers.{Cleared, Table};
 ghost use Rattle.merge_under.specs.Under.{Roomy, MergesUnder};
 ghost use Rattle.merge_under.specs.Engine.{Stands, countedAs, answerAs};
 use beginning::Begun;
+use contract::Answer;
 use pair_count::Count;
 use pair_search::Pair;
 use prepare::Prepared;
 use query::Limits;
 use query::Query;
-
-// How many bytes of output; a refusal's number; refusal 10 with a class that holds a literal that stands in two classes.
-pub enum Answer {
-    Listing(usize),
-    Refused(u8),
-    Doubled(usize),
-}
 
 // What has begun, over as many pairs as the table counts.
 fn counted(b: Begun, c: Count) -> Begun

@@ -1,64 +1,17 @@
 // The merge for other languages: one call with the C interface, and the lengths of its work buffers.
 ghost use mathlib.Core.Path.{_≡_};
 ghost use lib.ListN.{length};
-ghost use Rattle.au.specs.Merges.{fitOf};
-ghost use Rattle.merge_under.specs.Answers.{Cleared};
-ghost use Rattle.tariff.specs.Returns.{returnedOf, lengths, Returns};
-use merge_under::Answer;
-
-// 0 with a listing of so many bytes, or a refusal's number; with 10 a class that holds a literal that stands in two classes.
-#[repr(C)]
-pub struct Returned {
-    pub number: u32,
-    pub bytes: usize,
-    pub class: usize,
-}
-
-// How many numbers each work buffer of `tariff_merge` has at least.
-#[repr(C)]
-pub struct Lengths {
-    pub graph: usize,
-    pub pairs: usize,
-    pub work: usize,
-    pub flow: usize,
-    pub terms: usize,
-    pub runs: usize,
-}
-
-fn numbers_of(a: Answer) -> Returned
-    ensures { λ r. ⌜ r ≡ returnedOf a ⌝ }
-{
-    match a {
-        Answer::Listing(n) => Returned {
-            number: 0,
-            bytes: n,
-            class: 0,
-        },
-        Answer::Refused(k) => Returned {
-            number: k as u32,
-            bytes: 0,
-            class: 0,
-        },
-        Answer::Doubled(c) => Returned {
-            number: 10,
-            bytes: 0,
-            class: c,
-        },
-    }
-}
+ghost use Rattle.contract.specs.Merges.{fitOf};
+ghost use Rattle.contract.specs.Answers.{Cleared};
+ghost use Rattle.returned.specs.Returns.{lengths, Returns};
+use returned::Lengths;
+use returned::Returned;
 
 #[no_mangle]
 pub extern "C" fn tariff_lengths() -> Lengths
     ensures { λ r. ⌜ r ≡ lengths ⌝ }
 {
-    Lengths {
-        graph: 4352,
-        pairs: 1536,
-        work: 1024,
-        flow: 256,
-        terms: 3074,
-        runs: 1024,
-    }
+    returned::buffer_lengths()
 }
 
 // `merge` of crate `au` with a pair table of its own.
@@ -93,5 +46,5 @@ pub extern "C" fn tariff_merge(
         runs,
         out,
     );
-    numbers_of(a)
+    returned::numbers_of(a)
 }

@@ -23,17 +23,18 @@ use Rattle.query.proofs.Limits as L
 use Rattle.query.proofs.Limits.Laws as L′
 use Rattle.query.proofs.Query as Y
 use Rattle.query.proofs.Query.Laws as Y′
-use Rattle.merge_under.specs.declared.Answer.{Answer}
-use Rattle.merge_under.specs.declared.Answer.the-variants.{Refused}
-use Rattle.merge_under.specs.Answers.{Cleared, Table}
+use Rattle.contract.specs.declared.Answer.{Answer}
+use Rattle.contract.specs.declared.Answer.the-variants.{Refused}
+use Rattle.contract.specs.Answers.{Cleared, Table}
 use Rattle.merge_under.specs.Under.{MergesUnder}
 use Rattle.merge_under.proofs.Slices.{Param, val, has, tok, lent, kept, lends, backs, ends}
 use Rattle.merge_under.proofs.Slices as S
 use Rattle.merge_under.proofs.Locals.{dies, frees-all}
 use Rattle.merge_under.proofs.Answer as N
 use Rattle.merge_under.proofs.Answer.Laws as N′
-use Rattle.au.specs.Merges.{fits, Merges}
-use Rattle.au.specs.Twice.{smallLimits, limited, Settles}
+use Rattle.contract.specs.Merges.{fits, Merges}
+use Rattle.au.specs.Twice.{smallLimits, Settles}
+use Rattle.contract.specs.Limited.{limited}
 use Rattle.au.specs.Assembled as asm
 use Rattle.au.specs.Assembled.{Asked}
 use Rattle.au.proofs.short as short′

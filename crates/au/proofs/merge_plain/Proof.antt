@@ -15,9 +15,9 @@ use denote.Enum.Laws as NL
 use Rattle.pair_search.specs.declared.Pair.{Pair}
 use Rattle.pair_search.specs.Records.{none}
 use Rattle.pair_search.proofs.Pair as P
-use Rattle.merge_under.specs.declared.Answer.{Answer}
-use Rattle.au.specs.Merges.{fitOf, fits, Merges}
-use Rattle.merge_under.specs.Answers.{Cleared, Table}
+use Rattle.contract.specs.declared.Answer.{Answer}
+use Rattle.contract.specs.Merges.{fitOf, fits, Merges}
+use Rattle.contract.specs.Answers.{Cleared, Table}
 use Rattle.merge_under.proofs.Slices.{Param, val, has, tok, kept}
 use Rattle.merge_under.proofs.Answer as N
 use Rattle.merge_under.proofs.Answer.Laws as N′

@@ -27,14 +27,14 @@ use Rattle.query.proofs.Limits as L
 use Rattle.query.proofs.Limits.Laws as L′
 use Rattle.query.proofs.Query as Y
 use Rattle.query.proofs.Query.Laws as Y′
-use Rattle.merge_under.specs.declared.Answer.{Answer}
-use Rattle.merge_under.specs.Answers.{Cleared, Table}
+use Rattle.contract.specs.declared.Answer.{Answer}
+use Rattle.contract.specs.Answers.{Cleared, Table}
 use Rattle.merge_under.specs.Under.{MergesUnder}
 use Rattle.merge_under.proofs.Slices.{Param, val, has, tok}
 use Rattle.merge_under.proofs.Locals.{dies, frees-all}
 use Rattle.merge_under.proofs.Answer as N
 use Rattle.merge_under.proofs.Answer.Laws as N′
-use Rattle.au.specs.Merges.{Merges}
+use Rattle.contract.specs.Merges.{Merges}
 use Rattle.au.specs.Twice.{Full}
 use Rattle.au.specs.Assembled.{Asked, asked-full, merges-full}
 use Rattle.au.proofs.BigLit.{big-lit}

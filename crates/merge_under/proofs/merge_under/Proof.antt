@@ -35,8 +35,8 @@ use Rattle.prepare.specs.PreparingLaws.{keys-few}
 use Rattle.prepare.proofs.Prepared as Q
 use Rattle.prepare.proofs.Prepared.Laws as Q′
 use Rattle.terms.specs.Chains.{Rooms}
-use Rattle.merge_under.specs.declared.Answer.{Answer}
-use Rattle.merge_under.specs.Answers.{Cleared, Table}
+use Rattle.contract.specs.declared.Answer.{Answer}
+use Rattle.contract.specs.Answers.{Cleared, Table}
 use Rattle.merge_under.specs.Under.{Roomy, MergesUnder}
 use Rattle.merge_under.specs.Engine.{Stands}
 use Rattle.merge_under.specs.Counts.{table-counts}

@@ -1,5 +1,5 @@
 use borrow.Author.Needs.{needs}
-use Rattle.tariff.specs.Cases.{returns-as}
+use Rattle.returned.specs.Cases.{returns-as}
 use Rattle.tariff.proofs.tariff_merge.Statement.{statement}
 use Rattle.tariff.proofs.tariff_merge.Tie as tie
 use Rattle.tariff.proofs.tariff_merge.Reads as reads

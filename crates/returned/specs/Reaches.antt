@@ -10,13 +10,13 @@ use borrow.Author.Tests.{eq-eqb, ne-eqb}
 use Rattle.spec.specs.Image.{tablesOf}
 use Rattle.spec.specs.Run.{Outcome}
 use Rattle.spec.specs.Meaning.{_⊑_, readFirst, readSecond, treeAt, Belongs}
-use Rattle.merge_under.specs.declared.Answer.{Answer}
-use Rattle.merge_under.specs.declared.Answer.the-variants.{Listing, Refused, Doubled}
-use Rattle.au.specs.Merges.{Merges}
+use Rattle.contract.specs.declared.Answer.{Answer}
+use Rattle.contract.specs.declared.Answer.the-variants.{Listing, Refused, Doubled}
+use Rattle.contract.specs.Merges.{Merges}
 use Rattle.demands.specs.Demand2 as D2
 use Rattle.demands.specs.Demand3 as D3
-use Rattle.tariff.specs.declared.Returned.{Returned}
-use Rattle.tariff.specs.Returns.{returnedOf, Returns}
+use Rattle.returned.specs.declared.Returned.{Returned}
+use Rattle.returned.specs.Returns.{returnedOf, Returns}
 
 as-numbers : (r s : Returned) → r .number ≡ s .number → r .bytes ≡ s .bytes → r .class ≡ s .class → r ≡ s
 as-numbers r s a b c = λ i. record { number = a i; bytes = b i; class = c i }

@@ -10,10 +10,10 @@ use Rattle.spec.specs.Bytes.{pick, Res, ok, refused}
 use Rattle.spec.specs.Image.{tablesOf}
 use Rattle.spec.specs.Merge.{mergeOf, outputAfter}
 use Rattle.spec.specs.Meaning.{HoldsDoubled}
-use Rattle.merge_under.specs.declared.Answer.{Answer}
-use Rattle.merge_under.specs.declared.Answer.the-variants.{Listing, Refused, Doubled}
-use Rattle.tariff.specs.declared.Returned.{Returned}
-use Rattle.tariff.specs.declared.Lengths.{Lengths}
+use Rattle.contract.specs.declared.Answer.{Answer}
+use Rattle.contract.specs.declared.Answer.the-variants.{Listing, Refused, Doubled}
+use Rattle.returned.specs.declared.Returned.{Returned}
+use Rattle.returned.specs.declared.Lengths.{Lengths}
 
 -- "When an answer is an enum, a definition provides this paper's number and values for each of the enum's cases": 0 for a listing.
 abbrev pub returnedOf : Answer → Returned

@@ -1,13 +1,13 @@
 use mathlib.Core.Bool.{Bool}
 use lib.Dec.{eqb}
 use Rattle.spec.specs.Bytes.{either}
-use Rattle.au.specs.Twice.{limited}
+use Rattle.contract.specs.Limited.{limited}
 use borrow.Author.Tests.{ne-eqb}
 use Prim.Native.Nat.{_-_}
 use mathlib.Core.Path.{ap, sym, _∙_}
 use borrow.Author.Needs.{needs}
-use Rattle.au.proofs.met_limit.Statement.{statement}
-use Rattle.au.proofs.met_limit.Tie as tie
+use Rattle.contract.proofs.met_limit.Statement.{statement}
+use Rattle.contract.proofs.met_limit.Tie as tie
 
 enum-known-a : tie.Need-enum-known-a
 enum-known-a c = search needs

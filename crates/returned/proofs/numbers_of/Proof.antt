@@ -1,10 +1,10 @@
 use mathlib.Core.Path.{ap, sym}
 use borrow.Author.Needs.{needs}
-use Rattle.tariff.specs.Returns.{returnedOf}
-use Rattle.tariff.proofs.numbers_of.Statement.{statement}
-use Rattle.tariff.proofs.numbers_of.Tie as tie
-use Rattle.tariff.proofs.numbers_of.Reads as reads
-use Rattle.tariff.proofs.numbers_of.Lts as lts
+use Rattle.returned.specs.Returns.{returnedOf}
+use Rattle.returned.proofs.numbers_of.Statement.{statement}
+use Rattle.returned.proofs.numbers_of.Tie as tie
+use Rattle.returned.proofs.numbers_of.Reads as reads
+use Rattle.returned.proofs.numbers_of.Lts as lts
 
 enum-known-a : tie.Need-enum-known-a
 enum-known-a c = search needs

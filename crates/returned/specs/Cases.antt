@@ -14,12 +14,12 @@ use Rattle.spec.specs.Merge.{mergeOf}
 use Rattle.laws.specs.Accepted as A
 use Rattle.lgg.specs.Results.{refused-ok, refused-inj}
 use Rattle.budgets.specs.Demand3 as D
-use Rattle.merge_under.specs.declared.Answer.{Answer}
-use Rattle.merge_under.specs.declared.Answer.the-variants.{Listing, Refused, Doubled}
-use Rattle.au.specs.Merges.{fitOf, Merges}
+use Rattle.contract.specs.declared.Answer.{Answer}
+use Rattle.contract.specs.declared.Answer.the-variants.{Listing, Refused, Doubled}
+use Rattle.contract.specs.Merges.{fitOf, Merges}
 use Rattle.demands.specs.Calls.{Way, short, unsound, outside, stopped, over, listed, way}
-use Rattle.tariff.specs.declared.Returned.{Returned}
-use Rattle.tariff.specs.Returns.{returnedOf, Returns, lengths}
+use Rattle.returned.specs.declared.Returned.{Returned}
+use Rattle.returned.specs.Returns.{returnedOf, Returns, lengths}
 
 -- a refusal's number is 1 to 14
 pub number : (fit : Bool) (image : List ℕ) (left right budget room k : ℕ) → mergeOf fit image left right budget room ≡ refused k → (1 ≤ k) × (k ≤ 14)

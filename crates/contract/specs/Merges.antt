@@ -8,8 +8,8 @@ use lib.ListN.{length}
 use Rattle.spec.specs.Bytes.{both}
 use Rattle.spec.specs.Merge.{mergeOf, outputAfter}
 use Rattle.pair_search.specs.declared.Pair.{Pair}
-use Rattle.merge_under.specs.declared.Answer.{Answer}
-use Rattle.merge_under.specs.Answers.{answerOf, Carries}
+use Rattle.contract.specs.declared.Answer.{Answer}
+use Rattle.contract.specs.Answers.{answerOf, Carries}
 
 -- The constant lengths of the work buffers (docs/BUFFERS.md): whether none is "below its constant length".
 abbrev pub fitOf : ℕ → ℕ → ℕ → ℕ → ℕ → ℕ → ℕ → Bool

@@ -10,8 +10,8 @@ use Rattle.spec.specs.Image.{tablesOf}
 use Rattle.spec.specs.Meaning.{HoldsDoubled}
 use Rattle.pair_search.specs.declared.Pair.{Pair}
 use Rattle.pair_search.specs.Records.{none}
-use Rattle.merge_under.specs.declared.Answer.{Answer}
-use Rattle.merge_under.specs.declared.Answer.the-variants.{Listing, Refused, Doubled}
+use Rattle.contract.specs.declared.Answer.{Answer}
+use Rattle.contract.specs.declared.Answer.the-variants.{Listing, Refused, Doubled}
 
 -- "When an answer is an enum, a definition provides this paper's number and values for each of the enum's cases": the listing, that is the first n bytes of the output buffer afterwards, or "Returned".
 abbrev pub answerOf : List ℕ → Answer → Res (List ℕ)

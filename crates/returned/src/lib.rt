@@ -1,0 +1,60 @@
+// What a call with the C interface returns: the answer as numbers; and the lengths of the work buffers.
+ghost use mathlib.Core.Path.{_≡_};
+ghost use Rattle.returned.specs.Returns.{returnedOf, lengths};
+use contract::Answer;
+
+// 0 with a listing of so many bytes, or a refusal's number; with 10 a class that holds a literal that stands in two classes.
+#[repr(C)]
+pub struct Returned {
+    pub number: u32,
+    pub bytes: usize,
+    pub class: usize,
+}
+
+// How many numbers each work buffer of `tariff_merge` has at least.
+#[repr(C)]
+pub struct Lengths {
+    pub graph: usize,
+    pub pairs: usize,
+    pub work: usize,
+    pub flow: usize,
+    pub terms: usize,
+    pub runs: usize,
+}
+
+// An answer as numbers.
+pub fn numbers_of(a: Answer) -> Returned
+    ensures { λ r. ⌜ r ≡ returnedOf a ⌝ }
+{
+    match a {
+        Answer::Listing(n) => Returned {
+            number: 0,
+            bytes: n,
+            class: 0,
+        },
+        Answer::Refused(k) => Returned {
+            number: k as u32,
+            bytes: 0,
+            class: 0,
+        },
+        Answer::Doubled(c) => Returned {
+            number: 10,
+            bytes: 0,
+            class: c,
+        },
+    }
+}
+
+// The constant lengths of the work buffers.
+pub fn buffer_lengths() -> Lengths
+    ensures { λ x. ⌜ x ≡ lengths ⌝ }
+{
+    Lengths {
+        graph: 4352,
+        pairs: 1536,
+        work: 1024,
+        flow: 256,
+        terms: 3074,
+        runs: 1024,
+    }
+}
