@@ -14,8 +14,8 @@ use Rattle.terms.specs.Chains.{Holds, Rooms}
 use Rattle.terms.specs.Emptying.{emptied}
 use Rattle.interning.specs.Growing.{Grows}
 use Rattle.graph.specs.Building.{graphAfter}
-use Rattle.beginning.specs.declared.Begun.{Begun}
-use Rattle.beginning.specs.declared.Begun.the-variants as B
+use Rattle.prepared.specs.declared.Begun.{Begun}
+use Rattle.prepared.specs.declared.Begun.the-variants as B
 
 -- a refusal, 13 or 12; cut short in building, with the root's starting term; the root's starting term, the number of pairs, the budget left
 abbrev pub begunOf : Res Interned → Res (Checked (List Two)) → Begun

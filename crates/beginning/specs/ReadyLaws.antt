@@ -9,7 +9,7 @@ use Rattle.spec.specs.Pool.{Interned, startingTerm}
 use Rattle.graph.specs.Building.{graphAfter}
 use Rattle.graph.specs.Built.{after-again}
 use Rattle.beginning.specs.Beginning.{ifRooted, Begins, Ready}
-use Rattle.beginning.specs.declared.Begun.{Begun}
+use Rattle.prepared.specs.declared.Begun.{Begun}
 
 module _ (lim : Limits) (t : Tables) (p : Two) (budget w : ℕ) (graph ts us graph′ ts′ us′ : List ℕ) (r : Begun) (X : Begins lim t p budget w graph ts us graph′ ts′ us′ r) where
   -- the array is as building leaves it

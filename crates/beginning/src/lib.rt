@@ -6,6 +6,7 @@ use interning::Entered;
 use numbers::size_u16;
 use query::Limits;
 use query::Query;
+use prepared::Begun;
 ghost use Prim.Native.Nat.{_+_, _*_, _≤_, _<_};
 ghost use lib.ListN.{length};
 ghost use Rattle.spec.specs.Image.{tablesOf};
@@ -14,13 +15,6 @@ ghost use Rattle.query.specs.Settings.{limitsOf, askedOf};
 ghost use Rattle.image.specs.Loaded.{Loaded};
 ghost use Rattle.terms.specs.Chains.{Rooms};
 ghost use Rattle.beginning.specs.Beginning.{Begins};
-
-// a refusal, 13 or 12; cut short in building, with the root's starting term; the root's starting term, the number of pairs, the budget left
-pub enum Begun {
-    Stopped(u8),
-    Cut(usize),
-    All(usize, usize, Budget),
-}
 
 // An empty pool, the root's starting term and the graph.
 pub fn begin(

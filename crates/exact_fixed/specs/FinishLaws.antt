@@ -37,8 +37,8 @@ use Rattle.exact_fixed.specs.Following.{ToRounds}
 use Rattle.exact_fixed.specs.declared.Started.{Started}
 use Rattle.exact_fixed.specs.declared.Started.the-variants as S
 use Rattle.beginning.specs.Beginning.{begunOf, Ready}
-use Rattle.beginning.specs.declared.Begun.{Begun}
-use Rattle.beginning.specs.declared.Begun.the-variants as N
+use Rattle.prepared.specs.declared.Begun.{Begun}
+use Rattle.prepared.specs.declared.Begun.the-variants as N
 
 graphs-as : (lim : Limits) (t : Tables) (w : ℕ) (ps qs : List Two) (m n : ℕ) (graph : List ℕ) → ps ≡ qs → m ≡ n → Graphs lim t w ps m graph → Graphs lim t w qs n graph
 graphs-as lim t w ps qs m n graph e f G = rw (← e, ← f) G

@@ -1,6 +1,6 @@
 // A run from its graph: starting terms, then its rounds, with the budget of checks that `begin` left; and its listing (`run`, `run_in` of exact_fixed.rs).
 use arrays::WIDTH;
-use beginning::Begun;
+use prepared::Begun;
 use budget::Budget;
 use image::Image;
 use interning::Entered;

@@ -23,12 +23,13 @@ use Rattle.entering.specs.Entered.{entered}
 use Rattle.graph.specs.Building.{graphAfter}
 use Rattle.graph.specs.Built.{built-apart, built-first, built-some, built-few, built-pairs}
 use Rattle.beginning.specs.Beginning.{begunOf, Ready}
-use Rattle.beginning.specs.declared.Begun.{Begun}
-use Rattle.beginning.specs.declared.Begun.the-variants as B
-use Rattle.prepare.specs.Preparing.{pairsBegun, pairsOf, keysOf}
-use Rattle.prepare.specs.declared.Prepared.{Prepared}
-use Rattle.prepare.specs.declared.Prepared.the-variants.{Refused, Doubled, Go}
-use Rattle.merge_under.specs.Engine.{Stands, countedAs}
+use Rattle.prepared.specs.declared.Begun.{Begun}
+use Rattle.prepared.specs.declared.Begun.the-variants as B
+use Rattle.prepared.specs.Pairs.{pairsBegun, pairsOf, keysOf}
+use Rattle.prepared.specs.declared.Prepared.{Prepared}
+use Rattle.prepared.specs.declared.Prepared.the-variants.{Refused, Doubled, Go}
+use Rattle.merge_under.specs.Engine.{Stands}
+use Rattle.prepared.specs.Pairs.{countedAs}
 
 -- n pairs are entered, and so many are counted
 abbrev CountsAll : List ℕ → ℕ → Two → List Pair → ℕ → Type 0

@@ -12,11 +12,9 @@ use Rattle.query.specs.declared.Query.{Query}
 use Rattle.outcome.specs.declared.Answer as O
 use Rattle.outcome.specs.declared.Answer.the-variants as O′
 use Rattle.beginning.specs.Beginning.{Ready}
-use Rattle.beginning.specs.declared.Begun.{Begun}
-use Rattle.beginning.specs.declared.Begun.the-variants as B
 use Rattle.prepare.specs.Preparing.{acceptedOf, Goes}
-use Rattle.prepare.specs.declared.Prepared.{Prepared}
-use Rattle.prepare.specs.declared.Prepared.the-variants as P
+use Rattle.prepared.specs.declared.Prepared.{Prepared}
+use Rattle.prepared.specs.declared.Prepared.the-variants as P
 use Rattle.contract.specs.declared.Answer.{Answer}
 use Rattle.contract.specs.declared.Answer.the-variants.{Listing, Refused}
 
@@ -25,12 +23,6 @@ abbrev pub Stands : Limits → List ℕ → Query → Prepared → List ℕ → 
 Stands lim image q (P.Refused k) graph terms runs = (acceptedOf lim (length graph) image q ≡ refused k) × (k ≢ 10)
 Stands lim image q (P.Doubled c) graph terms runs = (acceptedOf lim (length graph) image q ≡ refused 10) × HoldsDoubled (tablesOf image) c
 Stands lim image q (P.Go im b) graph terms runs = Goes lim (length graph) image q im × Ready lim (tablesOf image) (askedOf q) (q .budget) (im .classes) b graph terms runs
-
--- what has begun, with n pairs
-abbrev pub countedAs : Begun → ℕ → Begun
-countedAs (B.Stopped k) n = B.Stopped k
-countedAs (B.Cut root) n = B.Cut root
-countedAs (B.All root m left) n = B.All root n left
 
 -- the engine's answer as that of the call
 abbrev pub answerAs : O.Answer → Answer

@@ -29,13 +29,13 @@ use Rattle.outcome.specs.declared.Answer as O
 use Rattle.outcome.specs.declared.Answer.the-variants as O′
 use Rattle.beginning.specs.Beginning.{Lengths, Ready}
 use Rattle.beginning.specs.ReadyLaws.{begins-ready}
-use Rattle.beginning.specs.declared.Begun.{Begun}
+use Rattle.prepared.specs.declared.Begun.{Begun}
 use Rattle.pair_search.specs.declared.Pair.{Pair}
 use Rattle.pair_search.specs.Records.{none}
 use Rattle.prepare.specs.Preparing.{roomFor, acceptedOf, Goes, Prepares}
 use Rattle.prepare.specs.PreparingLaws.{goes-accepted}
-use Rattle.prepare.specs.declared.Prepared.{Prepared}
-use Rattle.prepare.specs.declared.Prepared.the-variants as P
+use Rattle.prepared.specs.declared.Prepared.{Prepared}
+use Rattle.prepared.specs.declared.Prepared.the-variants as P
 use Rattle.contract.specs.declared.Answer.{Answer}
 use Rattle.contract.specs.declared.Answer.the-variants.{Listing, Refused, Doubled}
 use Rattle.contract.specs.Answers.{answerOf, Carries, Cleared, Table}

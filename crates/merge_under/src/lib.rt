@@ -4,29 +4,16 @@ ghost use mathlib.Core.Bool.{true};
 ghost use Prim.Native.Nat.{_≤_};
 ghost use lib.ListN.{length};
 ghost use Rattle.query.specs.Settings.{limitsOf};
-ghost use Rattle.prepare.specs.Preparing.{pairsOf};
+ghost use Rattle.prepared.specs.Pairs.{pairsOf};
 ghost use Rattle.contract.specs.Answers.{Cleared, Table};
 ghost use Rattle.merge_under.specs.Under.{Roomy, MergesUnder};
-ghost use Rattle.merge_under.specs.Engine.{Stands, countedAs, answerAs};
-use beginning::Begun;
+ghost use Rattle.merge_under.specs.Engine.{Stands, answerAs};
 use contract::Answer;
 use pair_count::Count;
 use pair_search::Pair;
-use prepare::Prepared;
+use prepared::Prepared;
 use query::Limits;
 use query::Query;
-
-// What has begun, over as many pairs as the table counts.
-fn counted(b: Begun, c: Count) -> Begun
-    ensures { λ r. ⌜ r ≡ countedAs b (c .pairs) ⌝ }
-{
-    let n = pair_count::pairs_in(c);
-    match b {
-        Begun::Stopped(k) => Begun::Stopped(k),
-        Begun::Cut(root) => Begun::Cut(root),
-        Begun::All(root, m, left) => Begun::All(root, n, left),
-    }
-}
 
 // What the engine answers.
 fn answer_of(a: outcome::Answer) -> Answer
@@ -70,7 +57,7 @@ fn finish(
             s,
             im,
             q,
-            counted(b, c),
+            prepared::counted(b, c),
             graph,
             pairs,
             work,
@@ -101,8 +88,8 @@ pub fn merge_under(
     ensures { λ r. ⌜ MergesUnder (limitsOf lim) (length (now (graph .entry))) (now (s .entry)) q (now (out .entry)) (now (out .exit)) r × Table true (now (table .entry)) (now (table .exit)) × Cleared true (now (graph .entry)) (now (graph .exit)) (now (pairs .entry)) (now (pairs .exit)) (now (work .entry)) (now (work .exit)) (now (flow .entry)) (now (flow .exit)) (now (terms .entry)) (now (terms .exit)) (now (runs .entry)) (now (runs .exit)) ⌝ }
 {
     let p = prepare::prepare(lim, s, q, graph, terms, runs);
-    let from = prepare::keys_of(p);
-    let n = prepare::pairs_of(p);
+    let from = prepared::keys_of(p);
+    let n = prepared::pairs_of(p);
     let c = pair_count::enter_graph(table, graph, from, n, q.left, q.right);
     let a = finish(lim, s, q, p, c, graph, pairs, work, flow, terms, runs, out);
     pair_table::clear_table(table);

@@ -16,10 +16,8 @@ use Rattle.judge.specs.declared.Verdict.the-variants as J
 use Rattle.query.specs.Settings.{askedOf}
 use Rattle.query.specs.declared.Query.{Query}
 use Rattle.beginning.specs.Beginning.{Begins}
-use Rattle.beginning.specs.declared.Begun.{Begun}
-use Rattle.beginning.specs.declared.Begun.the-variants as B
-use Rattle.prepare.specs.declared.Prepared.{Prepared}
-use Rattle.prepare.specs.declared.Prepared.the-variants.{Refused, Doubled, Go}
+use Rattle.prepared.specs.declared.Prepared.{Prepared}
+use Rattle.prepared.specs.declared.Prepared.the-variants.{Refused, Doubled, Go}
 
 -- whether a graph's array of m numbers has room for the pairs of w classes
 abbrev pub roomFor : Limits → ℕ → ℕ → Bool
@@ -51,20 +49,3 @@ abbrev pub Prepares : Limits → List ℕ → Query → Prepared → List ℕ �
 Prepares lim image q (Refused k) graph terms runs graph′ terms′ runs′ = (acceptedOf lim (length graph) image q ≡ refused k) × (k ≢ 10) × Kept graph terms runs graph′ terms′ runs′
 Prepares lim image q (Doubled c) graph terms runs graph′ terms′ runs′ = (acceptedOf lim (length graph) image q ≡ refused 10) × (J.Doubled c ≡ verdictOf image) × HoldsDoubled (tablesOf image) c × Kept graph terms runs graph′ terms′ runs′
 Prepares lim image q (Go im b) graph terms runs graph′ terms′ runs′ = Goes lim (length graph) image q im × Begins lim (tablesOf image) (askedOf q) (q .budget) (im .classes) graph terms runs graph′ terms′ runs′ b
-
--- how many pairs the graph has where it is built in full
-abbrev pub pairsBegun : Begun → ℕ
-pairsBegun (B.Stopped k) = 0
-pairsBegun (B.Cut root) = 0
-pairsBegun (B.All root n left) = n
-
-abbrev pub pairsOf : Prepared → ℕ
-pairsOf (Refused k) = 0
-pairsOf (Doubled c) = 0
-pairsOf (Go im b) = pairsBegun b
-
--- where the keys of its pairs begin
-abbrev pub keysOf : Prepared → ℕ
-keysOf (Refused k) = 0
-keysOf (Doubled c) = 0
-keysOf (Go im b) = im .classes * im .classes

@@ -13,9 +13,10 @@ use Rattle.arrays.specs.ArrayLaws.{square}
 use Rattle.image.specs.Loaded.{Loaded, classes-many}
 use Rattle.image.specs.declared.Image.{Image}
 use Rattle.query.specs.declared.Query.{Query}
-use Rattle.prepare.specs.declared.Prepared.{Prepared}
-use Rattle.prepare.specs.declared.Prepared.the-variants.{Refused, Doubled, Go}
-use Rattle.prepare.specs.Preparing.{roomFor, acceptedOf, Goes, Prepares, keysOf}
+use Rattle.prepared.specs.declared.Prepared.{Prepared}
+use Rattle.prepared.specs.declared.Prepared.the-variants.{Refused, Doubled, Go}
+use Rattle.prepare.specs.Preparing.{roomFor, acceptedOf, Goes, Prepares}
+use Rattle.prepared.specs.Pairs.{keysOf}
 
 module _ (lim : Limits) (m : ℕ) (s : List ℕ) (q : Query) where
   -- 2 to 10

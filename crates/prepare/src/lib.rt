@@ -6,21 +6,14 @@ ghost use Rattle.spec.specs.Image.{imageOf, tablesOf};
 ghost use Rattle.image.specs.Loaded.{Loaded};
 ghost use Rattle.query.specs.Settings.{limitsOf};
 ghost use Rattle.terms.specs.Chains.{Rooms};
-ghost use Rattle.prepare.specs.Preparing.{roomFor, Prepares, pairsBegun, pairsOf, keysOf};
-use beginning::Begun;
+ghost use Rattle.prepare.specs.Preparing.{roomFor, Prepares};
 use image::Image;
 use judge::Verdict;
 use judge::judge;
 use numbers::size_u16;
+use prepared::Prepared;
 use query::Limits;
 use query::Query;
-
-// A refusal; 10 with a class; the image and what the run has begun.
-pub enum Prepared {
-    Refused(u8),
-    Doubled(usize),
-    Go(Image, Begun),
-}
 
 // Whether an array of `len` numbers has room for the graph of the image.
 fn has_room(lim: Limits, im: Image, len: usize) -> bool
@@ -73,39 +66,5 @@ pub fn prepare(
         Verdict::Refused(k) => Prepared::Refused(k),
         Verdict::Doubled(c) => Prepared::Doubled(c),
         Verdict::Accepted(im) => start(lim, s, im, q, graph, terms, runs),
-    }
-}
-
-// ---- for the pair table
-fn pairs_begun(b: Begun) -> usize
-    ensures { λ r. ⌜ r ≡ pairsBegun b ⌝ }
-{
-    match b {
-        Begun::Stopped(k) => 0,
-        Begun::Cut(root) => 0,
-        Begun::All(root, n, left) => n,
-    }
-}
-
-// How many pairs the graph has where it is built in full.
-pub fn pairs_of(p: Prepared) -> usize
-    ensures { λ r. ⌜ r ≡ pairsOf p ⌝ }
-{
-    match p {
-        Prepared::Refused(k) => 0,
-        Prepared::Doubled(c) => 0,
-        Prepared::Go(im, b) => pairs_begun(b),
-    }
-}
-
-// Where the keys of its pairs begin.
-pub fn keys_of(p: Prepared) -> usize
-    requires { ⌜ keysOf p ≤ 65536 ⌝ }
-    ensures { λ r. ⌜ r ≡ keysOf p ⌝ }
-{
-    match p {
-        Prepared::Refused(k) => 0,
-        Prepared::Doubled(c) => 0,
-        Prepared::Go(im, b) => im.classes * im.classes,
     }
 }

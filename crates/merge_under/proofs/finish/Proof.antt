@@ -1,7 +1,7 @@
 use mathlib.Core.Path.{subst}
 use Rattle.query.specs.Settings.{limitsOf}
-use Rattle.prepare.specs.declared.Prepared.{Prepared}
-use Rattle.prepare.specs.Preparing.{pairsBegun, pairsOf}
+use Rattle.prepared.specs.declared.Prepared.{Prepared}
+use Rattle.prepared.specs.Pairs.{pairsBegun, pairsOf}
 use Rattle.merge_under.specs.Engine.{Stands}
 use Rattle.merge_under.specs.Counts.{counted-same}
 use Rattle.merge_under.specs.UnderLaws.{finish-asks, merges-refused, merges-doubled, merges-run, cleared-of}

@@ -29,8 +29,9 @@ use Rattle.query.proofs.Limits as L
 use Rattle.query.proofs.Limits.Laws as L′
 use Rattle.query.proofs.Query as Y
 use Rattle.query.proofs.Query.Laws as Y′
-use Rattle.prepare.specs.declared.Prepared.{Prepared}
-use Rattle.prepare.specs.Preparing.{Prepares, pairsOf, keysOf}
+use Rattle.prepared.specs.declared.Prepared.{Prepared}
+use Rattle.prepare.specs.Preparing.{Prepares}
+use Rattle.prepared.specs.Pairs.{pairsOf, keysOf}
 use Rattle.prepare.specs.PreparingLaws.{keys-few}
 use Rattle.prepare.proofs.Prepared as Q
 use Rattle.prepare.proofs.Prepared.Laws as Q′
@@ -50,14 +51,14 @@ use Rattle.prepare.proofs.prepare as prepare′
 use Rattle.prepare.proofs.prepare.Symbol as prepare-def
 use Rattle.prepare.proofs.prepare.Symbol.{name as #prepare}
 use Rattle.prepare.proofs.prepare.Met as prepare-thm
-use Rattle.prepare.proofs.keys_of as keys-of′
-use Rattle.prepare.proofs.keys_of.Symbol as keys-of-def
-use Rattle.prepare.proofs.keys_of.Symbol.{name as #keys-of}
-use Rattle.prepare.proofs.keys_of.Met as keys-of-thm
-use Rattle.prepare.proofs.pairs_of as pairs-of′
-use Rattle.prepare.proofs.pairs_of.Symbol as pairs-of-def
-use Rattle.prepare.proofs.pairs_of.Symbol.{name as #pairs-of}
-use Rattle.prepare.proofs.pairs_of.Met as pairs-of-thm
+use Rattle.prepared.proofs.keys_of as keys-of′
+use Rattle.prepared.proofs.keys_of.Symbol as keys-of-def
+use Rattle.prepared.proofs.keys_of.Symbol.{name as #keys-of}
+use Rattle.prepared.proofs.keys_of.Met as keys-of-thm
+use Rattle.prepared.proofs.pairs_of as pairs-of′
+use Rattle.prepared.proofs.pairs_of.Symbol as pairs-of-def
+use Rattle.prepared.proofs.pairs_of.Symbol.{name as #pairs-of}
+use Rattle.prepared.proofs.pairs_of.Met as pairs-of-thm
 use Rattle.pair_count.proofs.enter_graph as enter-graph′
 use Rattle.pair_count.proofs.enter_graph.Symbol as enter-graph-def
 use Rattle.pair_count.proofs.enter_graph.Symbol.{name as #enter-graph}
@@ -279,8 +280,8 @@ merge-under-spec 𝓤 H 𝓜 𝓖 𝓡 =
     (tables 𝓤 H 𝓜 𝓡 code.env .C) (tables 𝓤 H 𝓜 𝓡 code.env .Λ) #merge-under code.function (code.unfolded 𝓤 H 𝓜 𝓡)
     (under-meets 𝓤 H (𝓖 .A) (givenOf 𝓤 H 𝓜 𝓖) (𝓜 .mem) (𝓡 .run) (tablesOf 𝓤 H 𝓜 (tables 𝓤 H 𝓜 𝓡 code.env))
     (cited 𝓤 H (Prepare 𝓤 H (𝓖 .A) (𝓜 .mem) (𝓡 .run)) 𝓜 𝓡 code.env #prepare prepare-def.routine code.calls-prepare·prepare (prepare-thm.met 𝓤 H 𝓜 𝓖 𝓡))
-    (cited 𝓤 H (KeysOf 𝓤 H (𝓖 .A) (𝓜 .mem) (𝓡 .run)) 𝓜 𝓡 code.env #keys-of keys-of-def.routine code.calls-prepare·keys-of (keys-of-thm.met 𝓤 H 𝓜 𝓖 𝓡))
-    (cited 𝓤 H (PairsOf 𝓤 H (𝓖 .A) (𝓜 .mem) (𝓡 .run)) 𝓜 𝓡 code.env #pairs-of pairs-of-def.routine code.calls-prepare·pairs-of (pairs-of-thm.met 𝓤 H 𝓜 𝓖 𝓡))
+    (cited 𝓤 H (KeysOf 𝓤 H (𝓖 .A) (𝓜 .mem) (𝓡 .run)) 𝓜 𝓡 code.env #keys-of keys-of-def.routine code.calls-prepared·keys-of (keys-of-thm.met 𝓤 H 𝓜 𝓖 𝓡))
+    (cited 𝓤 H (PairsOf 𝓤 H (𝓖 .A) (𝓜 .mem) (𝓡 .run)) 𝓜 𝓡 code.env #pairs-of pairs-of-def.routine code.calls-prepared·pairs-of (pairs-of-thm.met 𝓤 H 𝓜 𝓖 𝓡))
     (cited 𝓤 H (EnterGraph 𝓤 H (𝓖 .A) (𝓜 .mem) (𝓡 .run)) 𝓜 𝓡 code.env #enter-graph enter-graph-def.routine code.calls-pair-count·enter-graph (enter-graph-thm.met 𝓤 H 𝓜 𝓖 𝓡))
     (cited 𝓤 H (Finish 𝓤 H (𝓖 .A) (𝓜 .mem) (𝓡 .run)) 𝓜 𝓡 code.env #finish finish-def.routine code.calls-merge-under·finish (finish-thm.met 𝓤 H 𝓜 𝓖 𝓡))
     (cited 𝓤 H (Clear 𝓤 H (𝓖 .A) (𝓜 .mem) (𝓡 .run)) 𝓜 𝓡 code.env #clear-table clear-table-def.routine code.calls-pair-table·clear-table (clear-table-thm.met 𝓤 H 𝓜 𝓖 𝓡)))

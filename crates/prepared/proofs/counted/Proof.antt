@@ -1,11 +1,11 @@
-use Rattle.beginning.specs.declared.Begun.{Begun}
-use Rattle.beginning.specs.declared.Begun.the-variants.{All}
-use Rattle.merge_under.specs.Engine.{countedAs}
+use Rattle.prepared.specs.declared.Begun.{Begun}
+use Rattle.prepared.specs.declared.Begun.the-variants.{All}
+use Rattle.prepared.specs.Pairs.{countedAs}
 use Prim.Native.Nat.{ℕ, _-_}
 use mathlib.Core.Path.{ap, sym, _∙_}
 use borrow.Author.Needs.{needs}
-use Rattle.merge_under.proofs.counted.Statement.{statement}
-use Rattle.merge_under.proofs.counted.Tie as tie
+use Rattle.prepared.proofs.counted.Statement.{statement}
+use Rattle.prepared.proofs.counted.Tie as tie
 
 pairs-in-requires : tie.Need-pairs-in-requires
 pairs-in-requires c κs = search needs

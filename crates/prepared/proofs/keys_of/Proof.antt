@@ -1,11 +1,11 @@
-use Rattle.prepare.specs.Preparing.{keysOf}
-use Rattle.prepare.specs.declared.Prepared.the-variants.{Go}
+use Rattle.prepared.specs.Pairs.{keysOf}
+use Rattle.prepared.specs.declared.Prepared.the-variants.{Go}
 use Prim.Native.Nat.{_-_}
 use native.Mathlib.Omega.{arith}
 use mathlib.Core.Path.{_≡_, ap, sym}
 use borrow.Author.Needs.{needs}
-use Rattle.prepare.proofs.keys_of.Statement.{statement}
-use Rattle.prepare.proofs.keys_of.Tie as tie
+use Rattle.prepared.proofs.keys_of.Statement.{statement}
+use Rattle.prepared.proofs.keys_of.Tie as tie
 
 enum-known-p : tie.Need-enum-known-p
 enum-known-p c = search needs

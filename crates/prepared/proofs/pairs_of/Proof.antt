@@ -1,9 +1,9 @@
-use Rattle.prepare.specs.Preparing.{pairsOf}
+use Rattle.prepared.specs.Pairs.{pairsOf}
 use Prim.Native.Nat.{_-_}
 use mathlib.Core.Path.{ap, sym, _∙_}
 use borrow.Author.Needs.{needs}
-use Rattle.prepare.proofs.pairs_of.Statement.{statement}
-use Rattle.prepare.proofs.pairs_of.Tie as tie
+use Rattle.prepared.proofs.pairs_of.Statement.{statement}
+use Rattle.prepared.proofs.pairs_of.Tie as tie
 
 enum-known-p : tie.Need-enum-known-p
 enum-known-p c = search needs
