@@ -7,12 +7,12 @@ ghost use Rattle.answer.specs.Responding.{Asks, Rooms, Responds};
 ghost use Rattle.contract.specs.Merges.{fitOf};
 ghost use Rattle.contract.specs.Answers.{Cleared};
 use au::merge_plain;
+use contract::Answer;
 use frames::image_length;
 use frames::is_framed;
 use frames::print;
 use frames::query_of;
 use frames::refusal;
-use contract::Answer;
 use outcome::clear_all;
 
 // the merge that a framed input asks for

@@ -32,7 +32,8 @@ use Rattle.outcome.specs.declared.Ran.the-variants as R
 use Rattle.rounds.specs.Graphs.{Graphs}
 use Rattle.exact_fixed.specs.GraphLaws.{graphs-built}
 use Rattle.exact_fixed.specs.Starting.{StartsAll}
-use Rattle.exact_fixed.specs.RunLaws.{startedIn, ran-started, starts-full, starts-cut, starts-holds, starts-within, starts-stands, starts-rounds}
+use Rattle.starting.specs.Report.{startedIn}
+use Rattle.exact_fixed.specs.RunLaws.{ran-started, starts-full, starts-cut, starts-holds, starts-within, starts-stands, starts-rounds}
 use Rattle.exact_fixed.specs.Following.{ToRounds}
 use Rattle.exact_fixed.specs.declared.Started.{Started}
 use Rattle.exact_fixed.specs.declared.Started.the-variants as S

@@ -1,4 +1,3 @@
-pub mod StartSizes
 pub mod Starting
 pub mod RunLaws
 pub mod Following

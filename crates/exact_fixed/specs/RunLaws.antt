@@ -1,6 +1,5 @@
 -- The run before its rounds: cut short in building or in starting terms, or over a graph that is built in full.
 use mathlib.Core.Path.{_≡_, sym, ap, _∙_}
-use mathlib.Core.Bool.{false}
 use mathlib.Core.List.{List}
 use Prim.Native.Nat.{ℕ, _*_, _≤_, _<_}
 use native.Mathlib.Omega.{arith}
@@ -8,7 +7,7 @@ use lib.ListN.{length}
 use Rattle.spec.specs.Bytes.{Two, Limits, Res, ok, refused, _>>=_, Checked, passed, cutShort}
 use Rattle.spec.specs.Image.{Tables}
 use Rattle.spec.specs.Pool.{Pool, Interned, interned}
-use Rattle.spec.specs.Round.{startingQuality, Terms}
+use Rattle.spec.specs.Round.{Terms}
 use Rattle.spec.specs.Run as run
 use Rattle.spec.specs.Run.{startingTerms, afterStarting, afterBuilding}
 use Rattle.laws.specs.Valid.{Valid}
@@ -23,20 +22,12 @@ use Rattle.terms.specs.Chains.{Holds}
 use Rattle.outcome.specs.Outcomes.{RanTo}
 use Rattle.outcome.specs.declared.Outcome.{Outcome}
 use Rattle.outcome.specs.declared.Ran.the-variants as R
+use Rattle.starting.specs.Report.{startedIn}
 use Rattle.rounds.specs.Graphs.{InRange, stateIn}
 use Rattle.budget.specs.declared.Budget.{Budget}
 use Rattle.exact_fixed.specs.Starting.{Starting, CutStarting, StartsAll, start-done, start-qualities}
 use Rattle.exact_fixed.specs.declared.Started.{Started}
 use Rattle.exact_fixed.specs.declared.Started.the-variants as S
-
--- what is reported of a run that is cut short before its rounds
-abbrev pub startedIn : Tables → Two → ℕ → ℕ → Outcome
-startedIn t p n root = record { complete = false; pairs = n; rounds = 0; size = startingQuality t p .0; mass = startingQuality t p .1; root = root }
-
--- .. by the classes as the code reads them, and their qualities
-pub started-as : (t : Tables) (n root l r left right : ℕ) → l ≡ left → r ≡ right → (size mass : ℕ) → size ≡ startingQuality t (l, r) .0 → mass ≡ startingQuality t (l, r) .1
-    → record { complete = false; pairs = n; rounds = 0; size = size; mass = mass; root = root } ≡ startedIn t (left, right) n root
-started-as t n root l r left right e f size mass g h = rw (← e, ← f) (λ i. record { complete = false; pairs = n; rounds = 0; size = g i; mass = h i; root = root })
 
 -- a pool that holds the root's starting term gives the listing
 pub ran-started : (t : Tables) (p : Two) (m : Res run.Outcome) (root : Interned) (n : ℕ) (marks terms runs : List ℕ) → m ≡ ok (run.started t p root n) → PoolValid (root .pool) → root .term < length (root .pool) → Holds terms runs → Extends (root .pool) (poolOf terms runs)

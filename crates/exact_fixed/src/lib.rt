@@ -1,22 +1,18 @@
 // A run from its graph: starting terms, then its rounds, with the budget of checks that `begin` left; and its listing (`run`, `run_in` of exact_fixed.rs).
 use arrays::WIDTH;
-use prepared::Begun;
 use budget::Budget;
 use image::Image;
 use interning::Entered;
 use numbers::short_size;
-use numbers::short_u64;
-use numbers::size_u16;
 use outcome::Answer;
-use outcome::Outcome;
 use outcome::Ran;
+use prepared::Begun;
 use query::Limits;
 use query::Query;
 ghost use mathlib.Core.Path.{_≡_};
 ghost use Prim.Native.Nat.{_+_, _*_, _≤_, _<_};
 ghost use lib.ListN.{length};
 ghost use Rattle.spec.specs.Image.{tablesOf};
-ghost use Rattle.spec.specs.Round.{startingQuality};
 ghost use Rattle.spec.specs.Run.{startingTerms, runOf};
 ghost use Rattle.laws.specs.Valid.{Valid};
 ghost use Rattle.query.specs.Settings.{limitsOf, askedOf};
@@ -29,7 +25,6 @@ ghost use Rattle.best_terms.specs.Bests.{Kept};
 ghost use Rattle.outcome.specs.Answers.{Answers, Cleared};
 ghost use Rattle.rounds.specs.Graphs.{InRange};
 ghost use Rattle.exact_fixed.specs.Starting.{BeginsOne, StartsAll};
-ghost use Rattle.exact_fixed.specs.RunLaws.{startedIn};
 ghost use Rattle.exact_fixed.specs.Following.{Follows};
 
 // a pair's starting term is entered; or refusal 13
@@ -49,31 +44,6 @@ enum Started {
 enum Next {
     Rounds(usize, Budget),
     Ended(Ran),
-}
-
-// ---- starting qualities
-fn start_size(s: &[u8], im: Image, l: usize, r: usize) -> u32
-    requires { ⌜ Loaded (now s) im × Valid (tablesOf (now s)) × (l < im .classes) × (r < im .classes) ⌝ }
-    ensures { λ x. ⌜ x ≡ startingQuality (tablesOf (now (s .entry))) (l, r) .0 ⌝ }
-{
-    let a = classes::best_size(s, im, l);
-    if l == r {
-        return short_u64(a);
-    }
-    let b = classes::best_size(s, im, r);
-    short_u64(a + b)
-}
-
-fn start_mass(s: &[u8], im: Image, l: usize, r: usize) -> u32
-    requires { ⌜ Loaded (now s) im × Valid (tablesOf (now s)) × (l < im .classes) × (r < im .classes) ⌝ }
-    ensures { λ x. ⌜ x ≡ startingQuality (tablesOf (now (s .entry))) (l, r) .1 ⌝ }
-{
-    if l == r {
-        return 0;
-    }
-    let a = classes::best_size(s, im, l);
-    let b = classes::best_size(s, im, r);
-    short_u64(a + b)
 }
 
 // ---- starting terms
@@ -99,8 +69,8 @@ fn start_one(
             return One::Full;
         }
         Entered::Term(t) => {
-            let size = start_size(s, im, l, r);
-            let mass = start_mass(s, im, l, r);
+            let size = starting::start_size(s, im, l, r);
+            let mass = starting::start_mass(s, im, l, r);
             arrays::give(pairs, WIDTH * k, size, mass, short_size(t));
             return One::Entered;
         }
@@ -147,23 +117,6 @@ fn start_all(
 }
 
 // ---- the run
-// what a run that is cut short before its rounds reports
-fn report_started(s: &[u8], im: Image, q: Query, n: usize, root: usize) -> Outcome
-    requires { ⌜ Loaded (now s) im × Valid (tablesOf (now s)) × (q .left < im .classes) × (q .right < im .classes) ⌝ }
-    ensures { λ o. ⌜ o ≡ startedIn (tablesOf (now (s .entry))) (askedOf q) n root ⌝ }
-{
-    let l = size_u16(q.left);
-    let r = size_u16(q.right);
-    Outcome {
-        complete: false,
-        pairs: n,
-        rounds: 0,
-        size: start_size(s, im, l, r),
-        mass: start_mass(s, im, l, r),
-        root: root,
-    }
-}
-
 // Starting terms over a graph that is built in full; b is what `begin` answered for the query q.
 fn start(
     lim: Limits,
@@ -184,7 +137,7 @@ fn start(
             return Next::Ended(Ran::Stopped(k));
         }
         Begun::Cut(root) => {
-            let o = report_started(s, im, q, 1, root);
+            let o = starting::report_started(s, im, q, 1, root);
             return Next::Ended(Ran::Done(o));
         }
         Begun::All(root, n, c) => {
@@ -194,7 +147,7 @@ fn start(
                     return Next::Ended(Ran::Stopped(13));
                 }
                 Started::Cut => {
-                    let o = report_started(s, im, q, n, root);
+                    let o = starting::report_started(s, im, q, n, root);
                     return Next::Ended(Ran::Done(o));
                 }
                 Started::All(d) => {

@@ -1,9 +1,9 @@
-use Rattle.exact_fixed.specs.RunLaws.{started-as}
+use Rattle.starting.specs.Report.{started-as}
 use Rattle.spec.specs.Image.{tablesOf}
 use native.Mathlib.Omega.{arith}
 use borrow.Author.Needs.{needs}
-use Rattle.exact_fixed.proofs.report_started.Statement.{statement}
-use Rattle.exact_fixed.proofs.report_started.Tie as tie
+use Rattle.starting.proofs.report_started.Statement.{statement}
+use Rattle.starting.proofs.report_started.Tie as tie
 
 size-u16-requires : tie.Need-size-u16-requires
 size-u16-requires c κs = search needs

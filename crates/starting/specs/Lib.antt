@@ -1,0 +1,2 @@
+pub mod StartSizes
+pub mod Report
