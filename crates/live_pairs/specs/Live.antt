@@ -2,6 +2,7 @@
 use mathlib.Core.Bool.{Bool}
 use mathlib.Core.List.{List}
 use Prim.Native.Nat.{ℕ, zero, suc, _-_}
+use lib.Dec.{ltb}
 use lib.ListN.{getD}
 use Rattle.spec.specs.Bytes.{pick, both, Two}
 use Rattle.changes.specs.Marks.{markedIn}
@@ -18,3 +19,7 @@ firstFrom f k (suc m) = pick (f k) k (firstFrom f (suc k) m)
 -- the first live pair of ps from number k on, below n; n if there is none
 abbrev pub nextLive : List Two → List ℕ → List ℕ → ℕ → ℕ → ℕ
 nextLive ps llive rlive k n = firstFrom (λ i. liveIn llive rlive (getD ps i (0, 0))) k (n - k)
+
+-- the checks of a step from pair k, where j is the next live one
+abbrev pub dueOf : ℕ → ℕ → ℕ
+dueOf k j = pick (ltb k j) (j - k) 1

@@ -12,7 +12,7 @@ use lib.ListN.{getD}
 use Rattle.spec.specs.Bytes.{pick, Two}
 use Rattle.arrays.specs.Arrays.{unkey, pairsIn}
 use Rattle.arrays.specs.ArrayLaws.{unkeyed-at}
-use Rattle.live_pairs.specs.Live.{liveIn, firstFrom, nextLive}
+use Rattle.live_pairs.specs.Live.{liveIn, firstFrom, nextLive, dueOf}
 
 -- ---- live
 pub live-left : (llive rlive : List ℕ) (l r : ℕ) → 0 < getD llive l 0 → ltb 0 (getD rlive r 0) ≡ liveIn llive rlive (l, r)
@@ -31,15 +31,6 @@ module _ (f : ℕ → Bool) where
   pub first-later : (k m : ℕ) → f k ≡ false → firstFrom f k (suc m) ≡ firstFrom f (suc k) m
   unfolding firstFrom
   first-later k m e = rw e refl
-
-  pub first-above : (k m : ℕ) → k ≤ firstFrom f k m
-  unfolding firstFrom
-  first-above k zero = omega arith
-  first-above k (suc m) = go (f k) (first-above (suc k) m)
-    where
-      go : (b : Bool) → suc k ≤ firstFrom f (suc k) m → k ≤ pick b k (firstFrom f (suc k) m)
-      go true h = omega arith
-      go false h = omega arith
 
   pub first-within : (k m : ℕ) → firstFrom f k m ≤ k + m
   unfolding firstFrom
@@ -81,3 +72,10 @@ module _ (w : ℕ) (graph llive rlive : List ℕ) (n j l r : ℕ) (h : j < n) (e
 pub next-none : (w : ℕ) (graph llive rlive : List ℕ) (n j : ℕ) → n ≤ j → nextLive (pairsIn w graph n) llive rlive j n ≡ j
 unfolding firstFrom
 next-none w graph llive rlive n j h = let x : n - j ≡ 0 = omega arith in ap (firstFrom (λ i. liveIn llive rlive (getD (pairsIn w graph n) i (0, 0))) j) x
+
+-- ---- the checks of a step
+pub due-idle : (k j : ℕ) → k < j → j - k ≡ dueOf k j
+due-idle k j h = rw (lt-ltb k j h) refl
+
+pub due-live : (k j : ℕ) → j ≤ k → 1 ≡ dueOf k j
+due-live k j h = rw (le-ltb k j h) refl

@@ -3,7 +3,7 @@ ghost use mathlib.Core.Path.{_≡_};
 ghost use Prim.Native.Nat.{_+_, _*_, _≤_, _<_};
 ghost use lib.ListN.{length};
 ghost use Rattle.arrays.specs.Arrays.{pairsIn};
-ghost use Rattle.live_pairs.specs.Live.{liveIn, nextLive};
+ghost use Rattle.live_pairs.specs.Live.{liveIn, nextLive, dueOf};
 
 // pair (l, r) is live
 fn live(llive: &[u8; 256], rlive: &[u8; 256], l: usize, r: usize) -> bool
@@ -38,4 +38,14 @@ pub fn next_live(
         j += 1;
     }
     j
+}
+
+// The checks of a step from pair k, where j is the next live one: one for each pair that keeps what it has, or one for a live pair.
+pub fn due(k: usize, j: usize) -> usize
+    ensures { λ r. ⌜ r ≡ dueOf k j ⌝ }
+{
+    if k < j {
+        return j - k;
+    }
+    1
 }

@@ -5,31 +5,19 @@ use mathlib.Core.List.{List}
 use Prim.Native.Nat.{ℕ, zero, suc, _+_, _-_, _≤_, _<_}
 use native.Mathlib.Decide.{decLt}
 use native.Mathlib.Omega.{arith}
-use borrow.Author.Tests.{lt-ltb, le-ltb}
-use lib.Dec.{ltb}
 use lib.ListN.{length, getD}
-use Rattle.spec.specs.Bytes.{Limits, pick, either, Two, Res, Checked}
+use Rattle.spec.specs.Bytes.{Limits, either, Two, Res, Checked}
 use Rattle.spec.specs.Image.{Tables}
 use Rattle.spec.specs.Round.{Terms}
 use Rattle.spec.specs.Run.{State}
 use Rattle.lgg.specs.Standing.{Standing}
-use Rattle.live_pairs.specs.Live.{liveIn, nextLive}
-use Rattle.live_pairs.specs.LiveLaws.{first-above, first-within, first-passes}
+use Rattle.live_pairs.specs.Live.{liveIn, nextLive, dueOf}
+use Rattle.live_pairs.specs.LiveLaws.{first-within, first-passes, due-idle, due-live}
 use Rattle.settling.specs.Quiet.{Quiet}
 use Rattle.visits.specs.VisitLaws.{idle-moved}
 use Rattle.rounds.specs.Graphs.{Graphs, number-here}
 use Rattle.rounds.specs.Idling.{Idles}
 use Rattle.rounds.specs.Turning.{Turning, Stays, turn-cut, turn-moved, quiet-here}
-
--- the checks of a step from pair k, where j is the next live one
-abbrev pub dueOf : ℕ → ℕ → ℕ
-dueOf k j = pick (ltb k j) (j - k) 1
-
-pub due-idle : (k j : ℕ) → k < j → j - k ≡ dueOf k j
-due-idle k j h = rw (lt-ltb k j h) refl
-
-pub due-live : (k j : ℕ) → j ≤ k → 1 ≡ dueOf k j
-due-live k j h = rw (le-ltb k j h) refl
 
 -- no step goes past the last pair
 due-within : (k j n : ℕ) → k < n → j ≤ n → Dec (k < j) → k + dueOf k j ≤ n

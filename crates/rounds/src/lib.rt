@@ -25,7 +25,6 @@ ghost use Rattle.outcome.specs.Outcomes.{RanTo};
 ghost use Rattle.settling.specs.Quiet.{Quiet};
 ghost use Rattle.rounds.specs.Graphs.{stateIn, Graphs};
 ghost use Rattle.rounds.specs.Idling.{Idles};
-ghost use Rattle.rounds.specs.Passing.{dueOf};
 ghost use Rattle.rounds.specs.Turning.{Relaxes};
 
 // ---- a round
@@ -36,16 +35,6 @@ fn either(a: bool, b: bool) -> bool
         return true;
     }
     b
-}
-
-// the checks of a step from pair k, where j is the next live one: one for each pair that keeps what it has, or one for a live pair
-fn due(k: usize, j: usize) -> usize
-    ensures { λ r. ⌜ r ≡ dueOf k j ⌝ }
-{
-    if k < j {
-        return j - k;
-    }
-    1
 }
 
 // A round over the pairs: "one [check] a pair in it". Pairs that are not live keep what they have, and the round gives them that already.
@@ -75,7 +64,7 @@ fn relax_all(
     let mut k = 0;
     while k < n {
         let j = live_pairs::next_live(graph, w, n, k, llive, rlive);
-        let sp = bud.spend_many(due(k, j));
+        let sp = bud.spend_many(live_pairs::due(k, j));
         bud = sp.budget;
         if !sp.passed {
             return Round::Cut;

@@ -12,7 +12,8 @@ use Rattle.live_pairs.specs.Live.{nextLive}
 use Rattle.rounds.specs.Graphs.{stateIn, Reads, graphs-length, pair-at, pair-ranged, known-here, terms-here, cells-fit, among}
 use Rattle.rounds.specs.Idling.{Idles, idles-more}
 use Rattle.rounds.specs.Turning.{Turning, turning-none, turn-refused, turn-moved}
-use Rattle.rounds.specs.Passing.{dueOf, due-live, step-cut, step-over}
+use Rattle.live_pairs.specs.LiveLaws.{due-live}
+use Rattle.rounds.specs.Passing.{step-cut, step-over}
 use borrow.Author.Needs.{needs}
 use Prim.Native.Nat.{ℕ, _≤_, _-_, _+_, _*_}
 use native.Mathlib.Omega.{arith}

@@ -1,8 +1,8 @@
 use native.Mathlib.Omega.{arith}
 use borrow.Author.Needs.{needs}
-use Rattle.rounds.specs.Passing.{due-idle, due-live}
-use Rattle.rounds.proofs.due.Statement.{statement}
-use Rattle.rounds.proofs.due.Tie as tie
+use Rattle.live_pairs.specs.LiveLaws.{due-idle, due-live}
+use Rattle.live_pairs.proofs.due.Statement.{statement}
+use Rattle.live_pairs.proofs.due.Tie as tie
 
 sub-result : tie.Need-sub-result
 sub-result c = search needs
