@@ -30,8 +30,8 @@ use Rattle.merge_under.specs.Under.{MergesUnder}
 use Rattle.merge_under.proofs.Slices.{Param, val, has, tok, lent, kept, lends, backs, ends}
 use Rattle.merge_under.proofs.Slices as S
 use Rattle.merge_under.proofs.Locals.{dies, frees-all}
-use Rattle.merge_under.proofs.Answer as N
-use Rattle.merge_under.proofs.Answer.Laws as N′
+use Rattle.contract.proofs.Answer as N
+use Rattle.contract.proofs.Answer.Laws as N′
 use Rattle.contract.specs.Merges.{fits, Merges}
 use Rattle.au.specs.Twice.{smallLimits, Settles}
 use Rattle.contract.specs.Limited.{limited}

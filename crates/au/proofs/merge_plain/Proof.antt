@@ -19,8 +19,8 @@ use Rattle.contract.specs.declared.Answer.{Answer}
 use Rattle.contract.specs.Merges.{fitOf, fits, Merges}
 use Rattle.contract.specs.Answers.{Cleared, Table}
 use Rattle.merge_under.proofs.Slices.{Param, val, has, tok, kept}
-use Rattle.merge_under.proofs.Answer as N
-use Rattle.merge_under.proofs.Answer.Laws as N′
+use Rattle.contract.proofs.Answer as N
+use Rattle.contract.proofs.Answer.Laws as N′
 use mir.Syntax.{tyArray}
 use lib.ListN.{replicate}
 use types.Run.{free1, free0}

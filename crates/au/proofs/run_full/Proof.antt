@@ -32,8 +32,8 @@ use Rattle.contract.specs.Answers.{Cleared, Table}
 use Rattle.merge_under.specs.Under.{MergesUnder}
 use Rattle.merge_under.proofs.Slices.{Param, val, has, tok}
 use Rattle.merge_under.proofs.Locals.{dies, frees-all}
-use Rattle.merge_under.proofs.Answer as N
-use Rattle.merge_under.proofs.Answer.Laws as N′
+use Rattle.contract.proofs.Answer as N
+use Rattle.contract.proofs.Answer.Laws as N′
 use Rattle.contract.specs.Merges.{Merges}
 use Rattle.au.specs.Twice.{Full}
 use Rattle.au.specs.Assembled.{Asked, asked-full, merges-full}

@@ -33,8 +33,8 @@ use Rattle.prepared.specs.declared.Prepared.{Prepared}
 use Rattle.prepare.specs.Preparing.{Prepares}
 use Rattle.prepared.specs.Pairs.{pairsOf, keysOf}
 use Rattle.prepare.specs.PreparingLaws.{keys-few}
-use Rattle.prepare.proofs.Prepared as Q
-use Rattle.prepare.proofs.Prepared.Laws as Q′
+use Rattle.prepared.proofs.Prepared as Q
+use Rattle.prepared.proofs.Prepared.Laws as Q′
 use Rattle.terms.specs.Chains.{Rooms}
 use Rattle.contract.specs.declared.Answer.{Answer}
 use Rattle.contract.specs.Answers.{Cleared, Table}
@@ -45,8 +45,8 @@ use Rattle.merge_under.specs.UnderLaws.{prepared-stands, roomy-after, ta
 use Rattle.merge_under.proofs.Slices.{Param, val, has, tok, lent, shown, kept, kept-shown, lends, backs, shows-as, backs-shown}
 use Rattle.merge_under.proofs.Slices as S
 use Rattle.merge_under.proofs.Locals.{dies, frees-all}
-use Rattle.merge_under.proofs.Answer as N
-use Rattle.merge_under.proofs.Answer.Laws as N′
+use Rattle.contract.proofs.Answer as N
+use Rattle.contract.proofs.Answer.Laws as N′
 use Rattle.prepare.proofs.prepare as prepare′
 use Rattle.prepare.proofs.prepare.Symbol as prepare-def
 use Rattle.prepare.proofs.prepare.Symbol.{name as #prepare}
