@@ -2,9 +2,14 @@
 .PHONY: test run oracle fmt bindings bench fuzz layers
 SHELL := /bin/bash
 
+# A check copies the libraries that it needs into temporary files, thousands of them: in memory where there is a folder with room for it. And the prover takes its memory in large pieces.
+MEMORY := /dev/shm
+ROOMY := $(shell df -Pk $(MEMORY) 2>/dev/null | awk 'NR == 2 && $$4 > 6000000 { print "TMPDIR=$(MEMORY)" }')
+LARGE := GLIBC_TUNABLES=glibc.malloc.hugetlb=1:glibc.malloc.arena_max=2:glibc.malloc.top_pad=67108864:glibc.malloc.trim_threshold=4000000000:glibc.malloc.mmap_threshold=1000000000
+
 # Everything that the gate runs; the last line printed is rt ci's `N passed, 0 failed`. Four at a time, also on two cores: rt waits for all of a batch, so that with two one core often idles.
 test: fmt oracle
-	RT_JOBS=4 rt ci
+	$(ROOMY) $(LARGE) RT_JOBS=4 rt ci
 
 # The layout of every Rattle and antt file.
 fmt:
