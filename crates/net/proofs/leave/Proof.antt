@@ -1,14 +1,14 @@
-use Rattle.labels.specs.Net.{NODES, HEAD, COUNT, headOf, countOf, left}
+use Rattle.net.specs.Net.{NODES, HEAD, COUNT, headOf, countOf, left}
 use Prim.Native.Nat.{ℕ, _+_, _-_, _%_}
 use mathlib.Core.Path.{refl, ap, _∙_}
 use mathlib.Core.List.{List}
 use lib.ListN.{set}
 use borrow.Author.Needs.{needs}
-use Rattle.labels.proofs.leave.Statement.{statement}
-use Rattle.labels.proofs.leave.Tie as tie
-use Rattle.labels.proofs.leave.Reads as reads
-use Rattle.labels.proofs.leave.Lts as lts
-use Rattle.labels.proofs.put.Reads as put-reads
+use Rattle.net.proofs.leave.Statement.{statement}
+use Rattle.net.proofs.leave.Tie as tie
+use Rattle.net.proofs.leave.Reads as reads
+use Rattle.net.proofs.leave.Lts as lts
+use Rattle.net.proofs.put.Reads as put-reads
 
 element-copy-out-h : tie.Need-element-copy-out-h
 element-copy-out-h c = search needs

@@ -1,13 +1,13 @@
-use Rattle.labels.specs.Net.{joined}
+use Rattle.net.specs.Net.{joined}
 use Prim.Native.Nat.{_-_}
 use mathlib.Core.Path.{refl}
 use borrow.Author.Needs.{needs}
-use Rattle.labels.proofs.join.Statement.{statement}
-use Rattle.labels.proofs.join.Tie as tie
-use Rattle.labels.proofs.join.Reads as reads
-use Rattle.labels.proofs.join.Lts as lts
+use Rattle.net.proofs.join.Statement.{statement}
+use Rattle.net.proofs.join.Tie as tie
+use Rattle.net.proofs.join.Reads as reads
+use Rattle.net.proofs.join.Lts as lts
 use Rattle.std.proofs.num.wrapping_add_u64.Reads as wrapping-add-u64-reads
-use Rattle.labels.proofs.put.Reads as put-reads
+use Rattle.net.proofs.put.Reads as put-reads
 
 element-copy-out-wrapping-add-u64 : tie.Need-element-copy-out-wrapping-add-u64
 element-copy-out-wrapping-add-u64 c = search needs
