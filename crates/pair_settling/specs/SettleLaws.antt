@@ -17,7 +17,7 @@ use Rattle.lgg.specs.Lists.{clash}
 use Rattle.changes.specs.Marks.{markedIn}
 use Rattle.arrays.specs.Arrays.{unkey, NEW, qualitiesIn, termsIn, qualitiesFrom, termsFrom, given}
 use Rattle.arrays.specs.ArrayLaws.{given-length, given-other, qualities-more, terms-more, qualities-snoc, terms-snoc, quality-at}
-use Rattle.settling.specs.Settling.{differsAt, movedBy, markedBy, marksOf, settledAt, settled}
+use Rattle.pair_settling.specs.Settling.{differsAt, movedBy, markedBy, marksOf, settledAt, settled}
 
 -- ---- a pair that differs
 -- by its four numbers

@@ -1,11 +1,11 @@
-use Rattle.settling.specs.SettleLaws.{mark-yes, mark-no}
-use Rattle.settling.specs.Settling.{left}
+use Rattle.pair_settling.specs.SettleLaws.{mark-yes, mark-no}
+use Rattle.pair_settling.specs.Settling.{left}
 use Prim.Native.Nat.{ℕ, _-_}
 use mathlib.Core.Path.{ap, _∙_}
 use lib.ListN.{set}
 use borrow.Author.Needs.{needs}
-use Rattle.settling.proofs.mark.Statement.{statement}
-use Rattle.settling.proofs.mark.Tie as tie
+use Rattle.pair_settling.proofs.mark.Statement.{statement}
+use Rattle.pair_settling.proofs.mark.Tie as tie
 
 left-at-requires : tie.Need-left-at-requires
 left-at-requires c κs = search needs

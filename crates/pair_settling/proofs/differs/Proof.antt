@@ -1,7 +1,7 @@
-use Rattle.settling.specs.SettleLaws.{differs-size, differs-mass, differs-not}
+use Rattle.pair_settling.specs.SettleLaws.{differs-size, differs-mass, differs-not}
 use borrow.Author.Needs.{needs}
-use Rattle.settling.proofs.differs.Statement.{statement}
-use Rattle.settling.proofs.differs.Tie as tie
+use Rattle.pair_settling.proofs.differs.Statement.{statement}
+use Rattle.pair_settling.proofs.differs.Tie as tie
 
 mul-at : tie.Need-mul-at
 mul-at c = search needs

@@ -1,10 +1,10 @@
-use Rattle.settling.specs.SettleLaws.{settled-reads, settled-stays, unmoved}
-use Rattle.settling.specs.Settling.{left}
+use Rattle.pair_settling.specs.SettleLaws.{settled-reads, settled-stays, unmoved}
+use Rattle.pair_settling.specs.Settling.{left}
 use Prim.Native.Nat.{_-_}
 use mathlib.Core.Path.{sym, _∙_}
 use borrow.Author.Needs.{needs}
-use Rattle.settling.proofs.settle_one.Statement.{statement}
-use Rattle.settling.proofs.settle_one.Tie as tie
+use Rattle.pair_settling.proofs.settle_one.Statement.{statement}
+use Rattle.pair_settling.proofs.settle_one.Tie as tie
 
 mul-at : tie.Need-mul-at
 mul-at c = search needs

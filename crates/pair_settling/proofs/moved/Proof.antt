@@ -1,8 +1,8 @@
 use Prim.Native.Nat.{_-_}
 use mathlib.Core.Path.{refl}
 use borrow.Author.Needs.{needs}
-use Rattle.settling.proofs.moved.Statement.{statement}
-use Rattle.settling.proofs.moved.Tie as tie
+use Rattle.pair_settling.proofs.moved.Statement.{statement}
+use Rattle.pair_settling.proofs.moved.Tie as tie
 
 returns : tie.Need-returns
 returns c = search needs
