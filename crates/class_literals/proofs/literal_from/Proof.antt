@@ -8,8 +8,8 @@ use Prim.Native.Nat.{_-_}
 use native.Mathlib.Omega.{arith}
 use mathlib.Core.Path.{_≡_, refl, sym, _∙_}
 use lib.ListN.{drop}
-use Rattle.literals.proofs.literal_from.Statement.{statement}
-use Rattle.literals.proofs.literal_from.Tie as tie
+use Rattle.class_literals.proofs.literal_from.Statement.{statement}
+use Rattle.class_literals.proofs.literal_from.Tie as tie
 
 abbrev Inv-loop : tie.InvT-loop
 Inv-loop s im o v from m₀ m = any (isLiteral (tablesOf s) (o, v)) (drop from (tablesOf s .members)) ≡ any (isLiteral (tablesOf s) (o, v)) (drop m (tablesOf s .members))

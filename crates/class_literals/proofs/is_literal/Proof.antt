@@ -1,8 +1,8 @@
-use Rattle.literals.proofs.LiteralLaws.{other-value, other-op, same-literal}
+use Rattle.class_literals.proofs.LiteralLaws.{other-value, other-op, same-literal}
 use Rattle.spec.specs.Image.{tablesOf, theMember}
 use borrow.Author.Needs.{needs}
-use Rattle.literals.proofs.is_literal.Statement.{statement}
-use Rattle.literals.proofs.is_literal.Tie as tie
+use Rattle.class_literals.proofs.is_literal.Statement.{statement}
+use Rattle.class_literals.proofs.is_literal.Tie as tie
 
 member-value-requires : tie.Need-member-value-requires
 member-value-requires c κs = search needs

@@ -1,4 +1,4 @@
-use Rattle.literals.proofs.LiteralLaws.{doubledAfter, class-start, class-stop, class-go, class-end, class-there}
+use Rattle.class_literals.proofs.LiteralLaws.{doubledAfter, class-start, class-stop, class-go, class-end, class-there}
 use Rattle.span_rules.specs.Within.{class-room}
 use Rattle.spec.specs.Image.{doubledIn, membersOf, tablesOf, theClass}
 use Rattle.spec.specs.Bytes.{any}
@@ -7,8 +7,8 @@ use Prim.Native.Nat.{_≤_, _-_, _+_}
 use native.Mathlib.Omega.{arith}
 use mathlib.Core.Path.{_≡_, sym, _∙_}
 use lib.ListN.{drop}
-use Rattle.literals.proofs.class_doubled.Statement.{statement}
-use Rattle.literals.proofs.class_doubled.Tie as tie
+use Rattle.class_literals.proofs.class_doubled.Statement.{statement}
+use Rattle.class_literals.proofs.class_doubled.Tie as tie
 
 abbrev Inv-loop : tie.InvT-loop
 Inv-loop s im last c from n i₀ i = (i ≤ n) × (from + n ≤ im .members) × (doubledIn (tablesOf s) (theClass (tablesOf s) c) (drop (c + 1) (tablesOf s .classes)) ≡ any (doubledAfter (tablesOf s) c) (drop i (membersOf (tablesOf s) c)))

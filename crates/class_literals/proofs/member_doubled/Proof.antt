@@ -1,11 +1,11 @@
-use Rattle.literals.proofs.LiteralLaws.{no-literal, a-literal}
+use Rattle.class_literals.proofs.LiteralLaws.{no-literal, a-literal}
 use Rattle.span_rules.specs.Within.{op-room}
-use Rattle.literals.specs.Slots.{unmarked, slot-low}
+use Rattle.class_literals.specs.Slots.{unmarked, slot-low}
 use Rattle.spec.specs.Image.{tablesOf, theMember}
 use mathlib.Core.Path.{sym, _∙_}
 use borrow.Author.Needs.{needs}
-use Rattle.literals.proofs.member_doubled.Statement.{statement}
-use Rattle.literals.proofs.member_doubled.Tie as tie
+use Rattle.class_literals.proofs.member_doubled.Statement.{statement}
+use Rattle.class_literals.proofs.member_doubled.Tie as tie
 
 member-op-requires : tie.Need-member-op-requires
 member-op-requires c κs = search needs
