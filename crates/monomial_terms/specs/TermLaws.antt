@@ -10,7 +10,7 @@ use lib.ListN.{length, drop, getD, set, take-append-drop}
 use lib.Seq.{take-at, drop-append-add, drop-drop, length-take-le}
 use Rattle.spec.specs.Bytes.{Two}
 use Rattle.spec.specs.Monomial.{Monomial, insertAdd}
-use Rattle.monomial.specs.Terms.{terms, held, front, Holds}
+use Rattle.monomial_terms.specs.Terms.{terms, held, front, Holds}
 
 twice : (i : ℕ) → 2 * suc i ≡ suc (suc (2 * i))
 twice i = omega arith
