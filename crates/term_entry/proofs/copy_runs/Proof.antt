@@ -1,4 +1,4 @@
-use Rattle.interning.specs.CopyLaws.{paste-turn}
+use Rattle.term_entry.specs.CopyLaws.{paste-turn}
 use lib.Seq.{paste, paste-zero, paste-suc}
 use borrow.Author.Needs.{needs}
 use borrow.Author.Tests.{lt-ltb, le-ltb, le-leb, lt-leb, eq-eqb, ne-eqb}
@@ -9,10 +9,10 @@ use mathlib.Core.Path.{_≡_, refl, ap, sym, _∙_}
 use mathlib.Core.Logic.{⊎-elim}
 use mathlib.Core.List.{List, [], _∷_, _++_, append-nil}
 use lib.ListN.{length, take, drop, getD, set, length-set, length-take, length-drop, length-append, drop-of-length-le}
-use Rattle.interning.proofs.copy_runs.Statement.{statement}
-use Rattle.interning.proofs.copy_runs.Tie as tie
-use Rattle.interning.proofs.copy_runs.Reads as reads
-use Rattle.interning.proofs.copy_runs.Lts as lts
+use Rattle.term_entry.proofs.copy_runs.Statement.{statement}
+use Rattle.term_entry.proofs.copy_runs.Tie as tie
+use Rattle.term_entry.proofs.copy_runs.Reads as reads
+use Rattle.term_entry.proofs.copy_runs.Lts as lts
 
 abbrev Inv-loop : tie.InvT-loop
 Inv-loop runs₀ from list n i₀ runs i = (i ≤ n) × (length runs ≡ length runs₀) × (runs ≡ paste runs₀ from list i)

@@ -13,9 +13,9 @@ use Rattle.spec.specs.Pool.{Pool, Node, TERMS, RUNS}
 use Rattle.lgg.specs.Pool.{PoolValid}
 use Rattle.terms.specs.Buffers.{BUCKETS, BUCKET, COUNT, FIRSTS, HEADS, VALUES, CHAINS, LEAST, part, nodeOf, nodeIn, nodesIn, poolOf, partIn, lengthIn, firstIn, headIn, valueIn, chainIn, bucketIn, countIn}
 use Rattle.terms.specs.Chains.{keyOf, keyIn, Chained, Holds}
-use Rattle.interning.specs.Interning.{putTerm, enterTerm, enterRuns}
+use Rattle.term_entry.specs.TermEntry.{putTerm, enterTerm, enterRuns}
 use Rattle.terms.specs.PartLaws.{part-cong}
-use Rattle.interning.specs.CopyLaws.{paste-part, paste-before}
+use Rattle.term_entry.specs.CopyLaws.{paste-part, paste-before}
 use Rattle.terms.specs.PoolLaws.{first-rises}
 
 -- where the new runs begin

@@ -1,4 +1,4 @@
-use Rattle.interning.specs.KeyLaws.{key-start, key-turn, key-end}
+use Rattle.term_entry.specs.KeyLaws.{key-start, key-turn, key-end}
 use Rattle.terms.specs.Buffers.{part}
 use Rattle.terms.specs.Chains.{mixOf, mixAll, fold, keyOf}
 use borrow.Author.Needs.{needs}
@@ -10,12 +10,12 @@ use mathlib.Core.Path.{_≡_, refl, ap, sym, _∙_}
 use mathlib.Core.Logic.{⊎-elim}
 use mathlib.Core.List.{List, [], _∷_, _++_, append-nil}
 use lib.ListN.{length, take, drop, getD, set, length-set, length-take, length-drop, length-append, drop-of-length-le}
-use Rattle.interning.proofs.key.Statement.{statement}
-use Rattle.interning.proofs.key.Tie as tie
-use Rattle.interning.proofs.key.Reads as reads
-use Rattle.interning.proofs.key.Lts as lts
-use Rattle.interning.proofs.folded.Reads as folded-reads
-use Rattle.interning.proofs.mix.Reads as mix-reads
+use Rattle.term_entry.proofs.key.Statement.{statement}
+use Rattle.term_entry.proofs.key.Tie as tie
+use Rattle.term_entry.proofs.key.Reads as reads
+use Rattle.term_entry.proofs.key.Lts as lts
+use Rattle.term_entry.proofs.folded.Reads as folded-reads
+use Rattle.term_entry.proofs.mix.Reads as mix-reads
 use Rattle.numbers.proofs.long_u32.Reads as long-u32-reads
 
 abbrev Inv-loop : tie.InvT-loop

@@ -1,9 +1,9 @@
 use mathlib.Core.Path.{refl}
 use borrow.Author.Needs.{needs}
-use Rattle.interning.proofs.put_chain.Statement.{statement}
-use Rattle.interning.proofs.put_chain.Tie as tie
-use Rattle.interning.proofs.put_chain.Reads as reads
-use Rattle.interning.proofs.put_chain.Lts as lts
+use Rattle.term_entry.proofs.put_chain.Statement.{statement}
+use Rattle.term_entry.proofs.put_chain.Tie as tie
+use Rattle.term_entry.proofs.put_chain.Reads as reads
+use Rattle.term_entry.proofs.put_chain.Lts as lts
 use Rattle.numbers.proofs.put_u32.Reads as put-u32-reads
 use Rattle.numbers.proofs.short_size.Reads as short-size-reads
 

@@ -1,5 +1,5 @@
-use Rattle.interning.specs.Interning.{enterTerm, enterRuns}
-use Rattle.interning.specs.EnterLaws.{first-at}
+use Rattle.term_entry.specs.TermEntry.{enterTerm, enterRuns}
+use Rattle.term_entry.specs.EnterLaws.{first-at}
 use borrow.Author.Tests.{lt-ltb, le-ltb, le-leb, lt-leb, eq-eqb, ne-eqb}
 use Prim.Native.Nat.{ℕ, zero, suc, _≤_, _<_, _-_, _+_, _*_, _^_}
 use native.Mathlib.Omega.{arith}
@@ -9,15 +9,15 @@ use mathlib.Core.Logic.{⊎-elim}
 use mathlib.Core.List.{List, [], _∷_, _++_, append-nil}
 use lib.ListN.{length, take, drop, getD, set, length-set, length-take, length-drop, length-append, drop-of-length-le}
 use borrow.Author.Needs.{needs}
-use Rattle.interning.proofs.enter.Statement.{statement}
-use Rattle.interning.proofs.enter.Tie as tie
-use Rattle.interning.proofs.enter.Reads as reads
-use Rattle.interning.proofs.enter.Lts as lts
-use Rattle.interning.proofs.copy_runs.Reads as copy-runs-reads
+use Rattle.term_entry.proofs.enter.Statement.{statement}
+use Rattle.term_entry.proofs.enter.Tie as tie
+use Rattle.term_entry.proofs.enter.Reads as reads
+use Rattle.term_entry.proofs.enter.Lts as lts
+use Rattle.term_entry.proofs.copy_runs.Reads as copy-runs-reads
 use Rattle.terms.proofs.count.Reads as count-reads
 use Rattle.terms.proofs.first.Reads as first-reads
-use Rattle.interning.proofs.put_chain.Reads as put-chain-reads
-use Rattle.interning.proofs.put_term.Reads as put-term-reads
+use Rattle.term_entry.proofs.put_chain.Reads as put-chain-reads
+use Rattle.term_entry.proofs.put_term.Reads as put-term-reads
 use Rattle.numbers.proofs.short_size.Reads as short-size-reads
 
 count-requires : tie.Need-count-requires
