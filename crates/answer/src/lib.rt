@@ -13,7 +13,7 @@ use frames::is_framed;
 use frames::query_of;
 use frames::refusal;
 use merge_under::Answer;
-use outcome::clear_all;
+use work_clearing::clear_all;
 
 // the answer's bytes, in the output buffer
 fn print(out: &mut [u8], a: Answer) -> usize
