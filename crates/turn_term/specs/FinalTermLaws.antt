@@ -8,22 +8,20 @@ use native.Mathlib.Omega.{arith}
 use borrow.Author.Tests.{eqb-false}
 use lib.Dec.{eqb}
 use lib.ListN.{length, getD, take, drop, length-append, take-append-drop}
-use Rattle.spec.specs.Bytes.{Two, Limits, sum, Res, ok, refused}
+use Rattle.spec.specs.Bytes.{Two, Limits, sum}
 use Rattle.spec.specs.Image.{Tables, kindOf, isCommutative}
-use Rattle.spec.specs.Pool.{Interned}
 use Rattle.spec.specs.Meaning.{In, here, there}
 use Rattle.spec.specs.Action.{joins}
 use Rattle.spec.specs.Monomial.{COUNT}
-use Rattle.spec.specs.Round.{Act, Choice, stay, act, Turn, changes, turnOf, choiceTerm, actionTerm, planRuns}
+use Rattle.spec.specs.Round.{Act, Choice, stay, act, turnOf, choiceTerm, actionTerm, planRuns}
 use Rattle.laws.specs.Buffers.{over}
 use Rattle.laws.specs.Valid.{Valid}
 use Rattle.lgg.specs.Lists.{in-nil, in-cons}
 use Rattle.lgg.specs.Pool.{RunsBelow}
 use Rattle.lgg.specs.TurnPlaces.{choice-joins}
 use Rattle.lgg.specs.ReadingsWithin.{joins-within}
-use Rattle.terms.specs.Buffers.{part, unpack, poolOf, countIn}
+use Rattle.terms.specs.Buffers.{part, unpack, countIn}
 use Rattle.terms.specs.Chains.{Holds}
-use Rattle.interning.specs.Interning.{enteredOf}
 use Rattle.action_term.specs.Results.{actionList, ActionResult}
 use Rattle.terms.specs.PartLaws.{part-front}
 use Rattle.interning.specs.GrowLaws.{grows-none}
@@ -32,12 +30,7 @@ use Rattle.interning.specs.declared.Entered.the-variants as E
 use Rattle.arrays.specs.Arrays.{Known, TermsBelow, qualityIn, termIn}
 use Rattle.arrays.specs.ArrayLaws.{place-lt, known-low}
 use Rattle.action_runs.specs.Runs.{packed, runsOver}
-use Rattle.quality.specs.declared.How.{How}
-use Rattle.quality.specs.declared.How.the-variants as H
-use Rattle.quality.specs.declared.Best.{Best}
-use Rattle.turn_term.specs.Agreeing.{Chosen, Agrees}
-use Rattle.turn_term.specs.Taking.{takenOf, Ended, changedBy, Takes}
-use Rattle.turn_term.specs.declared.Taken.the-variants as T
+use Rattle.turn_term.specs.FinalTerm.{Ended}
 
 -- ---- a run as one number, and back
 unpacked : (r : Two) → r .0 < 16384 → unpack (packed r) ≡ r
@@ -146,43 +139,3 @@ module _ (lim : Limits) (t : Tables) (of : Two → ℕ) (terms runs : List ℕ) 
           grows = rw unlisted at (A .grows);
           listIs = A .listIs ∙ (λ i. actionList (isCommutative (kindOf t (a .op))) terms runs (l i) (k i));
         })
-
--- ---- the answer
-pub changed-is : (k : ℕ) (t : Tables) (of : Two → ℕ) (list : List ℕ) (h : How) (c : Choice) → Chosen k t of list h c → changedBy h ≡ elim c [ stay ↦ false | act a ↦ true ]
-changed-is k t of list H.Stay c e = rw e refl
-changed-is k t of list (H.Aligned v) c e = rw (e .1) refl
-changed-is k t of list (H.Plan o m) c e = rw (e .is) refl
-
-module _ (k : ℕ) (t : Tables) (of : Two → ℕ) (list : List ℕ) (b : Best) (w : Turn) (A : Agrees k t of list b w) where
-  pub taken-to : (z : Res Interned) (j : ℕ) → E.Term j ≡ enteredOf z → (x : Bool) → x ≡ changedBy (b .how) → T.To (record { size = b .size; mass = b .mass; term = j; changed = x }) ≡ takenOf w z
-  taken-to (ok a) j e x f =
-      let u : b .size ≡ w .quality .0 = ap (λ (s : Two). s .0) (A .quality) in
-      let v : b .mass ≡ w .quality .1 = ap (λ (s : Two). s .1) (A .quality) in
-      let y : j ≡ a .term = cc in
-      let g : x ≡ changes w = f ∙ changed-is k t of list (b .how) (w .choice) (A .chosen) in
-      λ i. T.To (record { size = u i; mass = v i; term = y i; changed = g i })
-  taken-to (refused n) j e x f = absurd (let y : _≡_ {A = ℕ} 0 1 = cc in omega arith)
-
-  pub taken-full : (z : Res Interned) → E.Full ≡ enteredOf z → T.Full ≡ takenOf w z
-  taken-full (ok a) e = absurd (let y : _≡_ {A = ℕ} 0 1 = cc in omega arith)
-  taken-full (refused n) e = refl
-
--- ---- the turn's end
-module _ (lim : Limits) (t : Tables) (q : Two → Two) (of : Two → ℕ) (p : Two) (k : ℕ) (terms runs terms′ runs′ list list′ : List ℕ) (b : Best) (A : Agrees k t of list b (turnOf t q p)) (e : Entered)
-    (D : Ended lim t of terms runs (of p) (turnOf t q p .choice) list terms′ runs′ list′ e) where
-  pub takes-full : e ≡ E.Full → Takes lim t q of p terms runs terms′ runs′ T.Full
-  takes-full f = record {
-    answer = taken-full k t of list b (turnOf t q p) A (choiceTerm lim t of (poolOf terms runs) (of p) (turnOf t q p .choice)) (sym f ∙ D .answer);
-    pool = D .pool;
-    holds = D .holds;
-    grows = D .grows;
-  }
-
-  pub takes-to : (j : ℕ) → e ≡ E.Term j → (size mass : ℕ) (x : Bool) → size ≡ b .size → mass ≡ b .mass → x ≡ changedBy (b .how)
-      → Takes lim t q of p terms runs terms′ runs′ (T.To (record { size = size; mass = mass; term = j; changed = x }))
-  takes-to j f size mass x u v g = record {
-    answer = (λ i. T.To (record { size = u i; mass = v i; term = j; changed = x })) ∙ taken-to k t of list b (turnOf t q p) A (choiceTerm lim t of (poolOf terms runs) (of p) (turnOf t q p .choice)) j (sym f ∙ D .answer) x g;
-    pool = D .pool;
-    holds = D .holds;
-    grows = D .grows;
-  }

@@ -2,11 +2,11 @@ use Rattle.spec.specs.Image.{tablesOf}
 use Rattle.query.specs.Settings.{limitsOf}
 use Rattle.arrays.specs.Arrays.{qualityIn, termIn}
 use Rattle.interning.specs.declared.Entered.the-variants as E
-use Rattle.turn_term.specs.Ending.{takes-full, takes-to}
+use Rattle.turn_end.specs.Ending.{takes-full, takes-to}
 use mathlib.Core.Path.{refl}
 use borrow.Author.Needs.{needs}
-use Rattle.turn_term.proofs.end_turn.Statement.{statement}
-use Rattle.turn_term.proofs.end_turn.Tie as tie
+use Rattle.turn_end.proofs.end_turn.Statement.{statement}
+use Rattle.turn_end.proofs.end_turn.Tie as tie
 
 turn-term-requires : tie.Need-turn-term-requires
 turn-term-requires c κs = search needs
