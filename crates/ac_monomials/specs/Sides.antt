@@ -12,7 +12,7 @@ use Rattle.spec.specs.Bytes.{pick, both, filter}
 use Rattle.spec.specs.Image.{Tables, NO-IDENTITY, identityOf}
 use Rattle.spec.specs.Monomial.{Monomial, MonomialPair, total, pairOf, padPair, bothItself, narrow, narrowPairs}
 use Rattle.laws.specs.Monomials.{total-insert}
-use Rattle.monomial.specs.Terms.{terms, held}
+use Rattle.monomial_terms.specs.Terms.{terms, held}
 use Rattle.monomial.specs.Places.{monomialAt}
 use Rattle.padding.specs.Pad.{levelled, unmatched, bothNarrow, paddedOf, answerOf, sidesOf}
 use Rattle.ac_monomials.specs.Actions.{actionOver, actionsAt, Answered}

@@ -6,7 +6,7 @@ ghost use lib.ListN.{length};
 ghost use Rattle.spec.specs.Image.{tablesOf};
 ghost use Rattle.laws.specs.Valid.{Valid};
 ghost use Rattle.image.specs.Loaded.{Loaded};
-ghost use Rattle.monomial.specs.Terms.{NUMBERS};
+ghost use Rattle.monomial_terms.specs.Terms.{NUMBERS};
 ghost use Rattle.ac_monomials.specs.Actions.{Answered};
 use ac_repr::Walk;
 use image::Image;

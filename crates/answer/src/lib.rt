@@ -13,7 +13,7 @@ use frames::is_framed;
 use frames::print;
 use frames::query_of;
 use frames::refusal;
-use outcome::clear_all;
+use work_clearing::clear_all;
 
 // the merge that a framed input asks for
 fn ask(

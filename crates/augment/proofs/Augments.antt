@@ -26,7 +26,7 @@ use Rattle.search.specs.Holds.{NetHolds, FlowHolds, MarginsHold, Ready, Found}
 use Rattle.augment.specs.Sending.{Midway, Sent, stuck, along}
 use Rattle.search.specs.Walk.{walkNet, Leads, arrived, onward, LAST}
 use Rattle.search.specs.Fits.{few}
-use Rattle.labels.specs.Net.{predOf, NODES}
+use Rattle.net.specs.Net.{predOf, NODES}
 use Rattle.cost_matrix.specs.Matrix.{CostsHold}
 use Rattle.cost_matrix.specs.Places.{place-of}
 use Rattle.augmenting_path.specs.Path.{Step, Steps, noStep, andStep, leftOn, leastOn, sentOn, sent}

@@ -6,7 +6,7 @@ ghost use Rattle.spec.specs.Transport.{WIDEST};
 ghost use Rattle.search.specs.Walk.{LAST, stepsFrom};
 ghost use Rattle.augmenting_path.specs.Path.{Step, Steps, leftOn, leastOn, sentOn, sent};
 use cost_matrix::WIDEST;
-use labels::NODES;
+use net::NODES;
 use numbers::put_u64;
 use search::LAST;
 use search::MARGINS;

@@ -12,8 +12,8 @@ use Rattle.spec.specs.Monomial.{Monomial, MonomialPair, pairOf, classes, narrow
 use Rattle.spec.specs.Action.{cellPairs}
 use Rattle.spec.specs.Meaning.{In}
 use Rattle.lgg.specs.Lists.{length-map, get-in}
-use Rattle.monomial.specs.Terms.{TERMS, NUMBERS, terms, held}
-use Rattle.monomial.specs.TermLaws.{held-length}
+use Rattle.monomial_terms.specs.Terms.{TERMS, NUMBERS, terms, held}
+use Rattle.monomial_terms.specs.TermLaws.{held-length}
 use Rattle.cost_matrix.specs.Places.{cells-fit, div-in}
 
 -- ---- each row with each column

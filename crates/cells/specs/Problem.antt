@@ -17,8 +17,8 @@ use Rattle.spec.specs.Round.{cellsOver}
 use Rattle.laws.specs.Buffers.{over}
 use Rattle.flow.specs.Magnitude.{Small}
 use Rattle.lgg.specs.Lists.{length-map}
-use Rattle.monomial.specs.Terms.{TERMS, NUMBERS, terms, held}
-use Rattle.monomial.specs.TermLaws.{held-length}
+use Rattle.monomial_terms.specs.Terms.{TERMS, NUMBERS, terms, held}
+use Rattle.monomial_terms.specs.TermLaws.{held-length}
 use Rattle.arrays.specs.Arrays.{qualityIn}
 use Rattle.cells.specs.Cells.{with, sidesOf, Sides, cell-count}
 

@@ -4,7 +4,7 @@ ghost use Prim.Native.Nat.{_*_, _<_};
 ghost use lib.ListN.{getD};
 ghost use Rattle.spec.specs.Action.{cellPairs};
 ghost use Rattle.cells.specs.Cells.{with, sidesOf, Sides};
-use monomial::class_at;
+use monomial_terms::class_at;
 use numbers::size_u64;
 
 // A cell's pair of classes.

@@ -23,8 +23,8 @@ use Rattle.actions.specs.Place as P
 use Rattle.enumeration.specs.Remaining as R
 use Rattle.enumeration.specs.Seek.{seekOf}
 use Rattle.enumeration.specs.SeekLaws.{seek-list}
-use Rattle.monomial.specs.Terms.{TERMS, NUMBERS, terms, held}
-use Rattle.monomial.specs.TermLaws.{terms-length}
+use Rattle.monomial_terms.specs.Terms.{TERMS, NUMBERS, terms, held}
+use Rattle.monomial_terms.specs.TermLaws.{terms-length}
 use Rattle.padding.specs.Pad.{Few}
 use Rattle.ac_repr.specs.Walk.{Within, Stepped, walks, allWalks, leftOf, afterOf}
 use Rattle.ac_monomials.specs.Actions.{Answered, actionsAt}

@@ -13,7 +13,7 @@ ghost use Rattle.image.specs.Loaded.{Loaded};
 ghost use Rattle.query.specs.Settings.{limitsOf};
 ghost use Rattle.arrays.specs.Arrays.{pairsIn};
 ghost use Rattle.actions.specs.Place.{Stands, actionAt};
-ghost use Rattle.monomial.specs.Terms.{TERMS, NUMBERS, held};
+ghost use Rattle.monomial_terms.specs.Terms.{TERMS, NUMBERS, held};
 ghost use Rattle.ac_monomials.specs.Actions.{actionsAt};
 ghost use Rattle.entering.specs.Growing.{AllSmall, Graph, Grows};
 ghost use Rattle.graph.specs.Building.{Builds};
@@ -37,7 +37,7 @@ use enumeration::Sought;
 use enumeration::seek;
 use enumeration::start;
 use image::Image;
-use monomial::class_at;
+use monomial_terms::class_at;
 use numbers::size_u64;
 use padding::Padded;
 use query::Limits;
@@ -185,8 +185,8 @@ fn enter_transport(
     requires { ⌜ Loaded (now s) im × Valid (tablesOf (now s)) × (l < im .classes) × (r < im .classes) × (w .op < im .operations) × Graph (limitsOf lim) (im .classes) n (now graph) × AllSmall (im .classes) (each (λ a. cellPairs (a .sides)) (actionsAt (tablesOf (now s)) l r w)) ⌝ }
     ensures { λ x. ⌜ Grows (limitsOf lim) (im .classes) (enterAll (limitsOf lim) (pairsIn (im .classes) (now (graph .entry)) n) (each (λ a. cellPairs (a .sides)) (actionsAt (tablesOf (now (s .entry))) l r w))) (now (graph .exit)) x ⌝ }
 {
-    let mut left = [0u64; monomial::NUMBERS];
-    let mut right = [0u64; monomial::NUMBERS];
+    let mut left = [0u64; monomial_terms::NUMBERS];
+    let mut right = [0u64; monomial_terms::NUMBERS];
     match monomials(s, im, l, r, w, &mut left, &mut right) {
         Padded::Nothing => Grown::To(n),
         Padded::Pair(rows, cols) => enter_cells(

@@ -13,7 +13,8 @@ use Rattle.spec.specs.Pool.{Pool, Node, sameNode, runCount, Interned, interned,
 use Rattle.lgg.specs.PoolIntern.{Extends, extends-refl}
 use Rattle.terms.specs.Buffers.{part, pack, unpack, nodeOf, poolOf}
 use Rattle.terms.specs.Chains.{keyOf, Holds}
-use Rattle.interning.specs.Interning.{enterTerm, enterRuns, poolAfter, grew, Interning}
+use Rattle.interning.specs.Interning.{poolAfter, grew, Interning}
+use Rattle.term_entry.specs.TermEntry.{enterTerm, enterRuns}
 use Rattle.terms.specs.PartLaws.{part-length, part-take}
 use Rattle.interning.specs.Growing.{Buffers, headOf, laid, laidOver, Grows}
 use Rattle.interning.specs.declared.Entered.{Entered}

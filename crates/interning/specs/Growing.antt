@@ -7,7 +7,7 @@ use Rattle.spec.specs.Pool.{Pool, Node}
 use Rattle.lgg.specs.PoolIntern.{Extends}
 use Rattle.terms.specs.Buffers.{pack, poolOf}
 use Rattle.terms.specs.Chains.{keyOf, Holds}
-use Rattle.interning.specs.Interning.{enterTerm, enterRuns}
+use Rattle.term_entry.specs.TermEntry.{enterTerm, enterRuns}
 
 -- the pool's two buffers: terms, runs
 abbrev pub Buffers : Type 0

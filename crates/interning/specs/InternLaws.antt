@@ -14,11 +14,12 @@ use Rattle.lgg.specs.PoolTrees.{node-ext}
 use Rattle.lgg.specs.PoolIntern.{both-true, same-twos, place-passes, intern-there, intern-enters}
 use Rattle.terms.specs.Buffers.{BUCKETS, LEAST, part, unpack, nodeOf, nodeIn, nodesIn, poolOf, partIn, lengthIn, firstIn, countIn}
 use Rattle.terms.specs.Chains.{keyOf, Holds, Rooms}
-use Rattle.interning.specs.Interning.{Sought, enterTerm, enterRuns, poolAfter, Interning}
+use Rattle.interning.specs.Interning.{Sought, poolAfter, Interning}
+use Rattle.term_entry.specs.TermEntry.{enterTerm, enterRuns}
 use Rattle.interning.specs.declared.Entered.the-variants as E
 use Rattle.terms.specs.PartLaws.{part-length}
 use Rattle.terms.specs.PoolLaws.{pool-length, pool-at}
-use Rattle.interning.specs.EnterLaws.{adds, pool-new, holds-new}
+use Rattle.term_entry.specs.EnterLaws.{adds, pool-new, holds-new}
 
 same-node : (x y : Node) → sameNode x y ≡ true → x ≡ y
 same-node x y e =

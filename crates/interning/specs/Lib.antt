@@ -1,9 +1,6 @@
 pub mod Interning
-pub mod KeyLaws
 pub mod SameLaws
 pub mod ChainLaws
-pub mod CopyLaws
-pub mod EnterLaws
 pub mod InternLaws
 pub mod Growing
 pub mod GrowLaws

@@ -1,58 +1,18 @@
-// The labels of a search (transport.rs): each node's distance from the source and its predecessor, and the first-in first-out queue of the nodes that have a new one.
+// The labels of a search (transport.rs): how a search begins, and how the edge to a node gives it a lower label, a predecessor and a place in the queue.
 ghost use mathlib.Core.Path.{_≡_};
 ghost use Prim.Native.Nat.{_+_, _≤_, _<_};
-ghost use lib.ListN.{set};
-ghost use Rattle.labels.specs.Net.{NODES, NET, labelOf, joined, labelled, offered, improved, relaxed, left, firstOf, headOf, countOf, unseenTo, begun};
-use cost_matrix::WIDEST;
+ghost use Rattle.net.specs.Net.{NODES, NET, labelled, offered, improved, relaxed, unseenTo, begun};
+use net::COUNT;
+use net::HEAD;
+use net::HIGH;
+use net::NET;
+use net::NODES;
+use net::PRED;
+use net::STATE;
+use net::join;
+use net::label;
+use net::put;
 use wide::Wide;
-
-// The source, the rows, the columns and the sink.
-pub const NODES: usize = 2 * WIDEST + 2;
-
-// The net: where the labels' high words stand, the predecessors, the states (0 unseen, 1 seen, 2 queued), the queue's ring, its first place, and how many nodes it holds.
-const HIGH: usize = NODES;
-
-pub const PRED: usize = 2 * NODES;
-
-pub const STATE: usize = 3 * NODES;
-
-const RING: usize = 4 * NODES;
-
-const HEAD: usize = 5 * NODES;
-
-pub const COUNT: usize = 5 * NODES + 1;
-
-pub const NET: usize = 5 * NODES + 2;
-
-// The label of node v.
-pub fn label(net: &[u64; NET], v: usize) -> Wide
-    requires { ⌜ v < NODES ⌝ }
-    ensures { λ r. ⌜ r ≡ labelOf (now (net .entry)) v ⌝ }
-{
-    Wide {
-        lo: net[v],
-        hi: net[HIGH + v],
-    }
-}
-
-fn put(net: &mut [u64; NET], at: usize, x: u64)
-    requires { ⌜ at < NET ⌝ }
-    ensures { λ _. ⌜ now (net .exit) ≡ set (now (net .entry)) at x ⌝ }
-{
-    net[at] = x;
-}
-
-// Node v joins the queue.
-fn join(net: &mut [u64; NET], v: usize)
-    requires { ⌜ v < NODES ⌝ }
-    ensures { λ _. ⌜ now (net .exit) ≡ joined (now (net .entry)) v ⌝ }
-{
-    let at = std::num::wrapping_add_u64(net[HEAD], net[COUNT]) % NODES as u64;
-    let n = std::num::wrapping_add_u64(net[COUNT], 1);
-    put(net, RING + at as usize, v as u64);
-    put(net, STATE + v, 2);
-    put(net, COUNT, n);
-}
 
 fn put_label(net: &mut [u64; NET], u: usize, v: usize, d: Wide)
     requires { ⌜ v < NODES ⌝ }
@@ -119,18 +79,4 @@ pub fn begin(net: &mut [u64; NET], t: usize)
     put(net, COUNT, 0);
     put_label(net, 0, 0, Wide { lo: 0, hi: 0 });
     join(net, 0);
-}
-
-// The first node leaves the queue.
-pub fn leave(net: &mut [u64; NET]) -> usize
-    requires { ⌜ (headOf (now net) < NODES) × (firstOf (now net) < NODES) × (0 < countOf (now net)) ⌝ }
-    ensures { λ r. ⌜ (r ≡ firstOf (now (net .entry))) × (now (net .exit) ≡ left (now (net .entry))) ⌝ }
-{
-    let h = net[HEAD];
-    let n = net[COUNT];
-    let u = net[RING + h as usize] as usize;
-    put(net, STATE + u, 1);
-    put(net, HEAD, (h + 1) % NODES as u64);
-    put(net, COUNT, n - 1);
-    u
 }

@@ -9,7 +9,7 @@ ghost use Rattle.spec.specs.Transport.{largest, massOf, weight};
 ghost use Rattle.laws.specs.Buffers.{over};
 ghost use Rattle.wide.specs.Value.{unsigned};
 ghost use Rattle.arrays.specs.Arrays.{Known, qualityIn};
-ghost use Rattle.monomial.specs.Terms.{TERMS, NUMBERS, held};
+ghost use Rattle.monomial_terms.specs.Terms.{TERMS, NUMBERS, held};
 ghost use Rattle.cost_matrix.specs.Matrix.{costsAfter};
 ghost use Rattle.cells.specs.Cells.{sidesOf, Sides, Joined};
 ghost use Rattle.cells.specs.Problem.{problemAt};
@@ -32,7 +32,7 @@ fn lay_margin(mono: &[u64], n: usize, margin: &mut [u32])
 {
     let mut i = 0;
     while i < n {
-        put_u32(margin, i, short_u64(monomial::count_at(mono, i)));
+        put_u32(margin, i, short_u64(monomial_terms::count_at(mono, i)));
         i += 1;
     }
 }

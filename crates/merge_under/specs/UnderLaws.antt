@@ -25,6 +25,7 @@ use Rattle.query.specs.Settings.{askedOf}
 use Rattle.query.specs.declared.Query.{Query}
 use Rattle.arrays.specs.ArrayLaws.{square}
 use Rattle.outcome.specs.Answers as X
+use Rattle.work_clearing.specs.Cleared as C
 use Rattle.outcome.specs.declared.Answer as O
 use Rattle.outcome.specs.declared.Answer.the-variants as O′
 use Rattle.beginning.specs.Beginning.{Lengths, Ready}
@@ -115,7 +116,7 @@ module _ (lim : Limits) (m : ℕ) (s : List ℕ) (q : Query) where
       says (O′.Refused j) y f = listed-not-ten (length out) j (sym y)
 
 -- ---- what is cleared
-pub cleared-of : {a b c d e f u v w x y z : List ℕ} → X.Cleared a b c d e f u v w x y z → Cleared true a u b v c w d x e y f z
+pub cleared-of : {a b c d e f u v w x y z : List ℕ} → C.Cleared a b c d e f u v w x y z → Cleared true a u b v c w d x e y f z
 cleared-of C = record { graph = C .graph; pairs = C .pairs; work = C .work; flow = C .flow; terms = C .terms; runs = C .runs }
 
 -- cleared from a list as long as the first

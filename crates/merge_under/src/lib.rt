@@ -45,11 +45,11 @@ fn finish(
 {
     match p {
         Prepared::Refused(k) => {
-            outcome::clear_all(graph, pairs, work, flow, terms, runs);
+            work_clearing::clear_all(graph, pairs, work, flow, terms, runs);
             Answer::Refused(k)
         }
         Prepared::Doubled(d) => {
-            outcome::clear_all(graph, pairs, work, flow, terms, runs);
+            work_clearing::clear_all(graph, pairs, work, flow, terms, runs);
             Answer::Doubled(d)
         }
         Prepared::Go(im, b) => answer_of(exact_fixed::finish(

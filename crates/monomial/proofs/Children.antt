@@ -19,9 +19,9 @@ use Rattle.classes.specs.Spans.{memberSpan}
 use Rattle.members.specs.Spans.{childSpan}
 use Rattle.image.specs.declared.Image.{Image}
 use Rattle.image.specs.declared.Span.{Span}
-use Rattle.monomial.specs.Terms.{terms, held, front, Holds, Roomy}
+use Rattle.monomial_terms.specs.Terms.{terms, held, front, Holds, Roomy}
 use Rattle.monomial.specs.Places.{Made, monomialAt}
-use Rattle.monomial.specs.TermLaws.{terms-length, held-length, held-is, front-front, Grow, grow}
+use Rattle.monomial_terms.specs.TermLaws.{terms-length, held-length, held-is, front-front, Grow, grow}
 
 -- ---- the loop over the children
 pub record Upto (t : Tables) (first to : ℕ) (s₀ s : List ℕ) (n k : ℕ) : Type 0 where

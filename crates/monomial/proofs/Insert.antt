@@ -12,8 +12,8 @@ use lib.ListN.{length, take, drop, getD, set, length-append, length-take, length
 use lib.Seq.{drop-cons, paste, take-take, take-add, drop-at, getD-take, length-take-le, set-append-left}
 use Rattle.spec.specs.Bytes.{Two, sum}
 use Rattle.spec.specs.Monomial.{Monomial, insertAdd, total}
-use Rattle.monomial.specs.Terms.{terms, held, position, Holds, Roomy}
-use Rattle.monomial.specs.TermLaws.{terms-length, held-length}
+use Rattle.monomial_terms.specs.Terms.{terms, held, position, Holds, Roomy}
+use Rattle.monomial_terms.specs.TermLaws.{terms-length, held-length}
 
 -- ---- position
 module _ (c : ℕ) (m : Monomial) (i : ℕ) (h : i < length m) where

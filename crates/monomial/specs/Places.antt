@@ -5,7 +5,7 @@ use Prim.Native.Nat.{ℕ, _+_, _*_, _≤_}
 use lib.Dec.{ltb}
 use Rattle.spec.specs.Image.{Tables, theClass, theMember, childrenOf}
 use Rattle.spec.specs.Monomial.{Monomial, addAll, monomial, total, itself, COUNT}
-use Rattle.monomial.specs.Terms.{Holds}
+use Rattle.monomial_terms.specs.Terms.{Holds}
 
 -- the total of 64 children of 32-bit counts
 abbrev pub TOTAL : ℕ

@@ -2,36 +2,18 @@
 ghost use mathlib.Core.Path.{_≡_};
 ghost use mathlib.Core.List.{_∷_};
 ghost use Prim.Native.Nat.{_+_, _≤_, _<_};
-ghost use lib.ListN.{length, getD, set, drop};
+ghost use lib.ListN.{length, set, drop};
 ghost use lib.Seq.{paste};
 ghost use Rattle.spec.specs.Image.{tablesOf, theMember, childrenOf};
 ghost use Rattle.spec.specs.Monomial.{insertAdd, monomial, itself};
 ghost use Rattle.laws.specs.Valid.{Valid};
 ghost use Rattle.image.specs.Loaded.{Loaded, theChild};
-ghost use Rattle.monomial.specs.Terms.{TERMS, NUMBERS, terms, held, position, Holds, Roomy};
+ghost use Rattle.monomial_terms.specs.Terms.{TERMS, NUMBERS, terms, held, position, Holds, Roomy};
 ghost use Rattle.monomial.specs.Places.{Made, monomialAt};
 use image::Image;
+use monomial_terms::class_at;
+use monomial_terms::count_at;
 use numbers::long_size;
-
-// 64 children and the identity, and the length of a buffer that holds them.
-pub const TERMS: usize = 65;
-
-pub const NUMBERS: usize = 2 * TERMS;
-
-// ---- a term: its class and its count
-pub fn class_at(mono: &[u64], i: usize) -> u64
-    requires { ⌜ (length (now mono) ≡ NUMBERS) × (i < TERMS) ⌝ }
-    ensures { λ r. ⌜ r ≡ getD (terms (now (mono .entry))) i (0, 0) .0 ⌝ }
-{
-    mono[2 * i]
-}
-
-pub fn count_at(mono: &[u64], i: usize) -> u64
-    requires { ⌜ (length (now mono) ≡ NUMBERS) × (i < TERMS) ⌝ }
-    ensures { λ r. ⌜ r ≡ getD (terms (now (mono .entry))) i (0, 0) .1 ⌝ }
-{
-    mono[2 * i + 1]
-}
 
 fn put_term(mono: &mut [u64], i: usize, c: u64, k: u64)
     requires { ⌜ (length (now mono) ≡ NUMBERS) × (i < TERMS) ⌝ }

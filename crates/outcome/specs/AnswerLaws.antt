@@ -6,7 +6,7 @@ use Prim.Native.Nat.{ℕ, _≤_}
 use native.Mathlib.Omega.{arith}
 use lib.Dec.{leb}
 use borrow.Author.Tests.{leb-true}
-use lib.ListN.{length, take, drop, replicate}
+use lib.ListN.{length, take, drop}
 use lib.Seq.{take-append-seam}
 use Rattle.spec.specs.Bytes.{pick, Res, ok, refused, _>>=_, rule}
 use Rattle.spec.specs.Run as run
@@ -17,7 +17,7 @@ use Rattle.listing.specs.Lists as L
 use Rattle.widths.specs.declared.Report.{Report}
 use Rattle.listing.specs.declared.Written.{Written}
 use Rattle.listing.specs.declared.Written.the-variants as W
-use Rattle.outcome.specs.Answers.{outcomeIn, listedOf, answerOf, Answers, Cleared}
+use Rattle.outcome.specs.Answers.{outcomeIn, listedOf, answerOf, Answers}
 use Rattle.outcome.specs.declared.Outcome.{Outcome}
 use Rattle.outcome.specs.declared.Answer.{Answer}
 use Rattle.outcome.specs.declared.Answer.the-variants as A
@@ -82,19 +82,3 @@ unfolding listedOf
 answer-same m u v out out′ r e s X =
     let z : listedOf m (length out) ≡ listedOf (ok v) (length out) = rw e (ap (λ (l : List ℕ). rule 14 (leb (length l) (length out)) >>= λ _. ok l) s) in
     record { answer = X .answer ∙ sym z; output = X .output ∙ ap (outputAfter out) (sym z); fits = X .fits }
-
--- buffers of the same lengths, cleared
-pub cleared-same : {graph pairs work flow terms runs graph₁ pairs₁ work₁ flow₁ terms₁ runs₁ graph′ pairs′ work′ flow′ terms′ runs′ : List ℕ} → Cleared graph₁ pairs₁ work₁ flow₁ terms₁ runs₁ graph′ pairs′ work′ flow′ terms′ runs′
-    → length graph₁ ≡ length graph → length pairs₁ ≡ length pairs → length work₁ ≡ length work → length flow₁ ≡ length flow → length terms₁ ≡ length terms → length runs₁ ≡ length runs
-    → Cleared graph pairs work flow terms runs graph′ pairs′ work′ flow′ terms′ runs′
-cleared-same X a b c d e f = record {
-  graph = X .graph ∙ again a;
-  pairs = X .pairs ∙ again b;
-  work = X .work ∙ again c;
-  flow = X .flow ∙ again d;
-  terms = X .terms ∙ again e;
-  runs = X .runs ∙ again f;
-}
-  where
-    again : {m n : ℕ} → m ≡ n → replicate {A = ℕ} m 0 ≡ replicate n 0
-    again e = ap (λ (k : ℕ). replicate {A = ℕ} k 0) e

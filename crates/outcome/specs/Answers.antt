@@ -1,9 +1,9 @@
--- What is answered of a run: a listing at the output's front, or a refusal; and the work buffers cleared.
+-- What is answered of a run: a listing at the output's front, or a refusal.
 use mathlib.Core.Path.{_≡_}
 use mathlib.Core.List.{List}
 use Prim.Native.Nat.{ℕ, _*_, _≤_, _<_}
 use lib.Dec.{leb}
-use lib.ListN.{length, take, replicate}
+use lib.ListN.{length, take}
 use Rattle.spec.specs.Bytes.{Res, ok, refused, _>>=_, rule}
 use Rattle.spec.specs.Run as run
 use Rattle.spec.specs.Listing.{listingOf}
@@ -48,12 +48,3 @@ pub record Answers (m : Res run.Outcome) (out out′ : List ℕ) (r : Answer) : 
   pub answer : answerOf out′ r ≡ listedOf m (length out)
   pub output : out′ ≡ outputAfter out (listedOf m (length out))
   pub fits : (n : ℕ) → r ≡ A.Listing n → n ≤ length out
-
--- "An accepted call clears the work buffers too (every number zero)"
-pub record Cleared (graph₀ pairs₀ work₀ flow₀ terms₀ runs₀ graph′ pairs′ work′ flow′ terms′ runs′ : List ℕ) : Type 0 where
-  pub graph : graph′ ≡ replicate (length graph₀) 0
-  pub pairs : pairs′ ≡ replicate (length pairs₀) 0
-  pub work : work′ ≡ replicate (length work₀) 0
-  pub flow : flow′ ≡ replicate (length flow₀) 0
-  pub terms : terms′ ≡ replicate (length terms₀) 0
-  pub runs : runs′ ≡ replicate (length runs₀) 0

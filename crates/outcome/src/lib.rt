@@ -8,7 +8,9 @@ ghost use lib.ListN.{length};
 ghost use Rattle.spec.specs.Bytes.{ok};
 ghost use Rattle.terms.specs.Buffers.{countIn};
 ghost use Rattle.terms.specs.Chains.{Holds};
-ghost use Rattle.outcome.specs.Answers.{outcomeIn, ranIn, Listable, Answers, Cleared};
+ghost use Rattle.outcome.specs.Answers.{outcomeIn, ranIn, Listable, Answers};
+ghost use Rattle.work_clearing.specs.Cleared.{Cleared};
+use work_clearing::clear_all;
 
 // what a run reports; root is its term's number
 pub struct Outcome {
@@ -75,25 +77,6 @@ fn list_ran(x: Ran, terms: &[u32], runs: &[u64], marks: &mut [u16], out: &mut [u
             return list_outcome(o, terms, runs, marks, out);
         }
     }
-}
-
-// "every number zero"
-pub fn clear_all(
-    graph: &mut [u16],
-    pairs: &mut [u32],
-    work: &mut [u64],
-    flow: &mut [u64],
-    terms: &mut [u32],
-    runs: &mut [u64],
-)
-    ensures { λ _. ⌜ Cleared (now (graph .entry)) (now (pairs .entry)) (now (work .entry)) (now (flow .entry)) (now (terms .entry)) (now (runs .entry)) (now (graph .exit)) (now (pairs .exit)) (now (work .exit)) (now (flow .exit)) (now (terms .exit)) (now (runs .exit)) ⌝ }
-{
-    clearing::clear_u16(graph);
-    clearing::clear_u32(pairs);
-    clearing::clear_u64(work);
-    clearing::clear_u64(flow);
-    clearing::clear_u32(terms);
-    clearing::clear_u64(runs);
 }
 
 // The listing of what a run came to, or its refusal; then every work buffer is cleared. `graph` serves as the listing's marks.

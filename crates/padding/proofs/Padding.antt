@@ -10,12 +10,12 @@ use lib.ListN.{length}
 use Rattle.spec.specs.Bytes.{pick, both, sum, sameTwos}
 use Rattle.spec.specs.Image.{NO-IDENTITY}
 use Rattle.spec.specs.Monomial.{Monomial, insertAdd, total, itself, bothItself}
-use Rattle.monomial.specs.Terms.{terms, held, front, Holds, Roomy}
+use Rattle.monomial_terms.specs.Terms.{terms, held, front, Holds, Roomy}
 use Rattle.padding.specs.Pad.{levelBy, levelled, unmatched, bothNarrow, paddedOf, answerOf, Pads, Paddable}
 use Rattle.monomial.specs.Places.{TOTAL}
 use Rattle.padding.specs.declared.Padded.{Padded}
 use Rattle.padding.specs.declared.Padded.the-variants.{Pair, Nothing}
-use Rattle.monomial.specs.TermLaws.{held-length, held-is, held-same, grow}
+use Rattle.monomial_terms.specs.TermLaws.{held-length, held-is, held-same, grow}
 
 -- ---- level: the smaller one gets what it lacks
 module _ (m : Monomial) (id a b : ℕ) (s u : List ℕ) (r : ℕ) where

@@ -10,8 +10,8 @@ use lib.ListN.{length, drop, getD, drop-of-length-le}
 use lib.Seq.{drop-cons, getD-take}
 use Rattle.spec.specs.Bytes.{Two, both, all, sum, sameTwo, sameTwos}
 use Rattle.spec.specs.Monomial.{Monomial, total, narrow, itself, COUNT}
-use Rattle.monomial.specs.Terms.{terms, held}
-use Rattle.monomial.specs.TermLaws.{held-length}
+use Rattle.monomial_terms.specs.Terms.{terms, held}
+use Rattle.monomial_terms.specs.TermLaws.{held-length}
 
 -- ---- turns: y is the count at place i
 module _ (s : List ℕ) (n i y : ℕ) (l : length s ≡ 130) (b : n ≤ 65) (h : i < n) (e : y ≡ getD (terms s) i (0, 0) .1) where

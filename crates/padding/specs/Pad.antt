@@ -8,7 +8,7 @@ use lib.ListN.{length}
 use Rattle.spec.specs.Bytes.{pick, both, all}
 use Rattle.spec.specs.Image.{NO-IDENTITY}
 use Rattle.spec.specs.Monomial.{Monomial, MonomialPair, insertAdd, total, pairOf, bothItself, narrow}
-use Rattle.monomial.specs.Terms.{TERMS, NUMBERS, terms, held, front}
+use Rattle.monomial_terms.specs.Terms.{TERMS, NUMBERS, terms, held, front}
 use Rattle.monomial.specs.Places.{TOTAL}
 use Rattle.padding.specs.declared.Padded.{Padded}
 use Rattle.padding.specs.declared.Padded.the-variants.{Pair, Nothing}

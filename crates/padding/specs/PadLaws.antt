@@ -9,8 +9,8 @@ use lib.ListN.{length}
 use Rattle.spec.specs.Bytes.{Two, pick}
 use Rattle.spec.specs.Image.{NO-IDENTITY}
 use Rattle.spec.specs.Monomial.{Monomial, insertAdd, total}
-use Rattle.monomial.specs.Terms.{terms, held, front}
-use Rattle.monomial.specs.TermLaws.{held-is, front-front, grow}
+use Rattle.monomial_terms.specs.Terms.{terms, held, front}
+use Rattle.monomial_terms.specs.TermLaws.{held-is, front-front, grow}
 use Rattle.monomial.specs.Places.{Made}
 use Rattle.padding.specs.Pad.{levelled, answerOf, Pads, Paddable}
 use Rattle.padding.specs.declared.Padded.{Padded}

@@ -4,13 +4,13 @@ ghost use Prim.Native.Nat.{_≤_, _<_, _^_};
 ghost use lib.ListN.{length};
 ghost use Rattle.spec.specs.Bytes.{sameTwos};
 ghost use Rattle.spec.specs.Monomial.{total, narrow, itself, bothItself};
-ghost use Rattle.monomial.specs.Terms.{TERMS, NUMBERS, held, Holds};
+ghost use Rattle.monomial_terms.specs.Terms.{TERMS, NUMBERS, held, Holds};
 ghost use Rattle.monomial.specs.Places.{TOTAL};
 ghost use Rattle.padding.specs.Pad.{levelBy, unmatched, bothNarrow, paddedOf, answerOf, Pads, Paddable};
 use image::Image;
 use monomial::add_class;
-use monomial::class_at;
-use monomial::count_at;
+use monomial_terms::class_at;
+use monomial_terms::count_at;
 use numbers::long_size;
 
 fn total(mono: &[u64], n: usize) -> u64

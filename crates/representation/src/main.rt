@@ -6,7 +6,7 @@ ghost use lib.ListN.{length};
 ghost use Rattle.spec.specs.Image.{tablesOf};
 ghost use Rattle.laws.specs.Valid.{Valid};
 ghost use Rattle.image.specs.Loaded.{Loaded};
-ghost use Rattle.monomial.specs.Terms.{TERMS, NUMBERS};
+ghost use Rattle.monomial_terms.specs.Terms.{TERMS, NUMBERS};
 use ac_repr::Step;
 use ac_repr::Walk;
 use image::Image;
@@ -46,7 +46,10 @@ fn terms(mono: &[u64], n: usize)
 {
     let mut i = 0;
     while i < n {
-        term(monomial::class_at(mono, i), monomial::count_at(mono, i));
+        term(
+            monomial_terms::class_at(mono, i),
+            monomial_terms::count_at(mono, i),
+        );
         i += 1;
     }
 }
@@ -70,8 +73,8 @@ fn write(l: usize, r: usize, op: usize, left: &[u64], n: usize, right: &[u64], m
 fn line(s: &[u8], im: Image, l: usize, r: usize, w: Walk)
     requires { ⌜ Loaded (now s) im × Valid (tablesOf (now s)) × (l < im .classes) × (r < im .classes) × (w .op < im .operations) ⌝ }
 {
-    let mut left = [0u64; monomial::NUMBERS];
-    let mut right = [0u64; monomial::NUMBERS];
+    let mut left = [0u64; monomial_terms::NUMBERS];
+    let mut right = [0u64; monomial_terms::NUMBERS];
     let found = ac_monomials::monomials(s, im, l, r, w, &mut left, &mut right);
     match found {
         Padded::Pair(n, m) => {

@@ -15,8 +15,8 @@ use Rattle.lgg.specs.Lists.{clash, get-in}
 use Rattle.arrays.specs.Arrays.{given}
 use Rattle.arrays.specs.ArrayLaws.{given-other, given-size, given-mass, given-term}
 use Rattle.live_pairs.specs.Live.{liveIn}
-use Rattle.settling.specs.Settling.{settledAt, settled, Ends}
-use Rattle.settling.specs.SettleLaws.{settled-length, settled-new}
+use Rattle.pair_settling.specs.Settling.{settledAt, settled, Ends}
+use Rattle.pair_settling.specs.SettleLaws.{settled-length, settled-new}
 use Rattle.visits.specs.Visiting.{Idle}
 use Rattle.rounds.specs.Graphs.{InRange}
 

@@ -27,8 +27,8 @@ use Rattle.outcome.specs.Outcomes.{RanTo}
 use Rattle.outcome.specs.declared.Outcome.{Outcome}
 use Rattle.outcome.specs.declared.Ran.{Ran}
 use Rattle.outcome.specs.declared.Ran.the-variants as R
-use Rattle.settling.specs.Settling.{settled, Ends}
-use Rattle.settling.specs.SettleLaws.{settled-length, settled-qualities, settled-terms}
+use Rattle.pair_settling.specs.Settling.{settled, Ends}
+use Rattle.pair_settling.specs.SettleLaws.{settled-length, settled-qualities, settled-terms}
 use Rattle.settling.specs.Quiet.{Quiet, quiet-after}
 use Rattle.budget.specs.declared.Budget.{Budget}
 use Rattle.rounds.specs.Graphs.{InRange, Reads, stateIn}

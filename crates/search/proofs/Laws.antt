@@ -9,7 +9,7 @@ use lib.ListN.{getD, set}
 use Rattle.wide.specs.declared.Wide.{Wide}
 use Rattle.wide.specs.Wrap.{addWords, negWords}
 use native.Mathlib.Nat.{add-assoc, add-zero, sub-zero, mul-le-mul-right}
-use Rattle.labels.specs.Net.{stateOf, labelled, offered, joined, improved, relaxed, labelOf, unseenTo}
+use Rattle.net.specs.Net.{stateOf, labelled, offered, joined, improved, relaxed, labelOf, unseenTo}
 use Rattle.cost_matrix.specs.Matrix.{capOf, costOf}
 use Rattle.search.specs.Edges.{alongMargin, alongCell, againstCell, spreadTo, alongRow, againstColumn, visited, TAKEN}
 use Rattle.spec.specs.Transport.{WIDEST}

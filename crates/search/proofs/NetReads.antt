@@ -9,7 +9,7 @@ use lib.ListN.{length, getD, set, length-set}
 use lib.Seq.{getD-set-same, getD-set-other}
 use Rattle.wide.specs.declared.Wide.{Wide}
 use Rattle.search.specs.Holds.{ringFrom}
-use Rattle.labels.specs.Net.{labelOf, predOf, stateOf, headOf, countOf, labelled, joined, NODES, HIGH, PRED, STATE, RING, HEAD, COUNT, NET}
+use Rattle.net.specs.Net.{labelOf, predOf, stateOf, headOf, countOf, labelled, joined, NODES, HIGH, PRED, STATE, RING, HEAD, COUNT, NET}
 
 -- ---- the ring
 module _ (m : List ℕ) (k v : ℕ) where

@@ -22,7 +22,7 @@ use Rattle.search.proofs.NetReads.{ring-length}
 use Rattle.search.proofs.Visits.{sized, dear103, Going, visit-holds}
 use Rattle.search.specs.Fits.{few}
 use Rattle.search.proofs.Turns.{first-is, first-lt, leave-holds, begin-holds}
-use Rattle.labels.specs.Net.{stateOf, headOf, countOf, firstOf, left, begun, NODES, HIGH, NET}
+use Rattle.net.specs.Net.{stateOf, headOf, countOf, firstOf, left, begun, NODES, HIGH, NET}
 use Rattle.search.specs.Edges.{visited, ranTo, beyond, measure, searchedNet}
 
 module _ {r c : ℕ} {g f y : List ℕ} (R : Ready r c g f y) where

@@ -21,7 +21,7 @@ use Rattle.search.specs.Holds.{NetHolds, ringFrom}
 use Rattle.search.proofs.NetReads.{ring-other, ring-length, labelled-state}
 use Rattle.search.proofs.Once.{one, one-same, one-other, occurs-first}
 use Rattle.search.proofs.Relaxation.{Sized, improved-holds}
-use Rattle.labels.specs.Net.{labelOf, stateOf, headOf, countOf, firstOf, left, unseenTo, begun, NODES, HIGH, PRED, STATE, HEAD, COUNT, NET}
+use Rattle.net.specs.Net.{labelOf, stateOf, headOf, countOf, firstOf, left, unseenTo, begun, NODES, HIGH, PRED, STATE, HEAD, COUNT, NET}
 use Rattle.labels.specs.NetLaws.{improved-joins}
 
 -- ---- a place of the ring by its remainder

@@ -25,7 +25,7 @@ use Rattle.search.specs.Fits.{few}
 use Rattle.search.specs.Holds.{NetHolds, FlowHolds, MarginsHold}
 use Rattle.search.proofs.Laws.{margin-yes, margin-not, cell-yes, cell-not, against-yes, against-not, visited-source, visited-row, visited-column, visited-sink}
 use Rattle.search.proofs.Relaxation.{Sized, relaxed-holds}
-use Rattle.labels.specs.Net.{labelOf, stateOf, relaxed}
+use Rattle.net.specs.Net.{labelOf, stateOf, relaxed}
 use Rattle.cost_matrix.specs.Matrix.{costOf, capOf, CostsHold}
 use Rattle.search.specs.Edges.{alongMargin, alongCell, againstCell, spreadTo, alongRow, againstColumn, visited, TAKEN}
 

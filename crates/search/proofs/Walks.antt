@@ -9,7 +9,7 @@ use borrow.Author.Tests.{eq-eqb, ne-eqb}
 use lib.ListN.{length, getD, set, length-set}
 use lib.Seq.{getD-set-same, getD-set-other}
 use Rattle.search.specs.Walk.{stepsFrom, walkNet, walkedPath, walkedAt, Leads, arrived, onward, here, here-turn, LAST}
-use Rattle.labels.specs.Net.{predOf, NODES}
+use Rattle.net.specs.Net.{predOf, NODES}
 
 -- ---- the walk back
 steps-off : (path : List ℕ) (i x : ℕ) → (n a : ℕ) → i < a → stepsFrom (set path i x) n a ≡ stepsFrom path n a

@@ -6,7 +6,7 @@ use lib.ListN.{getD}
 use Rattle.spec.specs.Bytes.{pick, sumTo}
 use Rattle.wide.specs.declared.Wide.{Wide}
 use Rattle.wide.specs.Wrap.{addWords, negWords}
-use Rattle.labels.specs.Net.{relaxed, labelOf, stateOf, firstOf, left, begun, countOf, HIGH}
+use Rattle.net.specs.Net.{relaxed, labelOf, stateOf, firstOf, left, begun, countOf, HIGH}
 use Rattle.cost_matrix.specs.Matrix.{costOf, capOf}
 use Rattle.spec.specs.Transport.{WIDEST}
 

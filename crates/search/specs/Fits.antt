@@ -5,7 +5,7 @@ use mathlib.Core.List.{List}
 use Rattle.spec.specs.Transport.{Problem, weight, nodeCount}
 use Rattle.flow.specs.Augmentation.{Partial}
 use Rattle.flow.specs.Magnitude.{Small}
-use Rattle.labels.specs.Net.{NODES}
+use Rattle.net.specs.Net.{NODES}
 
 module _ (p : Problem) (S : Small p) (x : List ℕ) (I : Partial p (weight p) x) where
   pub few : nodeCount p ≤ NODES

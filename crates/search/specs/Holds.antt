@@ -14,7 +14,7 @@ use Rattle.flow.specs.Cut.{bit}
 use Rattle.flow.specs.Search.{labelAt, predAt}
 use Rattle.flow.specs.Augmentation.{Partial}
 use Rattle.flow.specs.Magnitude.{Small}
-use Rattle.labels.specs.Net.{labelOf, predOf, stateOf, headOf, countOf, NODES, RING, NET}
+use Rattle.net.specs.Net.{labelOf, predOf, stateOf, headOf, countOf, NODES, RING, NET}
 use Rattle.cost_matrix.specs.Matrix.{CostsHold}
 use Rattle.search.specs.Edges.{TAKEN}
 

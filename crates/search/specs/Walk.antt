@@ -7,7 +7,7 @@ use native.Mathlib.Omega.{arith}
 use lib.Dec.{eqb}
 use lib.ListN.{getD, set}
 use Rattle.spec.specs.Bytes.{pick, Two}
-use Rattle.labels.specs.Net.{predOf, NODES}
+use Rattle.net.specs.Net.{predOf, NODES}
 
 -- the sink's place
 abbrev pub LAST : ℕ

@@ -1,3 +1,1 @@
-pub mod Settling
-pub mod SettleLaws
 pub mod Quiet

@@ -1,3 +1,3 @@
 pub mod Agreeing
-pub mod Taking
-pub mod Ending
+pub mod FinalTerm
+pub mod FinalTermLaws

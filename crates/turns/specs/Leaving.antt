@@ -8,7 +8,7 @@ use Rattle.spec.specs.Action.{transports}
 use Rattle.spec.specs.Round.{turnOf}
 use Rattle.best_aligned.specs.Aligned.{bestAligned}
 use Rattle.offers.specs.Offers.{Work, workOf, offersIn}
-use Rattle.turn_term.specs.Taking.{termList}
+use Rattle.turn_term.specs.FinalTerm.{termList}
 
 -- the structural actions are offered, then the transports
 unfoldable pub turnIn : Limits → Tables → (Two → Two) → (Two → ℕ) → Two → List ℕ → List ℕ → Work

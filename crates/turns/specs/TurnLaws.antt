@@ -28,7 +28,7 @@ use Rattle.cells.specs.Problem.{problemAt}
 use Rattle.plan_offer.specs.Listing.{runsAt}
 use Rattle.plan_offer.specs.Plans.{qualityAt, planned, bestAfter, listAfter}
 use Rattle.turn_term.specs.Agreeing.{Chosen, Agrees}
-use Rattle.turn_term.specs.Taking.{termList}
+use Rattle.turn_term.specs.FinalTerm.{termList}
 use Rattle.turns.specs.Leaving.{Leaves, turnIn}
 use Rattle.offers.specs.Offers.{Work, workOf, laidAt, offerIn, offersIn}
 

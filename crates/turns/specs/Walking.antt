@@ -15,7 +15,7 @@ use Rattle.lgg.specs.Lists.{in-left, in-right}
 use Rattle.lgg.specs.Cells.{CellsFit}
 use Rattle.lgg.specs.TurnAgree.{transport-joins}
 use Rattle.lgg.specs.ReadingsWithin.{joins-within}
-use Rattle.monomial.specs.Terms.{NUMBERS, held}
+use Rattle.monomial_terms.specs.Terms.{NUMBERS, held}
 use Rattle.ac_repr.specs.Walk.{walks, allWalks, afterOf, leftOf, Within, Stepped}
 use Rattle.ac_monomials.specs.Actions.{actionsAt, Answered}
 use Rattle.ac_monomials.specs.Sides.{action-none, action-one, action-narrow}

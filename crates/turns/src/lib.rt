@@ -15,7 +15,7 @@ ghost use Rattle.terms.specs.Buffers.{countIn};
 ghost use Rattle.terms.specs.Chains.{Holds, Rooms};
 ghost use Rattle.offers.specs.Offers.{offersIn, workOf};
 ghost use Rattle.turn_term.specs.Agreeing.{Agrees};
-ghost use Rattle.turn_term.specs.Taking.{Takes};
+ghost use Rattle.turn_end.specs.Taking.{Takes};
 ghost use Rattle.turns.specs.Leaving.{Leaves, turnIn};
 ghost use Rattle.turns.specs.Walking.{Fitting};
 use ac_repr::Step;
@@ -24,7 +24,7 @@ use image::Image;
 use padding::Padded;
 use quality::Best;
 use query::Limits;
-use turn_term::Taken;
+use turn_end::Taken;
 
 // ---- the transports of a pair
 // The action at a pair of places, if there is one, offered.
@@ -144,5 +144,5 @@ pub fn take_turn(
         × Leaves (limitsOf lim) (tablesOf (now (s .entry))) (qualityIn (im .classes) (now (graph .entry)) (now (pairs .entry))) (termIn (im .classes) (now (graph .entry)) (now (pairs .entry))) (l, r) (now (terms .entry)) (now (runs .entry)) (now (work .entry)) (now (flow .entry)) (now (work .exit)) (now (flow .exit)) ⌝ }
 {
     let best = turn(lim, s, im, graph, pairs, l, r, work, flow);
-    turn_term::end_turn(lim, s, im, graph, pairs, l, r, best, work, terms, runs)
+    turn_end::end_turn(lim, s, im, graph, pairs, l, r, best, work, terms, runs)
 }

@@ -21,10 +21,10 @@ use Rattle.terms.specs.Buffers.{poolOf, countIn}
 use Rattle.terms.specs.PoolLaws.{pool-length}
 use Rattle.terms.specs.Chains.{Holds}
 use Rattle.interning.specs.Interning.{poolAfter}
-use Rattle.turn_term.specs.Taking.{takenOf, Takes}
+use Rattle.turn_end.specs.Taking.{takenOf, Takes}
 use Rattle.turns.specs.Leaving.{Leaves}
-use Rattle.turn_term.specs.declared.Turned.{Turned}
-use Rattle.turn_term.specs.declared.Taken.the-variants as K
+use Rattle.turn_end.specs.declared.Turned.{Turned}
+use Rattle.turn_end.specs.declared.Taken.the-variants as K
 use Rattle.settling.specs.Quiet.{unturned}
 use Rattle.visits.specs.Visiting.{turnIn, termMade, stepOf, numbersAfter, Idle, Visits}
 use Rattle.visits.specs.declared.Step.{Step}

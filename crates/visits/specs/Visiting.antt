@@ -12,7 +12,7 @@ use Rattle.terms.specs.Buffers.{poolOf}
 use Rattle.interning.specs.Interning.{poolAfter}
 use Rattle.interning.specs.Growing.{Grows}
 use Rattle.turns.specs.Leaving as leaving
-use Rattle.turn_term.specs.Taking.{termList}
+use Rattle.turn_term.specs.FinalTerm.{termList}
 use Rattle.visits.specs.declared.Step.{Step}
 use Rattle.visits.specs.declared.Step.the-variants as P
 

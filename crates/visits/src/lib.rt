@@ -3,7 +3,7 @@ use arrays::NEW;
 use arrays::WIDTH;
 use image::Image;
 use query::Limits;
-use turn_term::Taken;
+use turn_end::Taken;
 ghost use Prim.Native.Nat.{_+_, _*_, _≤_, _<_};
 ghost use lib.ListN.{length};
 ghost use Rattle.spec.specs.Image.{tablesOf};

@@ -7,7 +7,7 @@ use Prim.Native.Nat.{ℕ, _-_, _*_}
 use native.Mathlib.Omega.{arith}
 use mathlib.Core.Path.{_≡_, refl, _∙_}
 use Rattle.augment.proofs.send_all.Statement.{statement}
-use Rattle.labels.specs.Net.{NODES, NET}
+use Rattle.net.specs.Net.{NODES, NET}
 use Rattle.search.specs.Edges.{MARGINS}
 use Rattle.augment.proofs.send_all.Tie as tie
 use Rattle.augment.proofs.send_all.Reads as reads

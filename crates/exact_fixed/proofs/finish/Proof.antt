@@ -1,5 +1,5 @@
 use Rattle.exact_fixed.specs.Following.{follows-ended, follows-rounds, rounds-answer}
-use Rattle.outcome.specs.AnswerLaws.{cleared-same}
+use Rattle.work_clearing.specs.Cleared.{cleared-same}
 use Rattle.outcome.specs.Outcomes.{ran-listable, ran-answers}
 use Rattle.query.specs.Settings.{limitsOf, askedOf}
 use Rattle.spec.specs.Bytes.{Res}

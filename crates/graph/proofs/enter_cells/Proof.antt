@@ -1,5 +1,5 @@
 use Prim.Native.Nat.{_+_, _-_, _≤_}
-use Rattle.monomial.specs.Terms.{held}
+use Rattle.monomial_terms.specs.Terms.{held}
 use Rattle.arrays.specs.Arrays.{pairsIn}
 use Rattle.entering.specs.GrowLaws.{going-end, going-full, going-on, going-same, going-small, going-start}
 use Rattle.entering.specs.Growing.{Going}

@@ -1,5 +1,5 @@
 use Rattle.interning.specs.InternLaws.{intern-found, intern-full-terms, intern-full-runs, intern-entered}
-use Rattle.interning.specs.EnterLaws.{first-at}
+use Rattle.term_entry.specs.EnterLaws.{first-at}
 use Rattle.query.specs.Settings.{limitsOf}
 use native.Mathlib.Omega.{arith}
 use mathlib.Core.Path.{_≡_}
@@ -9,9 +9,9 @@ use Rattle.interning.proofs.intern.Tie as tie
 use Rattle.interning.proofs.intern.Reads as reads
 use Rattle.interning.proofs.intern.Lts as lts
 use Rattle.terms.proofs.count.Reads as count-reads
-use Rattle.interning.proofs.enter.Reads as enter-reads
+use Rattle.term_entry.proofs.enter.Reads as enter-reads
 use Rattle.terms.proofs.first.Reads as first-reads
-use Rattle.interning.proofs.key.Reads as key-reads
+use Rattle.term_entry.proofs.key.Reads as key-reads
 use Rattle.interning.proofs.look_up.Reads as look-up-reads
 
 key-requires : tie.Need-key-requires

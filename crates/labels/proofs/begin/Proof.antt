@@ -1,4 +1,4 @@
-use Rattle.labels.specs.Net.{labelled, joined, begun}
+use Rattle.net.specs.Net.{labelled, joined, begun}
 use Prim.Native.Nat.{ℕ, _-_}
 use mathlib.Core.Path.{ap, _∙_}
 use mathlib.Core.List.{List}
@@ -8,8 +8,8 @@ use Rattle.labels.proofs.begin.Statement.{statement}
 use Rattle.labels.proofs.begin.Tie as tie
 use Rattle.labels.proofs.begin.Reads as reads
 use Rattle.labels.proofs.begin.Lts as lts
-use Rattle.labels.proofs.join.Reads as join-reads
-use Rattle.labels.proofs.put.Reads as put-reads
+use Rattle.net.proofs.join.Reads as join-reads
+use Rattle.net.proofs.put.Reads as put-reads
 use Rattle.labels.proofs.put_label.Reads as put-label-reads
 use Rattle.labels.proofs.unsee.Reads as unsee-reads
 

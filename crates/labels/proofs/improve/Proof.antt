@@ -1,5 +1,5 @@
 use Rattle.labels.specs.NetLaws.{improved-queued, improved-joins}
-use Rattle.labels.specs.Net.{stateOf, joined}
+use Rattle.net.specs.Net.{stateOf, joined}
 use Prim.Native.Nat.{ℕ, _-_}
 use mathlib.Core.Path.{ap, sym, _∙_}
 use mathlib.Core.List.{List}
@@ -8,7 +8,7 @@ use Rattle.labels.proofs.improve.Statement.{statement}
 use Rattle.labels.proofs.improve.Tie as tie
 use Rattle.labels.proofs.improve.Reads as reads
 use Rattle.labels.proofs.improve.Lts as lts
-use Rattle.labels.proofs.join.Reads as join-reads
+use Rattle.net.proofs.join.Reads as join-reads
 use Rattle.labels.proofs.put_label.Reads as put-label-reads
 
 put-label-requires : tie.Need-put-label-requires

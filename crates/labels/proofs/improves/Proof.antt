@@ -1,7 +1,7 @@
 use lib.Signed.{ltZ}
 use Rattle.wide.specs.declared.Wide.{Wide}
 use Rattle.wide.specs.Value.{val}
-use Rattle.labels.specs.Net.{stateOf}
+use Rattle.net.specs.Net.{stateOf}
 use borrow.Author.Tests.{eq-eqb, ne-eqb}
 use Prim.Native.Nat.{_-_}
 use mathlib.Core.Path.{refl, ap, _∙_}
@@ -10,7 +10,7 @@ use Rattle.labels.proofs.improves.Statement.{statement}
 use Rattle.labels.proofs.improves.Tie as tie
 use Rattle.labels.proofs.improves.Reads as reads
 use Rattle.labels.proofs.improves.Lts as lts
-use Rattle.labels.proofs.label.Reads as label-reads
+use Rattle.net.proofs.label.Reads as label-reads
 use Rattle.wide.proofs.Wide.less.Reads as less-reads
 
 add-if1 : tie.Need-add-if1

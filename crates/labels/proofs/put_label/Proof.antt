@@ -1,4 +1,4 @@
-use Rattle.labels.specs.Net.{HIGH, PRED}
+use Rattle.net.specs.Net.{HIGH, PRED}
 use Prim.Native.Nat.{ℕ, _+_, _-_}
 use mathlib.Core.Path.{ap, _∙_}
 use mathlib.Core.List.{List}
@@ -8,7 +8,7 @@ use Rattle.labels.proofs.put_label.Statement.{statement}
 use Rattle.labels.proofs.put_label.Tie as tie
 use Rattle.labels.proofs.put_label.Reads as reads
 use Rattle.labels.proofs.put_label.Lts as lts
-use Rattle.labels.proofs.put.Reads as put-reads
+use Rattle.net.proofs.put.Reads as put-reads
 
 put-requires : tie.Need-put-requires
 put-requires c κs = search needs

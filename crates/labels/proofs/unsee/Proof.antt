@@ -1,5 +1,5 @@
 use Rattle.labels.specs.NetLaws.{unsee-start, unsee-turn, unsee-end}
-use Rattle.labels.specs.Net.{unseenTo}
+use Rattle.net.specs.Net.{unseenTo}
 use borrow.Author.Needs.{needs}
 use Prim.Native.Nat.{ℕ, _≤_, _-_, _+_}
 use native.Mathlib.Omega.{arith}
@@ -9,7 +9,7 @@ use Rattle.labels.proofs.unsee.Statement.{statement}
 use Rattle.labels.proofs.unsee.Tie as tie
 use Rattle.labels.proofs.unsee.Reads as reads
 use Rattle.labels.proofs.unsee.Lts as lts
-use Rattle.labels.proofs.put.Reads as put-reads
+use Rattle.net.proofs.put.Reads as put-reads
 
 abbrev Inv-loop : tie.InvT-loop
 Inv-loop net₀ n i₀ net i = (i ≤ n) × (unseenTo (n - i) i net ≡ unseenTo n 0 net₀)

@@ -3,7 +3,7 @@ use Prim.Native.Nat.{_≤_, _-_}
 use native.Mathlib.Omega.{arith}
 use borrow.Author.Needs.{needs}
 use Rattle.spec.specs.Monomial.{counts}
-use Rattle.monomial.specs.Terms.{held}
+use Rattle.monomial_terms.specs.Terms.{held}
 use Rattle.laws.specs.Buffers.{Filled, filled-none, filled-more, filled-all}
 use Rattle.cells.specs.Problem.{counts-length, counts-at, counts-fit}
 use Rattle.laying.proofs.lay_margin.Statement.{statement}

@@ -1,4 +1,4 @@
-use Rattle.literals.specs.Slots.{SLOTS, Marked, mark-next, slot-is}
+use Rattle.class_literals.specs.Slots.{SLOTS, Marked, mark-next, slot-is}
 use Rattle.image.specs.Loaded.{members-many}
 use Rattle.spec.specs.Image.{tablesOf}
 use borrow.Author.Needs.{needs}

@@ -1,5 +1,5 @@
 use Rattle.monomial.proofs.Insert.{added-hit, added-miss, room-for}
-use Rattle.monomial.specs.Terms.{terms}
+use Rattle.monomial_terms.specs.Terms.{terms}
 use Prim.Native.Nat.{_<_, _-_}
 use native.Mathlib.Omega.{arith}
 use mathlib.Core.Path.{_≡_, _∙_}

@@ -1,5 +1,5 @@
 use Rattle.monomial.proofs.Buffer.{Rippled, rippled-none, rippled-more}
-use Rattle.monomial.specs.Terms.{terms}
+use Rattle.monomial_terms.specs.Terms.{terms}
 use borrow.Author.Needs.{needs}
 use Prim.Native.Nat.{_≤_, _<_, _-_, _+_}
 use native.Mathlib.Omega.{arith}

@@ -1,5 +1,5 @@
 use Rattle.monomial.proofs.Insert.{scan-more, scan-stop, scan-end}
-use Rattle.monomial.specs.Terms.{held, position}
+use Rattle.monomial_terms.specs.Terms.{held, position}
 use borrow.Author.Needs.{needs}
 use Prim.Native.Nat.{_≤_, _-_, _+_}
 use native.Mathlib.Omega.{arith}

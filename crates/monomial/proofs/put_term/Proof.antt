@@ -1,4 +1,4 @@
-use Rattle.monomial.specs.TermLaws.{terms-set}
+use Rattle.monomial_terms.specs.TermLaws.{terms-set}
 use native.Mathlib.Omega.{arith}
 use lib.ListN.{length-set}
 use borrow.Author.Needs.{needs}

@@ -1,6 +1,6 @@
 use native.Mathlib.Omega.{arith}
 use mathlib.Core.Path.{refl}
-use Rattle.outcome.specs.AnswerLaws.{cleared-same}
+use Rattle.work_clearing.specs.Cleared.{cleared-same}
 use borrow.Author.Needs.{needs}
 use Rattle.outcome.proofs.conclude.Statement.{statement}
 use Rattle.outcome.proofs.conclude.Tie as tie

@@ -1,6 +1,6 @@
 use Rattle.padding.proofs.Padding.{level-more, level-none, level-same, level-room}
-use Rattle.monomial.specs.TermLaws.{held-same}
-use Rattle.monomial.specs.Terms.{held}
+use Rattle.monomial_terms.specs.TermLaws.{held-same}
+use Rattle.monomial_terms.specs.Terms.{held}
 use native.Mathlib.Omega.{arith}
 use borrow.Author.Needs.{needs}
 use Rattle.padding.proofs.level.Statement.{statement}

@@ -4,7 +4,7 @@ use Rattle.spec.specs.Image.{tablesOf}
 use Rattle.query.specs.Settings.{limitsOf}
 use Rattle.lgg.specs.RoundsFrom.{roundsOf}
 use Rattle.arrays.specs.Arrays.{pairsIn}
-use Rattle.outcome.specs.AnswerLaws.{cleared-same}
+use Rattle.work_clearing.specs.Cleared.{cleared-same}
 use Rattle.outcome.specs.Outcomes.{ran-listable, ran-answers}
 use Rattle.rounds.specs.Graphs.{stateIn}
 use Rattle.rounds.proofs.run_rounds.Statement.{statement}

@@ -11,7 +11,7 @@ use Rattle.search.proofs.against_column.Tie as tie
 use Rattle.search.proofs.against_column.Reads as reads
 use Rattle.search.proofs.against_column.Lts as lts
 use Rattle.search.proofs.against_cell.Reads as against-cell-reads
-use Rattle.labels.proofs.label.Reads as label-reads
+use Rattle.net.proofs.label.Reads as label-reads
 
 abbrev Inv-loop : tie.InvT-loop
 Inv-loop costs flow net₀ c n k u v d at₀ i₀ net at i = (i ≤ n) × (at ≡ k + i * c) × (againstColumn costs flow c u d (n - i) at (v + i) net ≡ againstColumn costs flow c u d n k v net₀)

@@ -11,7 +11,7 @@ use Rattle.search.proofs.along_row.Tie as tie
 use Rattle.search.proofs.along_row.Reads as reads
 use Rattle.search.proofs.along_row.Lts as lts
 use Rattle.search.proofs.along_cell.Reads as along-cell-reads
-use Rattle.labels.proofs.label.Reads as label-reads
+use Rattle.net.proofs.label.Reads as label-reads
 
 abbrev Inv-loop : tie.InvT-loop
 Inv-loop costs flow net₀ n k u v d i₀ net i = (i ≤ n) × (alongRow costs flow u d (n - i) (k + i) (v + i) net ≡ alongRow costs flow u d n k v net₀)

@@ -5,13 +5,13 @@ use borrow.Author.Needs.{needs}
 use Prim.Native.Nat.{_-_, _+_}
 use mathlib.Core.Path.{_≡_, _∙_}
 use Rattle.search.proofs.search.Statement.{statement}
-use Rattle.labels.specs.Net.{firstOf, left}
+use Rattle.net.specs.Net.{firstOf, left}
 use Rattle.search.specs.Edges.{visited, measure}
 use Rattle.search.proofs.search.Tie as tie
 use Rattle.search.proofs.search.Reads as reads
 use Rattle.search.proofs.search.Lts as lts
 use Rattle.labels.proofs.begin.Reads as begin-reads
-use Rattle.labels.proofs.leave.Reads as leave-reads
+use Rattle.net.proofs.leave.Reads as leave-reads
 use Rattle.search.proofs.visit.Reads as visit-reads
 
 abbrev Inv-loop : tie.InvT-loop

@@ -11,7 +11,7 @@ use Rattle.search.proofs.spread.Tie as tie
 use Rattle.search.proofs.spread.Reads as reads
 use Rattle.search.proofs.spread.Lts as lts
 use Rattle.search.proofs.along_margin.Reads as along-margin-reads
-use Rattle.labels.proofs.label.Reads as label-reads
+use Rattle.net.proofs.label.Reads as label-reads
 
 abbrev Inv-loop : tie.InvT-loop
 Inv-loop left net₀ n k u v d i₀ net i = (i ≤ n) × (spreadTo left u d (n - i) (k + i) (v + i) net ≡ spreadTo left u d n k v net₀)

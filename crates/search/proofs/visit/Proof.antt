@@ -8,7 +8,7 @@ use lib.ListN.{getD}
 use borrow.Author.Needs.{needs}
 use Rattle.search.proofs.visit.Statement.{statement}
 use Rattle.cost_matrix.specs.Places.{row-fits}
-use Rattle.labels.specs.Net.{labelOf, left}
+use Rattle.net.specs.Net.{labelOf, left}
 use Rattle.search.specs.Edges.{alongMargin, againstColumn}
 use Rattle.spec.specs.Transport.{WIDEST}
 use Rattle.search.proofs.visit.Tie as tie
@@ -17,7 +17,7 @@ use Rattle.search.proofs.visit.Lts as lts
 use Rattle.search.proofs.against_column.Reads as against-column-reads
 use Rattle.search.proofs.along_margin.Reads as along-margin-reads
 use Rattle.search.proofs.along_row.Reads as along-row-reads
-use Rattle.labels.proofs.label.Reads as label-reads
+use Rattle.net.proofs.label.Reads as label-reads
 use Rattle.search.proofs.spread.Reads as spread-reads
 
 spread-requires : tie.Need-spread-requires

@@ -1,5 +1,5 @@
-use Rattle.settling.specs.SettleLaws.{settled-none, marks-none, settled-differs, settled-more, marks-more}
-use Rattle.settling.specs.Settling.{left, right, settled, marksOf}
+use Rattle.pair_settling.specs.SettleLaws.{settled-none, marks-none, settled-differs, settled-more, marks-more}
+use Rattle.pair_settling.specs.Settling.{left, right, settled, marksOf}
 use borrow.Author.Needs.{needs}
 use Prim.Native.Nat.{ℕ, _≤_, _-_}
 use native.Mathlib.Omega.{arith}

@@ -5,7 +5,7 @@ use Rattle.tariff.proofs.tariff_merge.Tie as tie
 use Rattle.tariff.proofs.tariff_merge.Reads as reads
 use Rattle.tariff.proofs.tariff_merge.Lts as lts
 use Rattle.au.proofs.merge_plain.Reads as merge-plain-reads
-use Rattle.tariff.proofs.numbers_of.Reads as numbers-of-reads
+use Rattle.returned.proofs.numbers_of.Reads as numbers-of-reads
 
 merge-plain-requires : tie.Need-merge-plain-requires
 merge-plain-requires c κs = search needs

@@ -9,7 +9,7 @@ use Rattle.terms.specs.Buffers.{countIn}
 use Rattle.action_runs.specs.Runs.{runsOver}
 use Rattle.quality.specs.declared.How.the-variants as H
 use Rattle.turn_term.specs.Agreeing.{Chosen, Planned}
-use Rattle.turn_term.specs.Ending.{choice-below, over-front, act-given, ended-stay, ended-act}
+use Rattle.turn_term.specs.FinalTermLaws.{choice-below, over-front, act-given, ended-stay, ended-act}
 use native.Mathlib.Omega.{arith}
 use mathlib.Core.Path.{sym, _∙_}
 use borrow.Author.Needs.{needs}

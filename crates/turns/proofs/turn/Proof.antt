@@ -4,7 +4,7 @@ use Rattle.image.specs.Loaded.{classes-many}
 use Rattle.arrays.specs.Arrays.{qualityIn, termIn}
 use Rattle.arrays.specs.ArrayLaws.{known-low}
 use Rattle.best_aligned.specs.Offers.{best-aligns}
-use Rattle.turn_term.specs.Ending.{joined-low}
+use Rattle.turn_term.specs.FinalTermLaws.{joined-low}
 use Rattle.turns.specs.TurnLaws.{turn-done, turn-left, turn-fits}
 use mathlib.Core.Path.{sym}
 use borrow.Author.Needs.{needs}

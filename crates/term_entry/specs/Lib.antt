@@ -1,0 +1,4 @@
+pub mod TermEntry
+pub mod KeyLaws
+pub mod CopyLaws
+pub mod EnterLaws
