@@ -22,10 +22,10 @@ use Rattle.flow.specs.AugmentingPath.{TightPath, end, step, next, before, hops-
 use Rattle.flow.specs.Augmentation.{Partial}
 use Rattle.flow.specs.Magnitude.{Small}
 use Rattle.flow.specs.Solver.{pathOf, leastLeft, one-path}
-use Rattle.search.specs.Holds.{NetHolds, FlowHolds, MarginsHold, Ready, Found}
+use Rattle.search_laws.specs.Holds.{NetHolds, FlowHolds, MarginsHold, Ready, Found}
 use Rattle.augment.specs.Sending.{Midway, Sent, stuck, along}
-use Rattle.search.specs.Walk.{walkNet, Leads, arrived, onward, LAST}
-use Rattle.search.specs.Fits.{few}
+use Rattle.tracing.specs.Walk.{walkNet, Leads, arrived, onward, LAST}
+use Rattle.search_laws.specs.Fits.{few}
 use Rattle.labels.specs.Net.{predOf, NODES}
 use Rattle.cost_matrix.specs.Matrix.{CostsHold}
 use Rattle.cost_matrix.specs.Places.{place-of}

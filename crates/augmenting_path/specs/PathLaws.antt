@@ -13,13 +13,10 @@ use lib.ListN.{length, getD, set, drop, length-set}
 use lib.Seq.{getD-set-same, getD-set-other, set-out, drop-set-lt}
 use Rattle.spec.specs.Bytes.{pick, Two}
 use lib.Arith.{digits-lt}
-use Rattle.search.specs.Walk.{here, here-turn, here-end, LAST}
+use Rattle.tracing.specs.Walk.{here, here-turn, here-end, LAST}
 use Rattle.augmenting_path.specs.Path.{Step, Steps, andStep, leftOn, leastOn, sentOn, sent}
-use Rattle.cost_matrix.specs.Matrix.{capOf, CELLS}
+use Rattle.cost_matrix.specs.Matrix.{capOf}
 use Rattle.spec.specs.Transport.{WIDEST}
-
-pub place-fits : (i j c : ℕ) → i < WIDEST → j < c → c ≤ WIDEST → i * c + j < CELLS
-place-fits i j c a b d = omega (arith, mul-le-mul {n₁ = suc i} {m₁ = c} {n₂ = WIDEST} {m₂ = WIDEST} a d)
 
 module _ (g f y : List ℕ) (r c u v : ℕ) where
   pub left-source : u ≡ 0 → getD y (v - 1) 0 ≡ leftOn g f y r c u v

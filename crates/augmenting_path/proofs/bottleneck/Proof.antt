@@ -1,6 +1,6 @@
 use Prim.Native.Nat.{min, ℕ, _≤_, _-_, _+_}
 use Rattle.augmenting_path.specs.PathLaws.{step-here, steps-next, least-turn, least-end}
-use Rattle.search.specs.Walk.{here, LAST}
+use Rattle.tracing.specs.Walk.{here, LAST}
 use Rattle.augmenting_path.specs.Path.{Steps, leastOn}
 use borrow.Author.Needs.{needs}
 use native.Mathlib.Omega.{arith}

@@ -1,0 +1,1 @@
+// what a search is on plain lists, and laws about it: see specs/
