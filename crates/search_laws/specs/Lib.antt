@@ -8,3 +8,6 @@ pub mod Relaxation
 pub mod Visits
 pub mod Turns
 pub mod SearchLoop
+pub mod Walk
+pub mod Path
+pub mod PathLaws

@@ -1,1 +1,1 @@
-// what a search is on plain lists, and laws about it: see specs/
+// what a search and its path are on plain lists, and laws about them: see specs/

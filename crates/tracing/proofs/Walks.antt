@@ -8,7 +8,7 @@ use native.Mathlib.Omega.{arith}
 use borrow.Author.Tests.{eq-eqb, ne-eqb}
 use lib.ListN.{length, getD, set, length-set}
 use lib.Seq.{getD-set-same, getD-set-other}
-use Rattle.tracing.specs.Walk.{stepsFrom, walkNet, walkedPath, walkedAt, Leads, arrived, onward, here, here-turn, LAST}
+use Rattle.search_laws.specs.Walk.{stepsFrom, walkNet, walkedPath, walkedAt, Leads, arrived, onward, here, here-turn, LAST}
 use Rattle.labels.specs.Net.{predOf, NODES}
 
 -- ---- the walk back

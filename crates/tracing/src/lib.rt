@@ -4,7 +4,7 @@ ghost use mathlib.Core.List.{[]};
 ghost use Prim.Native.Nat.{_-_, _≤_, _<_};
 ghost use lib.ListN.{length, set};
 ghost use Rattle.labels.specs.Net.{NODES};
-ghost use Rattle.tracing.specs.Walk.{LAST, stepsFrom, walkNet, walkedAt, walkedPath, Leads};
+ghost use Rattle.search_laws.specs.Walk.{LAST, stepsFrom, walkNet, walkedAt, walkedPath, Leads};
 use labels::NET;
 use labels::NODES;
 use labels::PRED;

@@ -1,6 +1,6 @@
-use Rattle.augmenting_path.specs.PathLaws.{sent-kept}
+use Rattle.search_laws.specs.PathLaws.{sent-kept}
 use Rattle.augment.proofs.Augments.{low-of, ready-of, not-sent, way, units-fit, path-steps, sent-along}
-use Rattle.tracing.specs.Walk.{stepsFrom, LAST}
+use Rattle.search_laws.specs.Walk.{stepsFrom, LAST}
 use Prim.Native.Nat.{ℕ, _-_, _*_}
 use mathlib.Core.Path.{refl, ap, _∙_}
 use mathlib.Core.List.{List}

@@ -1,4 +1,4 @@
-use Rattle.augmenting_path.specs.PathLaws.{left-source, left-row, left-sink, left-back}
+use Rattle.search_laws.specs.PathLaws.{left-source, left-row, left-sink, left-back}
 use Prim.Native.Nat.{ℕ, _-_, _*_, _<_}
 use native.Mathlib.Omega.{arith}
 use mathlib.Core.Path.{ap, _∙_}

@@ -1,6 +1,6 @@
-use Rattle.augmenting_path.specs.PathLaws.{step-here, steps-next, sent-turn, sent-end, sent-more, room-next, room-here, room-first}
-use Rattle.tracing.specs.Walk.{here, LAST}
-use Rattle.augmenting_path.specs.Path.{Steps, sent}
+use Rattle.search_laws.specs.PathLaws.{step-here, steps-next, sent-turn, sent-end, sent-more, room-next, room-here, room-first}
+use Rattle.search_laws.specs.Walk.{here, LAST}
+use Rattle.search_laws.specs.Path.{Steps, sent}
 use borrow.Author.Needs.{needs}
 use Prim.Native.Nat.{ℕ, _≤_, _<_, _-_, _+_, _*_, _^_}
 use native.Mathlib.Omega.{arith}

@@ -1,5 +1,5 @@
 use lib.Arith.{digits-lt}
-use Rattle.augmenting_path.specs.PathLaws.{sent-source, sent-row, sent-sink, sent-back}
+use Rattle.search_laws.specs.PathLaws.{sent-source, sent-row, sent-sink, sent-back}
 use Prim.Native.Nat.{ℕ, _-_, _+_, _*_, _<_}
 use native.Mathlib.Omega.{arith}
 use mathlib.Core.Path.{ap, _∙_}

@@ -1,5 +1,5 @@
 use Rattle.tracing.proofs.Walks.{Walking, walk-start, walk-facts, walk-turn, walk-end}
-use Rattle.tracing.specs.Walk.{walkedPath, LAST}
+use Rattle.search_laws.specs.Walk.{walkedPath, LAST}
 use borrow.Author.Needs.{needs}
 use Prim.Native.Nat.{ℕ, _-_}
 use native.Mathlib.Omega.{arith}

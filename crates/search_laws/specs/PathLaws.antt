@@ -13,8 +13,8 @@ use lib.ListN.{length, getD, set, drop, length-set}
 use lib.Seq.{getD-set-same, getD-set-other, set-out, drop-set-lt}
 use Rattle.spec.specs.Bytes.{pick, Two}
 use lib.Arith.{digits-lt}
-use Rattle.tracing.specs.Walk.{here, here-turn, here-end, LAST}
-use Rattle.augmenting_path.specs.Path.{Step, Steps, andStep, leftOn, leastOn, sentOn, sent}
+use Rattle.search_laws.specs.Walk.{here, here-turn, here-end, LAST}
+use Rattle.search_laws.specs.Path.{Step, Steps, andStep, leftOn, leastOn, sentOn, sent}
 use Rattle.cost_matrix.specs.Matrix.{capOf}
 use Rattle.spec.specs.Transport.{WIDEST}
 
