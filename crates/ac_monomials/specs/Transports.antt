@@ -16,7 +16,9 @@ use Rattle.spec.specs.Action.{TransportAction, acOps, transports}
 use Rattle.laws.specs.Valid.{Valid}
 use Rattle.laws.specs.AcceptedUses.{membersWithin}
 use Rattle.monomial.specs.Places.{monomialAt}
-use Rattle.ac_repr.specs.Walk.{passing, endOf, hasPlace, placesFrom, walkAt, row, rows, acOp, pairsFrom, walks, allWalks, afterOf, leftOf, Stepped}
+use Rattle.ac_repr.specs.Walk.{hasPlace, placesFrom, walkAt, row, rows, pairsFrom, walks, allWalks, afterOf, leftOf, Stepped}
+use Rattle.ac_ops.specs.Firsts.{passing}
+use Rattle.ac_ops.specs.AcOps.{endOf, acOp}
 use Rattle.ac_monomials.specs.Actions.{actionOver, actionsAt}
 use Rattle.ac_repr.specs.declared.Walk.{Walk}
 use Rattle.ac_repr.specs.declared.Step.{Step}

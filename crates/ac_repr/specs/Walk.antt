@@ -6,25 +6,15 @@ use mathlib.Core.List.{List, [], _∷_, _++_, map}
 use Prim.Native.Nat.{ℕ, suc, _+_, _-_, _≤_, _<_}
 use lib.Dec.{ltb, eqb}
 use lib.ListN.{length}
-use Rattle.spec.specs.Bytes.{pick, both, any, filter, each, upFrom, place}
-use Rattle.spec.specs.Image.{Tables, NO-IDENTITY, isAC, kindOf, identityOf, theClass, theMember, membersOf}
+use Rattle.spec.specs.Bytes.{pick, each}
+use Rattle.spec.specs.Image.{Tables, NO-IDENTITY, identityOf, theClass, theMember}
 use Rattle.ac_repr.specs.declared.Walk.{Walk}
 use Rattle.ac_repr.specs.declared.Step.{Step}
 use Rattle.ac_repr.specs.declared.Step.the-variants.{At, End}
-
--- the numbers from x to before e that pass, and the first of them (e where there is none)
-unfoldable pub passing : (ℕ → Bool) → ℕ → ℕ → List ℕ
-unfolding filter upFrom
-passing p x e = filter p (upFrom x (e - x))
-
-unfoldable pub firstFrom : (ℕ → Bool) → ℕ → ℕ → ℕ
-unfolding place upFrom
-firstFrom p x e = x + place p (upFrom x (e - x))
+use Rattle.ac_ops.specs.Firsts.{passing}
+use Rattle.ac_ops.specs.AcOps.{endOf, acOp}
 
 -- ---- places
-abbrev pub endOf : Tables → ℕ → ℕ
-endOf t c = theClass t c .first + theClass t c .count
-
 -- place x of a class whose members end at `end` has a monomial under operation o
 abbrev pub hasPlace : Tables → ℕ → ℕ → ℕ → Bool
 hasPlace t end o x = pick (ltb x end) (eqb (theMember t x .op) o) (pick (ltb end x) false (not (eqb (identityOf t o) NO-IDENTITY)))
@@ -54,10 +44,6 @@ unfolding row rows
 under t l r w = pick (hasPlace t (endOf t l) (w .op) (w .a)) (row t (endOf t r) (w .op) (w .a) (w .b)) [] ++ rows t l r (w .op) (suc (w .a))
 
 -- ---- "An MSet or Set operation of either class", from o on
-unfoldable pub acOp : Tables → ℕ → ℕ → ℕ → Bool
-unfolding any
-acOp t l r o = both (isAC (kindOf t o)) (any (λ m. eqb (m .op) o) (membersOf t l ++ membersOf t r))
-
 unfoldable pub pairsFrom : Tables → ℕ → ℕ → ℕ → List Walk
 unfolding acOp each passing rows
 pairsFrom t l r o = each (λ p. rows t l r p (theClass t l .first)) (passing (acOp t l r) o (length (t .operations)))

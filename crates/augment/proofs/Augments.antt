@@ -22,16 +22,16 @@ use Rattle.flow.specs.AugmentingPath.{TightPath, end, step, next, before, hops-
 use Rattle.flow.specs.Augmentation.{Partial}
 use Rattle.flow.specs.Magnitude.{Small}
 use Rattle.flow.specs.Solver.{pathOf, leastLeft, one-path}
-use Rattle.search.specs.Holds.{NetHolds, FlowHolds, MarginsHold, Ready, Found}
+use Rattle.search_laws.specs.Holds.{NetHolds, FlowHolds, MarginsHold, Ready, Found}
 use Rattle.augment.specs.Sending.{Midway, Sent, stuck, along}
-use Rattle.search.specs.Walk.{walkNet, Leads, arrived, onward, LAST}
-use Rattle.search.specs.Fits.{few}
+use Rattle.search_laws.specs.Walk.{walkNet, Leads, arrived, onward, LAST}
+use Rattle.search_laws.specs.Fits.{few}
 use Rattle.net.specs.Net.{predOf, NODES}
 use Rattle.cost_matrix.specs.Matrix.{CostsHold}
 use Rattle.cost_matrix.specs.Places.{place-of}
-use Rattle.augmenting_path.specs.Path.{Step, Steps, noStep, andStep, leftOn, leastOn, sentOn, sent}
+use Rattle.search_laws.specs.Path.{Step, Steps, noStep, andStep, leftOn, leastOn, sentOn, sent}
 use Rattle.augment.specs.Balance.{Low, Balanced, rowSum, columnSum}
-use Rattle.augmenting_path.specs.PathLaws.{left-source, left-row, left-sink, left-back, sent-source, sent-row, sent-sink, sent-back}
+use Rattle.search_laws.specs.PathLaws.{left-source, left-row, left-sink, left-back, sent-source, sent-row, sent-sink, sent-back}
 
 -- ---- the four kinds of steps on a path
 pub data Kind (p : Problem) (a b : ℕ) : Type 0 where

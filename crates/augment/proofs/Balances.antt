@@ -10,7 +10,7 @@ use lib.ListN.{length, getD, set, length-set}
 use lib.Seq.{getD-set-same, getD-set-other}
 use Rattle.spec.specs.Bytes.{sumTo}
 use Rattle.augment.specs.Balance.{Low, RowsLeft, ColumnsLeft, Balanced, rowSum, columnSum}
-use Rattle.search.specs.Edges.{TAKEN}
+use Rattle.search_laws.specs.Edges.{TAKEN}
 use Rattle.spec.specs.Transport.{WIDEST}
 
 pub sum-turn : (f : List ℕ) (k d i : ℕ) → sumTo (i + 1) (λ j. getD f (k + j * d) 0) ≡ sumTo i (λ j. getD f (k + j * d) 0) + getD f (k + i * d) 0

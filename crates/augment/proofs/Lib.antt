@@ -1,4 +1,3 @@
 pub mod Balances
 pub mod Augments
 pub mod SendLoop
-pub mod Solves

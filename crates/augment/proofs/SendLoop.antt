@@ -11,7 +11,7 @@ use Rattle.flow.specs.Sums.{listSum-is}
 use Rattle.flow.specs.Augmentation.{Partial}
 use Rattle.flow.specs.Magnitude.{total-lt}
 use Rattle.flow.specs.Solver.{total-of, placed, pathOf, leastLeft, one-path, empty, start, start-placed, augment-zero, augment-done, augment-stuck, augment-more}
-use Rattle.search.specs.Holds.{FlowHolds}
+use Rattle.search_laws.specs.Holds.{FlowHolds}
 use Rattle.augment.specs.Sending.{Midway, Sent, stuck, along, Start, Answered, noPlan, plan}
 
 module _ {r c : ℕ} {supply demand g f₀ : List ℕ} (S : Start r c supply demand g f₀) where

@@ -5,7 +5,7 @@ use Prim.Native.Nat.{ℕ, _+_, _-_, _*_, _^_, _≤_, _<_}
 use lib.ListN.{length, getD}
 use Rattle.spec.specs.Bytes.{sumTo}
 use Rattle.spec.specs.Transport.{WIDEST}
-use Rattle.search.specs.Edges.{MARGINS, TAKEN}
+use Rattle.search_laws.specs.Edges.{MARGINS, TAKEN}
 
 -- the cells of a plan f of r rows and c columns are 32-bit numbers
 pub record Low (r c : ℕ) (f : List ℕ) : Type 0 where

@@ -3,3 +3,4 @@ pub mod Sending
 pub mod Solved
 pub mod SolvedLaws
 pub mod HasPlan
+pub mod Solves

@@ -11,7 +11,7 @@ use Rattle.flow.specs.Search.{labelAt}
 use Rattle.flow.specs.Augmentation.{Partial}
 use Rattle.flow.specs.Magnitude.{Small}
 use Rattle.flow.specs.Solver.{pathOf, leastLeft, empty}
-use Rattle.search.specs.Holds.{FlowHolds}
+use Rattle.search_laws.specs.Holds.{FlowHolds}
 use Rattle.cost_matrix.specs.Matrix.{CostsHold}
 
 -- a problem of r rows and c columns, and a plan so far

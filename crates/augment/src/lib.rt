@@ -1,29 +1,27 @@
 // The least plan by successive shortest augmenting paths (transport.rs): one path after the other until all units are sent.
 ghost use mathlib.Core.Path.{_≡_};
-ghost use Prim.Native.Nat.{ℕ, _+_, _-_, _*_, _^_, _≤_, _<_};
-ghost use lib.ListN.{length, getD, set, drop, replicate};
+ghost use Prim.Native.Nat.{ℕ, _+_, _*_, _^_, _≤_, _<_};
+ghost use lib.ListN.{length, getD, set, drop};
 ghost use Rattle.spec.specs.Bytes.{sumTo, sum};
 ghost use Rattle.spec.specs.Transport.{WIDEST, Problem};
-ghost use Rattle.laws.specs.Buffers.{over};
 ghost use Rattle.cost_matrix.specs.Matrix.{Given, Laid};
 ghost use Rattle.net.specs.Net.{NODES, NET};
-ghost use Rattle.search.specs.Edges.{MARGINS};
+ghost use Rattle.search_laws.specs.Edges.{MARGINS};
 ghost use Rattle.augment.specs.Balance.{Low, RowsLeft, ColumnsLeft, Balanced};
 ghost use Rattle.augment.specs.Sending.{Midway, Sent, Start, Answered};
 ghost use Rattle.augment.specs.Solved.{Solves};
 use augmenting_path::bottleneck;
-use augmenting_path::less;
-use augmenting_path::send;
-use clearing::clear_u64;
 use cost_matrix::WIDEST;
 use net::NET;
 use net::NODES;
 use numbers::long_u32;
+use plan_parts::empty_plan;
+use plan_parts::less;
 use search::MARGINS;
 use search::TAKEN;
 use search::search;
-use search::trace;
-use weights::total;
+use sending::send;
+use tracing::trace;
 
 // ---- what is left at the margins
 fn put_left(left: &mut [u64; MARGINS], at: usize, x: u64)
@@ -152,17 +150,8 @@ fn send_all(supply: &[u32], demand: &[u32], costs: &[u64], flow: &mut [u64], tot
     true
 }
 
-// ---- the plan
-// n cells of the plan are 0.
-fn empty_plan(flow: &mut [u64], n: usize)
-    requires { ⌜ n ≤ length (now flow) ⌝ }
-    ensures { λ _. ⌜ now (flow .exit) ≡ over (replicate n 0) (now (flow .entry)) ⌝ }
-{
-    clear_u64(&mut flow[..n]);
-}
-
 // The plan where the units are even and no side is empty.
-fn solve_even(supply: &[u32], demand: &[u32], costs: &[u64], flow: &mut [u64], f: u64) -> bool
+pub fn solve_even(supply: &[u32], demand: &[u32], costs: &[u64], flow: &mut [u64], f: u64) -> bool
     requires { ⌜ Laid (now supply) (now demand) (now costs) × (3 * (length (now supply) * length (now demand)) ≤ length (now costs)) × (length (now supply) * length (now demand) ≤ length (now flow))
         × (f ≡ sum (now supply)) × (f ≡ sum (now demand)) × (0 < length (now supply)) × (0 < length (now demand)) ⌝ }
     ensures { λ b. ⌜ ((p : Problem) → Given p (now (supply .entry)) (now (demand .entry)) (now (costs .entry)) → Solves p (now (flow .entry)) (now (flow .exit)) b) ⌝ }
@@ -172,27 +161,6 @@ fn solve_even(supply: &[u32], demand: &[u32], costs: &[u64], flow: &mut [u64], f
     if send_all(supply, demand, costs, flow, f) {
         return true;
     }
-    empty_plan(flow, n);
-    false
-}
-
-// The least plan of the problem whose cost matrix is laid in `costs`, in the first rows * columns numbers of `flow`: whether there is one; zeros where there is none.
-pub fn solve_laid(supply: &[u32], demand: &[u32], costs: &[u64], flow: &mut [u64]) -> bool
-    requires { ⌜ Laid (now supply) (now demand) (now costs) × (3 * (length (now supply) * length (now demand)) ≤ length (now costs)) × (length (now supply) * length (now demand) ≤ length (now flow)) ⌝ }
-    ensures { λ b. ⌜ ((p : Problem) → Given p (now (supply .entry)) (now (demand .entry)) (now (costs .entry)) → Solves p (now (flow .entry)) (now (flow .exit)) b) ⌝ }
-{
-    let f = total(supply);
-    let g = total(demand);
-    if supply.len() == 0 {
-        return false;
-    }
-    if demand.len() == 0 {
-        return false;
-    }
-    if f == g {
-        return solve_even(supply, demand, costs, flow, f);
-    }
-    let n = supply.len() * demand.len();
     empty_plan(flow, n);
     false
 }

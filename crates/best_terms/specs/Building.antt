@@ -31,7 +31,7 @@ use Rattle.interning.specs.Growing.{Grows}
 use Rattle.interning.specs.GrowLaws.{grows-none, grows-then}
 use Rattle.best_terms.specs.Reaching.{mark, marksOf, reachAll, reachIn, reach}
 use Rattle.best_terms.specs.ReachLaws.{reach-marked, reach-down, reach-built, mark-none, mark-some, marks-set, reachOn, reach-on-end, reach-on-next}
-use Rattle.member_terms.specs.Members.{Gives, Built, keptRun, memberNode, MemberReady}
+use Rattle.op_terms.specs.Members.{Gives, Built, keptRun, memberNode, MemberReady}
 use Rattle.best_terms.specs.Bests.{Kept}
 use Rattle.terms.specs.PoolLaws.{pool-length}
 use Rattle.best_terms.specs.BestLaws.{Again, best-again, best-literal, best-node, children-built, down-ok, down-refused, onward, onward-end, onward-down, onward-up, onward-refused}

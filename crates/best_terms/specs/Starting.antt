@@ -24,17 +24,14 @@ use Rattle.interning.specs.Growing.{laidOver, Grows}
 use Rattle.interning.specs.GrowLaws.{grows-then}
 use Rattle.best_terms.specs.Reaching.{mark, marksOf, reachAll, reachIn, reach, numberOf, bestAfter, bestsAfter}
 use Rattle.best_terms.specs.ReachLaws.{reach-marked, reach-there, mark-none, mark-some}
-use Rattle.member_terms.specs.Members.{Gives}
+use Rattle.op_terms.specs.Members.{Gives}
 use Rattle.best_terms.specs.Bests.{Kept}
+use Rattle.term_clearing.specs.Cleared.{Cleared}
 use Rattle.terms.specs.PoolLaws.{pool-length}
 use Rattle.best_terms.specs.BestLaws.{Again, best-again}
 use Rattle.best_terms.specs.Building.{Builds, Keeps, keeps-then, full-told, term-told, kept-grows, grown-to}
 use Rattle.interning.specs.declared.Entered.{Entered}
 use Rattle.interning.specs.declared.Entered.the-variants as E
-
--- every number is zero
-abbrev pub Cleared : List ℕ → List ℕ → List ℕ → List ℕ → List ℕ → List ℕ → Type 0
-Cleared terms runs best terms′ runs′ best′ = (terms′ ≡ replicate (length terms) 0) × (runs′ ≡ replicate (length runs) 0) × (best′ ≡ replicate (length best) 0)
 
 -- The starting term of a pair of classes: entered, or refusal 13 with every number zero.
 pub record Starts (lim : Limits) (t : Tables) (c : Two) (terms runs best terms′ runs′ best′ : List ℕ) (r : Entered) : Type 0 where

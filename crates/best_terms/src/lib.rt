@@ -1,7 +1,4 @@
 // Best terms and starting terms: the best term of each class is built once in the term pool and kept by its number plus 1.
-use image::Image;
-use interning::Entered;
-use query::Limits;
 ghost use mathlib.Core.Path.{_≡_};
 ghost use Prim.Native.Nat.{_<_};
 ghost use lib.ListN.{length, getD};
@@ -13,7 +10,11 @@ ghost use Rattle.terms.specs.Buffers.{poolOf};
 ghost use Rattle.terms.specs.Chains.{Holds, Rooms};
 ghost use Rattle.best_terms.specs.Bests.{Kept};
 ghost use Rattle.best_terms.specs.Building.{Builds};
-ghost use Rattle.best_terms.specs.Starting.{Cleared, Makes, Starts};
+ghost use Rattle.best_terms.specs.Starting.{Makes, Starts};
+use image::Image;
+use interning::Entered;
+use query::Limits;
+use term_clearing::clear;
 
 // The best term of a class that is still unbuilt. A class waits for the first of its children's classes that is unbuilt; waiting: by class, the class that waits for it plus 1.
 fn build_best_term(
@@ -113,19 +114,11 @@ fn starting_term(
                     return Entered::Full;
                 }
                 Entered::Term(b) => {
-                    return member_terms::variants(lim, terms, runs, a, b);
+                    return marked::variants(lim, terms, runs, a, b);
                 }
             }
         }
     }
-}
-
-fn clear(terms: &mut [u32], runs: &mut [u64], best: &mut [u16])
-    ensures { λ _. ⌜ Cleared (now (terms .entry)) (now (runs .entry)) (now (best .entry)) (now (terms .exit)) (now (runs .exit)) (now (best .exit)) ⌝ }
-{
-    clearing::clear_u32(terms);
-    clearing::clear_u64(runs);
-    clearing::clear_u16(best);
 }
 
 // The starting term of a pair of classes; best keeps the best terms that it was made of. A refusal clears the buffers.

@@ -1,15 +1,13 @@
-// One search of the least-cost transport (transport.rs): labels by a first-in first-out queue, and the walk back. No network is built: edges are read off the plan so far.
+// One search of the least-cost transport (transport.rs): labels by a first-in first-out queue. No network is built: edges are read off the plan so far.
 ghost use mathlib.Core.Path.{_≡_};
 ghost use mathlib.Core.Bool.{not};
-ghost use mathlib.Core.List.{[]};
-ghost use Prim.Native.Nat.{_+_, _-_, _*_, _≤_, _<_};
+ghost use Prim.Native.Nat.{_+_, _*_, _≤_, _<_};
 ghost use lib.Dec.{eqb};
-ghost use lib.ListN.{length, set};
+ghost use lib.ListN.{length};
 ghost use Rattle.spec.specs.Transport.{WIDEST};
 ghost use Rattle.net.specs.Net.{NODES, NET, labelOf, stateOf};
-ghost use Rattle.search.specs.Edges.{MARGINS, alongMargin, alongCell, againstCell, spreadTo, alongRow, againstColumn, visited, searchedNet};
-ghost use Rattle.search.specs.Holds.{Ready, Found};
-ghost use Rattle.search.specs.Walk.{LAST, stepsFrom, walkNet, walkedAt, walkedPath, Leads};
+ghost use Rattle.search_laws.specs.Edges.{MARGINS, alongMargin, alongCell, againstCell, spreadTo, alongRow, againstColumn, visited, searchedNet};
+ghost use Rattle.search_laws.specs.Holds.{Ready, Found};
 use cost_matrix::WIDEST;
 use cost_matrix::cost;
 use labels::begin;
@@ -27,9 +25,6 @@ use wide::Wide;
 pub const TAKEN: usize = 2 * WIDEST;
 
 pub const MARGINS: usize = 3 * WIDEST;
-
-// The sink's place in the path, which stands at the end of a list of a number a node.
-pub const LAST: usize = NODES - 1;
 
 // An edge at a margin, on which r is left: it costs nothing.
 fn along_margin(net: &mut [u64; NET], r: u64, u: usize, v: usize, d: Wide)
@@ -191,28 +186,4 @@ pub fn search(
         return false;
     }
     true
-}
-
-fn put_node(path: &mut [u64; NODES], at: usize, v: usize)
-    requires { ⌜ at < NODES ⌝ }
-    ensures { λ _. ⌜ now (path .exit) ≡ set (now (path .entry)) at v ⌝ }
-{
-    path[at] = v as u64;
-}
-
-// The walk back from the sink t: the place in the path of its first node.
-pub fn trace(net: &[u64; NET], path: &mut [u64; NODES], t: usize) -> usize
-    requires { ⌜ Leads (now net) LAST t × (length (now path) ≡ NODES) ⌝ }
-    ensures { λ a. ⌜ (a ≤ LAST) × (length (now (path .exit)) ≡ NODES) × (stepsFrom (now (path .exit)) (LAST - a) a ≡ walkNet (now (net .entry)) LAST t [])
-        × (a ≡ walkedAt (now (net .entry)) LAST t) × (now (path .exit) ≡ walkedPath (now (net .entry)) LAST t (set (now (path .entry)) LAST t)) ⌝ }
-{
-    put_node(path, LAST, t);
-    let mut at = LAST;
-    let mut v = t;
-    while v != 0 {
-        v = net[PRED + v] as usize;
-        at -= 1;
-        put_node(path, at, v);
-    }
-    at
 }

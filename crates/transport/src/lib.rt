@@ -8,13 +8,13 @@ ghost use Rattle.cost_matrix.specs.Cells.{problemOf};
 ghost use Rattle.augment.specs.Solved.{Solves};
 ghost use Rattle.transport.specs.Slices.{Shaped, totalFrom};
 ghost use Rattle.transport.specs.Public.{shapeOf, shapedOf, Told, Ensures};
-use augment::solve_laid;
 use clearing::clear_u64;
 use cost_matrix::CELLS;
 use cost_matrix::COSTS;
 use cost_matrix::WIDEST;
-use cost_matrix::lay;
 use numbers::long_u32;
+use slice_matrix::lay;
+use solving::solve_laid;
 use weights::if_allowed;
 use wide::Wide;
 

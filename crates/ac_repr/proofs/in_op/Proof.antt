@@ -1,5 +1,5 @@
 use Rattle.ac_repr.proofs.Steps.{op-row, op-rows, op-none}
-use Rattle.ac_repr.proofs.Places.{span-members, span-end}
+use Rattle.ac_ops.specs.AcOps.{span-members, span-end}
 use Rattle.spec.specs.Image.{tablesOf}
 use borrow.Author.Needs.{needs}
 use Rattle.ac_repr.proofs.in_op.Statement.{statement}

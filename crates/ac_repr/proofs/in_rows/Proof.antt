@@ -1,5 +1,5 @@
 use Rattle.ac_repr.proofs.Steps.{rows-end, rows-go}
-use Rattle.ac_repr.proofs.Places.{span-members, span-end}
+use Rattle.ac_ops.specs.AcOps.{span-members, span-end}
 use Rattle.spec.specs.Image.{tablesOf}
 use Rattle.ac_repr.proofs.in_rows.Statement.{statement}
 use Rattle.ac_repr.proofs.in_rows.Tie as tie

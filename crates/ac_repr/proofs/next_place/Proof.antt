@@ -1,5 +1,5 @@
-use Rattle.ac_repr.proofs.Places.{turn-stop, turn-more, turn-end}
-use Rattle.ac_repr.specs.Walk.{firstFrom, hasPlace}
+use Rattle.ac_ops.specs.Firsts.{turn-stop, turn-more, turn-end, firstFrom}
+use Rattle.ac_repr.specs.Walk.{hasPlace}
 use Rattle.spec.specs.Image.{tablesOf}
 use borrow.Author.Needs.{needs}
 use Prim.Native.Nat.{suc, _-_}

@@ -1,6 +1,6 @@
-use Rattle.augmenting_path.specs.PathLaws.{sent-kept}
+use Rattle.search_laws.specs.PathLaws.{sent-kept}
 use Rattle.augment.proofs.Augments.{low-of, ready-of, not-sent, way, units-fit, path-steps, sent-along}
-use Rattle.search.specs.Walk.{stepsFrom, LAST}
+use Rattle.search_laws.specs.Walk.{stepsFrom, LAST}
 use Prim.Native.Nat.{ℕ, _-_, _*_}
 use mathlib.Core.Path.{refl, ap, _∙_}
 use mathlib.Core.List.{List}
@@ -13,8 +13,8 @@ use Rattle.augment.proofs.augment.Lts as lts
 use Rattle.augment.proofs.balance.Reads as balance-reads
 use Rattle.augmenting_path.proofs.bottleneck.Reads as bottleneck-reads
 use Rattle.search.proofs.search.Reads as search-reads
-use Rattle.augmenting_path.proofs.send.Reads as send-reads
-use Rattle.search.proofs.trace.Reads as trace-reads
+use Rattle.sending.proofs.send.Reads as send-reads
+use Rattle.tracing.proofs.trace.Reads as trace-reads
 
 balance-requires : tie.Need-balance-requires
 balance-requires c κs = (c .before .before .before .before .before .before .pre .0, c .before .before .before .before .before .before .pre .1, refl, refl, c .before .before .before .before .before .before .pre .4, low-of (c .before .before .before .before .before .before .pre .8) (c .before .before .before .before .before .before .pre .3))

@@ -6,12 +6,12 @@ use mathlib.Core.Path.{_≡_, ap, _∙_}
 use lib.ListN.{getD, set}
 use Rattle.augment.proofs.fill_columns.Statement.{statement}
 use Rattle.augment.specs.Balance.{ColumnsLeft, columnSum}
-use Rattle.search.specs.Edges.{TAKEN}
+use Rattle.search_laws.specs.Edges.{TAKEN}
 use Rattle.spec.specs.Transport.{WIDEST}
 use Rattle.augment.proofs.fill_columns.Tie as tie
 use Rattle.augment.proofs.fill_columns.Reads as reads
 use Rattle.augment.proofs.fill_columns.Lts as lts
-use Rattle.augmenting_path.proofs.less.Reads as less-reads
+use Rattle.plan_parts.proofs.less.Reads as less-reads
 use Rattle.numbers.proofs.long_u32.Reads as long-u32-reads
 use Rattle.augment.proofs.put_left.Reads as put-left-reads
 use Rattle.augment.proofs.sum_every.Reads as sum-every-reads

@@ -10,7 +10,7 @@ use Rattle.augment.specs.Balance.{RowsLeft, rowSum}
 use Rattle.augment.proofs.fill_rows.Tie as tie
 use Rattle.augment.proofs.fill_rows.Reads as reads
 use Rattle.augment.proofs.fill_rows.Lts as lts
-use Rattle.augmenting_path.proofs.less.Reads as less-reads
+use Rattle.plan_parts.proofs.less.Reads as less-reads
 use Rattle.numbers.proofs.long_u32.Reads as long-u32-reads
 use Rattle.augment.proofs.put_left.Reads as put-left-reads
 use Rattle.augment.proofs.sum_every.Reads as sum-every-reads

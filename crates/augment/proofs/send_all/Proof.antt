@@ -1,4 +1,4 @@
-use Rattle.search.specs.Fits.{none-left}
+use Rattle.search_laws.specs.Fits.{none-left}
 use Rattle.augment.proofs.SendLoop.{Sending, begin-sending, midway-of, rest-lt, send-none, send-fits, send-some, send-end}
 use Rattle.augment.specs.Sending.{Start}
 use lib.ListN.{length-replicate, length, drop}
@@ -8,7 +8,7 @@ use native.Mathlib.Omega.{arith}
 use mathlib.Core.Path.{_≡_, refl, _∙_}
 use Rattle.augment.proofs.send_all.Statement.{statement}
 use Rattle.net.specs.Net.{NODES, NET}
-use Rattle.search.specs.Edges.{MARGINS}
+use Rattle.search_laws.specs.Edges.{MARGINS}
 use Rattle.augment.proofs.send_all.Tie as tie
 use Rattle.augment.proofs.send_all.Reads as reads
 use Rattle.augment.proofs.send_all.Lts as lts

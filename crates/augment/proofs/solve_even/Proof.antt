@@ -1,4 +1,4 @@
-use Rattle.augment.proofs.Solves.{laid-few, start-of, solved-plan, solved-none}
+use Rattle.augment.specs.Solves.{laid-few, start-of, solved-plan, solved-none}
 use native.Mathlib.Omega.{arith}
 use mathlib.Core.Path.{sym, _∙_}
 use borrow.Author.Needs.{needs}
@@ -6,7 +6,7 @@ use Rattle.augment.proofs.solve_even.Statement.{statement}
 use Rattle.augment.proofs.solve_even.Tie as tie
 use Rattle.augment.proofs.solve_even.Reads as reads
 use Rattle.augment.proofs.solve_even.Lts as lts
-use Rattle.augment.proofs.empty_plan.Reads as empty-plan-reads
+use Rattle.plan_parts.proofs.empty_plan.Reads as empty-plan-reads
 use Rattle.augment.proofs.send_all.Reads as send-all-reads
 
 mul-n : tie.Need-mul-n

@@ -1,7 +1,7 @@
 use Prim.Native.Nat.{min, ℕ, _≤_, _-_, _+_}
-use Rattle.augmenting_path.specs.PathLaws.{step-here, steps-next, least-turn, least-end}
-use Rattle.search.specs.Walk.{here, LAST}
-use Rattle.augmenting_path.specs.Path.{Steps, leastOn}
+use Rattle.search_laws.specs.PathLaws.{step-here, steps-next, least-turn, least-end}
+use Rattle.search_laws.specs.Walk.{here, LAST}
+use Rattle.search_laws.specs.Path.{Steps, leastOn}
 use borrow.Author.Needs.{needs}
 use native.Mathlib.Omega.{arith}
 use mathlib.Core.Path.{_≡_, refl, ap, sym, _∙_}

@@ -1,4 +1,4 @@
-use Rattle.augmenting_path.specs.PathLaws.{left-source, left-row, left-sink, left-back}
+use Rattle.search_laws.specs.PathLaws.{left-source, left-row, left-sink, left-back}
 use Prim.Native.Nat.{ℕ, _-_, _*_, _<_}
 use native.Mathlib.Omega.{arith}
 use mathlib.Core.Path.{ap, _∙_}
@@ -10,8 +10,8 @@ use Rattle.cost_matrix.specs.Matrix.{capOf}
 use Rattle.augmenting_path.proofs.left_on.Tie as tie
 use Rattle.augmenting_path.proofs.left_on.Reads as reads
 use Rattle.augmenting_path.proofs.left_on.Lts as lts
-use Rattle.augmenting_path.proofs.less.Reads as less-reads
-use Rattle.augmenting_path.proofs.place.Reads as place-reads
+use Rattle.plan_parts.proofs.less.Reads as less-reads
+use Rattle.plan_parts.proofs.place.Reads as place-reads
 
 -- the cell of a step is one of the problem's
 forward-cell : (d : tie.After-place) → d .place .result < d .before .before .before .before .before .args .r * d .before .before .before .before .before .args .c

@@ -7,7 +7,7 @@ use Rattle.best_terms.proofs.evaluate_generalize_action.Statement.{stat
 use Rattle.best_terms.proofs.evaluate_generalize_action.Tie as tie
 use Rattle.best_terms.proofs.evaluate_generalize_action.Reads as reads
 use Rattle.best_terms.proofs.evaluate_generalize_action.Lts as lts
-use Rattle.best_terms.proofs.clear.Reads as clear-reads
+use Rattle.term_clearing.proofs.clear.Reads as clear-reads
 use Rattle.best_terms.proofs.starting_term.Reads as starting-term-reads
 
 starting-term-requires : tie.Need-starting-term-requires

@@ -11,7 +11,7 @@ use Rattle.best_terms.proofs.starting_term.Tie as tie
 use Rattle.best_terms.proofs.starting_term.Reads as reads
 use Rattle.best_terms.proofs.starting_term.Lts as lts
 use Rattle.best_terms.proofs.best_term.Reads as best-term-reads
-use Rattle.member_terms.proofs.variants.Reads as variants-reads
+use Rattle.marked.proofs.variants.Reads as variants-reads
 
 best-term-requires : tie.Need-best-term-requires
 best-term-requires c κs = search needs

@@ -1,7 +1,7 @@
 use Rattle.query.specs.Settings.{limitsOf}
 use Rattle.spec.specs.Pool.{litNode}
 use Rattle.terms.specs.Buffers.{countIn}
-use Rattle.member_terms.specs.MemberRuns.{lit-node, lit-node-valid, sum-none, gives-of}
+use Rattle.op_terms.specs.MemberRuns.{lit-node, lit-node-valid, sum-none, gives-of}
 use mathlib.Core.Path.{ap, _∙_}
 use native.Mathlib.Omega.{arith}
 use borrow.Author.Needs.{needs}

@@ -1,5 +1,5 @@
 use Rattle.spec.specs.Image.{tablesOf, theMember}
-use Rattle.member_terms.specs.MemberRuns.{member-literal, member-operation}
+use Rattle.op_terms.specs.MemberRuns.{member-literal, member-operation}
 use native.Mathlib.Omega.{arith}
 use mathlib.Core.Path.{sym, _∙_}
 use borrow.Author.Needs.{needs}
@@ -11,7 +11,7 @@ use Rattle.operations.proofs.kind.Reads as kind-reads
 use Rattle.members.proofs.member_op.Reads as member-op-reads
 use Rattle.members.proofs.member_value.Reads as member-value-reads
 use Rattle.member_terms.proofs.lit_term.Reads as lit-term-reads
-use Rattle.member_terms.proofs.op_term.Reads as op-term-reads
+use Rattle.op_terms.proofs.op_term.Reads as op-term-reads
 
 member-op-requires : tie.Need-member-op-requires
 member-op-requires c κs = search needs

@@ -1,4 +1,4 @@
-use Rattle.search.proofs.Laws.{against-yes, against-not}
+use Rattle.search_laws.specs.Laws.{against-yes, against-not}
 use Rattle.wide.specs.Wrap.{addWords, negWords}
 use Rattle.wide.specs.declared.Wide.{Wide}
 use Prim.Native.Nat.{_-_}

@@ -1,4 +1,4 @@
-use Rattle.search.proofs.Laws.{column-start, column-first, column-next, column-cell, column-turn, column-end}
+use Rattle.search_laws.specs.Laws.{column-start, column-first, column-next, column-cell, column-turn, column-end}
 use Rattle.wide.specs.declared.Wide.{Wide}
 use borrow.Author.Needs.{needs}
 use Prim.Native.Nat.{ℕ, _≤_, _-_, _+_, _*_}
@@ -6,7 +6,7 @@ use native.Mathlib.Omega.{arith}
 use mathlib.Core.Path.{_≡_, ap, sym, _∙_}
 use mathlib.Core.List.{List}
 use Rattle.search.proofs.against_column.Statement.{statement}
-use Rattle.search.specs.Edges.{againstColumn}
+use Rattle.search_laws.specs.Edges.{againstColumn}
 use Rattle.search.proofs.against_column.Tie as tie
 use Rattle.search.proofs.against_column.Reads as reads
 use Rattle.search.proofs.against_column.Lts as lts

@@ -1,4 +1,4 @@
-use Rattle.search.proofs.Laws.{cell-yes, cell-not}
+use Rattle.search_laws.specs.Laws.{cell-yes, cell-not}
 use Rattle.wide.specs.Wrap.{addWords}
 use Rattle.wide.specs.declared.Wide.{Wide}
 use Prim.Native.Nat.{_-_}

@@ -1,4 +1,4 @@
-use Rattle.search.proofs.Laws.{margin-yes, margin-not}
+use Rattle.search_laws.specs.Laws.{margin-yes, margin-not}
 use Prim.Native.Nat.{_-_}
 use native.Mathlib.Omega.{arith}
 use mathlib.Core.Path.{_∙_}

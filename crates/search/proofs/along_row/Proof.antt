@@ -1,4 +1,4 @@
-use Rattle.search.proofs.Laws.{row-start, row-turn, row-end}
+use Rattle.search_laws.specs.Laws.{row-start, row-turn, row-end}
 use Rattle.wide.specs.declared.Wide.{Wide}
 use borrow.Author.Needs.{needs}
 use Prim.Native.Nat.{ℕ, _≤_, _-_, _+_}
@@ -6,7 +6,7 @@ use native.Mathlib.Omega.{arith}
 use mathlib.Core.Path.{_≡_, ap, sym, _∙_}
 use mathlib.Core.List.{List}
 use Rattle.search.proofs.along_row.Statement.{statement}
-use Rattle.search.specs.Edges.{alongRow}
+use Rattle.search_laws.specs.Edges.{alongRow}
 use Rattle.search.proofs.along_row.Tie as tie
 use Rattle.search.proofs.along_row.Reads as reads
 use Rattle.search.proofs.along_row.Lts as lts

@@ -1,12 +1,12 @@
-use Rattle.search.proofs.SearchLoop.{Searching, begins, turn, ends, not-reached, reached, Ran, ran-start, ran-turn, ran-end, searched-net, unseen-sink, seen-sink}
-use Rattle.search.specs.Fits.{none-left}
-use Rattle.search.specs.Holds.{Ready}
+use Rattle.search_laws.specs.SearchLoop.{Searching, begins, turn, ends, not-reached, reached, Ran, ran-start, ran-turn, ran-end, searched-net, unseen-sink, seen-sink}
+use Rattle.search_laws.specs.Fits.{none-left}
+use Rattle.search_laws.specs.Holds.{Ready}
 use borrow.Author.Needs.{needs}
 use Prim.Native.Nat.{_-_, _+_}
 use mathlib.Core.Path.{_≡_, _∙_}
 use Rattle.search.proofs.search.Statement.{statement}
 use Rattle.net.specs.Net.{firstOf, left}
-use Rattle.search.specs.Edges.{visited, measure}
+use Rattle.search_laws.specs.Edges.{visited, measure}
 use Rattle.search.proofs.search.Tie as tie
 use Rattle.search.proofs.search.Reads as reads
 use Rattle.search.proofs.search.Lts as lts

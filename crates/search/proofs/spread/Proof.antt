@@ -1,4 +1,4 @@
-use Rattle.search.proofs.Laws.{spread-start, spread-turn, spread-end}
+use Rattle.search_laws.specs.Laws.{spread-start, spread-turn, spread-end}
 use Rattle.wide.specs.declared.Wide.{Wide}
 use borrow.Author.Needs.{needs}
 use Prim.Native.Nat.{ℕ, _≤_, _-_, _+_}
@@ -6,7 +6,7 @@ use native.Mathlib.Omega.{arith}
 use mathlib.Core.Path.{_≡_, ap, sym, _∙_}
 use mathlib.Core.List.{List}
 use Rattle.search.proofs.spread.Statement.{statement}
-use Rattle.search.specs.Edges.{spreadTo}
+use Rattle.search_laws.specs.Edges.{spreadTo}
 use Rattle.search.proofs.spread.Tie as tie
 use Rattle.search.proofs.spread.Reads as reads
 use Rattle.search.proofs.spread.Lts as lts

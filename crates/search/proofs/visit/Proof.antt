@@ -1,4 +1,4 @@
-use Rattle.search.proofs.Laws.{visited-source, visited-row, visited-column, visited-sink}
+use Rattle.search_laws.specs.Laws.{visited-source, visited-row, visited-column, visited-sink}
 use Rattle.wide.specs.declared.Wide.{Wide}
 use Prim.Native.Nat.{ℕ, _-_, _+_}
 use native.Mathlib.Omega.{arith}
@@ -9,7 +9,7 @@ use borrow.Author.Needs.{needs}
 use Rattle.search.proofs.visit.Statement.{statement}
 use Rattle.cost_matrix.specs.Places.{row-fits}
 use Rattle.net.specs.Net.{labelOf, left}
-use Rattle.search.specs.Edges.{alongMargin, againstColumn}
+use Rattle.search_laws.specs.Edges.{alongMargin, againstColumn}
 use Rattle.spec.specs.Transport.{WIDEST}
 use Rattle.search.proofs.visit.Tie as tie
 use Rattle.search.proofs.visit.Reads as reads

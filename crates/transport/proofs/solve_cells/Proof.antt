@@ -6,8 +6,8 @@ use Rattle.transport.proofs.solve_cells.Statement.{statement}
 use Rattle.transport.proofs.solve_cells.Tie as tie
 use Rattle.transport.proofs.solve_cells.Reads as reads
 use Rattle.transport.proofs.solve_cells.Lts as lts
-use Rattle.augment.proofs.solve_laid.Reads as solve-laid-reads
-use Rattle.cost_matrix.proofs.lay.Reads as lay-reads
+use Rattle.solving.proofs.solve_laid.Reads as solve-laid-reads
+use Rattle.slice_matrix.proofs.lay.Reads as lay-reads
 
 lay-requires : tie.Need-lay-requires
 lay-requires c κs = search needs

@@ -1,2 +1,0 @@
-pub mod Path
-pub mod PathLaws

@@ -1,4 +1,0 @@
-pub mod Edges
-pub mod Holds
-pub mod Walk
-pub mod Fits

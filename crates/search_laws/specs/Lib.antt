@@ -1,0 +1,13 @@
+pub mod Edges
+pub mod Holds
+pub mod Fits
+pub mod Laws
+pub mod NetReads
+pub mod Once
+pub mod Relaxation
+pub mod Visits
+pub mod Turns
+pub mod SearchLoop
+pub mod Walk
+pub mod Path
+pub mod PathLaws

@@ -1,0 +1,1 @@
+// what a search and its path are on plain lists, and laws about them: see specs/
