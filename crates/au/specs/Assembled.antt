@@ -11,6 +11,7 @@ use Rattle.spec.specs.Bytes as bytes
 use Rattle.spec.specs.Bytes.{both, either, refused}
 use Rattle.spec.specs.Run.{documentLimits}
 use Rattle.spec.specs.Merge.{mergeUnder, mergeOf, outputAfter}
+use Rattle.laws.specs.Tests.{both-true}
 use Rattle.lgg.specs.Results.{refused-ok, refused-inj}
 use Rattle.lgg.specs.Limits.{NoLess}
 use Rattle.query.specs.Settings.{limitsOf}
@@ -46,13 +47,6 @@ pub work-alone : (fit : Bool) (a b c d e f : List ℕ) → fit ≡ false → Cle
 work-alone fit a b c d e f q = rw q (record { graph = refl; pairs = refl; work = refl; flow = refl; terms = refl; runs = refl })
 
 -- ---- past 1
-two : (a b : Bool) → both a b ≡ true → (a ≡ true) × (b ≡ true)
-two true b e = (refl, e)
-two false b e = let z : true ≡ false = sym e in absurd (no z)
-  where
-    no : true ≡ false → ⊥
-    no z = let y : _≡_ {A = ℕ} 0 1 = cc in omega arith
-
 -- the lent buffers have their constant lengths
 pub record Wide (a b c d e f : List ℕ) : Type 0 where
   pub graph : 4352 ≤ length a
@@ -68,12 +62,12 @@ pub record Enough (t : List Pair) (a b c d e f : List ℕ) : Type 0 where
 
 pub enough : (t : List Pair) (a b c d e f : List ℕ) → fits t a b c d e f ≡ true → Enough t a b c d e f
 enough t a b c d e f q =
-    let (q₁, r₁) = two (leb 256 (length t)) _ q in
-    let (q₂, r₂) = two (leb 4352 (length a)) _ r₁ in
-    let (q₃, r₃) = two (leb 1536 (length b)) _ r₂ in
-    let (q₄, r₄) = two (leb 1024 (length c)) _ r₃ in
-    let (q₅, r₅) = two (leb 256 (length d)) _ r₄ in
-    let (q₆, q₇) = two (leb 3074 (length e)) _ r₅ in
+    let (q₁, r₁) = both-true (leb 256 (length t)) _ .0 q in
+    let (q₂, r₂) = both-true (leb 4352 (length a)) _ .0 r₁ in
+    let (q₃, r₃) = both-true (leb 1536 (length b)) _ .0 r₂ in
+    let (q₄, r₄) = both-true (leb 1024 (length c)) _ .0 r₃ in
+    let (q₅, r₅) = both-true (leb 256 (length d)) _ .0 r₄ in
+    let (q₆, q₇) = both-true (leb 3074 (length e)) _ .0 r₅ in
     record {
       table = leb-true 256 (length t) q₁;
       wide = record { graph = leb-true 4352 (length a) q₂; pairs = leb-true 1536 (length b) q₃; work = leb-true 1024 (length c) q₄; flow = leb-true 256 (length d) q₅; terms = leb-true 3074 (length e) q₆; runs = leb-true 1024 (length f) q₇ };
@@ -97,7 +91,7 @@ full-roomy w = record {
   rooms = record { few = omega arith; ends = omega arith; long = omega (arith, w .terms); roomy = omega (arith, w .runs) };
 }
 
--- what the two calls of `merge_under` ask
+-- what the both-true calls of .0 `merge_under` ask
 module _ (lim : Limits) (t : List Pair) (a b c d e f : List ℕ) where
   abbrev pub Asked : Type 0
   Asked = (lim .pairs ≤ 4096) × (lim .pairs ≤ length t) × Roomy (limitsOf lim) a b c d e f

@@ -14,9 +14,10 @@ use lib.ListN.{length, getD, set, length-set}
 use lib.Seq.{getD-set-same, getD-set-other}
 use Rattle.spec.specs.Bytes.{pick, Two}
 use Rattle.spec.specs.Transport.{Problem, weight, rowsOf, colsOf, nodeCount, sink, vertexOf, source, row, column, target, residual, capacity, moved, rowFlow, colFlow, supplyAt, demandAt, allowed, cellAt, searched, found, walkBack, bottleneck, shift, push}
+use Rattle.laws.specs.Tests.{clash}
 use Rattle.flow.specs.Sums.{sum-cong}
 use Rattle.flow.specs.Network.{NodeIs, isSource, isRow, isColumn, isSink, view, node-row, node-column, node-sink, rowFlow-is, colFlow-is}
-use Rattle.flow.specs.Search.{labelAt, predAt, residualOf, AtRest, none-some, true-false, status}
+use Rattle.flow.specs.Search.{labelAt, predAt, residualOf, AtRest, none-some, status}
 use Rattle.flow.specs.SearchEnds.{dearest, dear, searched-rests}
 use Rattle.flow.specs.AugmentingPath.{TightPath, end, step, next, before, hops-lt, path, bottleneck-le}
 use Rattle.flow.specs.Augmentation.{Partial}
@@ -251,7 +252,7 @@ module _ {r c : ℕ} {supply demand g f : List ℕ} (M : Midway r c supply deman
     where
       go : (o : Option ℤ) → labelAt (searched (M .p) (weight (M .p)) (M .x)) (sink (M .p)) ≡ o → o ≡ none
       go none e = refl
-      go (some z) e = absurd (true-false (sym (W .is ∙ ap found e)))
+      go (some z) e = absurd (clash (sym (W .is ∙ ap found e)))
 
   -- it did: what the walk back, the bottleneck and the units sent ask for and give
   pub record Way (y m : List ℕ) : Type 0 where
@@ -273,7 +274,7 @@ module _ {r c : ℕ} {supply demand g f : List ℕ} (M : Midway r c supply deman
       R = ready-of y B
 
       go : (labelAt (searched (M .p) (weight (M .p)) (M .x)) (sink (M .p)) ≡ none) ⊎ ((k : ℕ) × (labelAt (searched (M .p) (weight (M .p)) (M .x)) (sink (M .p)) ≡ some (pos k)) × (M .partly .π (sink (M .p)) ≤ k)) → Way y m
-      go (inl e) = absurd (true-false (W .is ∙ ap found e))
+      go (inl e) = absurd (clash (W .is ∙ ap found e))
       go (inr (k, e, _)) =
           let t = tight (M .p) few-of (M .x) (M .partly) m (W .net) k e in
           let π′ = next (M .p) (weight (M .p)) (M .x) (M .partly .π) (M .partly .pot) (searched (M .p) (weight (M .p)) (M .x)) at-rest in

@@ -12,9 +12,9 @@ use lib.ListN.{length, getD}
 use Rattle.spec.specs.Bytes.{sumTo, sum}
 use Rattle.spec.specs.Meaning.{Plan}
 use Rattle.spec.specs.Transport.{Problem, allowed, rowsOf, colsOf, cellAt, supplyAt, demandAt, moved, rowFlow, colFlow, solveCells}
+use Rattle.laws.specs.Tests.{clash}
 use Rattle.flow.specs.Sums.{sum-cong, sum-split, listSum-is}
 use Rattle.flow.specs.Network.{rowFlow-is, colFlow-is}
-use Rattle.flow.specs.Search.{true-false}
 use Rattle.flow.specs.Theorems.{refused-where}
 use Rattle.cost_matrix.specs.Cells.{problemOf, cell-allowed}
 use Rattle.augment.specs.Solved.{isPlan, Solves}
@@ -104,7 +104,7 @@ module _ (p : Problem) (hr : 0 < rowsOf p) (hc : 0 < colsOf p) (ev : sum (p .sup
       someColumn = hc;
       rows = spread-row;
       columns = spread-column;
-      kept = λ i j hi hj e. absurd (true-false (sym (open-cells i j hi hj) ∙ e));
+      kept = λ i j hi hj e. absurd (clash (sym (open-cells i j hi hj) ∙ e));
     }
 
     pub has-plan : (x : List ℕ) × (solveCells p ≡ some x)

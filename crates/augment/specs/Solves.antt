@@ -12,8 +12,8 @@ use lib.ListN.{length, getD, take, drop, replicate, length-replicate, take-appen
 use lib.Seq.{getD-take, ext-getD, length-take-le, take-at, drop-at}
 use Rattle.spec.specs.Bytes.{either, sum}
 use Rattle.spec.specs.Transport.{Problem, weight, rowsOf, colsOf, augment, solveCells, WIDEST}
+use Rattle.laws.specs.Tests.{clash}
 use Rattle.laws.specs.Buffers.{over}
-use Rattle.flow.specs.Search.{true-false}
 use Rattle.flow.specs.SearchEnds.{getD-same}
 use Rattle.flow.specs.Solver.{empty}
 use Rattle.cost_matrix.specs.Matrix.{Given, Laid}
@@ -71,9 +71,6 @@ module _ (p : Problem) where
 
   none-in : (f : List ℕ) → solveCells p ≡ none → PlanIn p false f
   none-in f e = record { is = sym (ap isPlan e); plan = λ x q. absurd (clash (ap isPlan (sym q ∙ e))) }
-    where
-      clash : true ≡ false → ⊥
-      clash q = let z : _≡_ {A = ℕ} 0 1 = cc in omega arith
 
   -- ---- the plan's buffer: what stands behind the cells is as it was
   none-solves : (f f′ y : List ℕ) → solveCells p ≡ none → f′ ≡ over (replicate (rowsOf p * colsOf p) 0) y → drop (rowsOf p * colsOf p) y ≡ drop (rowsOf p * colsOf p) f → Solves p f f′ false
@@ -89,7 +86,7 @@ module _ (p : Problem) where
   plan-solves f y P l d = record { is = P .is; flow = go (solveCells p) refl }
     where
       go : (o : Option (List ℕ)) → solveCells p ≡ o → y ≡ over (planOr0 (rowsOf p * colsOf p) o) f
-      go none e = absurd (true-false (P .is ∙ ap isPlan e))
+      go none e = absurd (clash (P .is ∙ ap isPlan e))
       go (some x) e = begins (rowsOf p * colsOf p) x f y (sym (ap length (P .plan x e)) ∙ length-take-le (rowsOf p * colsOf p) y l) (P .plan x e) d
 
 -- ---- at most 65 rows and columns
@@ -166,4 +163,4 @@ module _ (p : Problem) (supply demand g : List ℕ) (G : Given p supply demand g
       where
         none-of : (o : Option (List ℕ)) → false ≡ isPlan o → o ≡ none
         none-of none e = refl
-        none-of (some x) e = absurd (true-false (sym e))
+        none-of (some x) e = absurd (clash (sym e))

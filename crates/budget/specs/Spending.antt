@@ -8,9 +8,7 @@ use Rattle.budget.specs.declared.Budget.{Budget}
 use Rattle.budget.specs.declared.Spent.{Spent}
 use Rattle.budget.specs.Budget.{spendAt, spendOf, spendManyOf}
 use Rattle.budget.specs.Checks.{many-pass, many-expire}
-
-clash : true ≡ false → ⊥
-clash e = let y : _≡_ {A = ℕ} 0 1 = cc in omega arith
+use Rattle.laws.specs.Tests.{clash}
 
 none-left : (b : ℕ) → spendAt b .passed ≡ false → b ≡ 0
 none-left zero e = refl

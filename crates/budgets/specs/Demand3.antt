@@ -18,7 +18,8 @@ use Rattle.spec.specs.Run.{Outcome, started, runOf}
 use Rattle.spec.specs.Listing.{listingOf}
 use Rattle.spec.specs.Merge.{mergeUnder}
 use Rattle.spec.specs.Meaning.{In, _⊑_, Derivation, Reachable}
-use Rattle.lgg.specs.Lists.{clash, Distinct}
+use Rattle.laws.specs.Tests.{clash}
+use Rattle.lgg.specs.Lists.{Distinct}
 use Rattle.lgg.specs.Results.{refused-ok, ok-inj}
 use Rattle.budgets.specs.Transport.{transport-theorems}
 use Rattle.lgg.specs.Rounds.{LeastOf, qualityAfter, changed, q-start, quiet-same, changed-differs, attained, least, least-every, bound}

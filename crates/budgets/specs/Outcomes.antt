@@ -15,7 +15,8 @@ use Rattle.spec.specs.Pool.{Interned}
 use Rattle.spec.specs.Round.{startingQuality, lookUp, qualitiesAfter}
 use Rattle.spec.specs.Run.{Outcome, started, runOf}
 use Rattle.spec.specs.Meaning.{In, here, _⊑_, Derivation, start, action, transport}
-use Rattle.lgg.specs.Lists.{clash, same-refl}
+use Rattle.laws.specs.Tests.{clash}
+use Rattle.lgg.specs.Lists.{same-refl}
 use Rattle.lgg.specs.Quality.{⊑-of-eq}
 use Rattle.lgg.specs.Turn.{TransportTheorems}
 use Rattle.lgg.specs.Rounds.{LeastOf, Closed, qualityAfter, changed, quiet-same, changed-differs, bound}

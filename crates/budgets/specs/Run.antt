@@ -13,7 +13,8 @@ use Rattle.spec.specs.Graph.{build}
 use Rattle.spec.specs.Pool.{Interned, startingTerm}
 use Rattle.spec.specs.Round.{Terms, Turn, changes, startingQuality, turnOf, turnsOf, next, lookUp, qualitiesAfter}
 use Rattle.spec.specs.Run.{Outcome, State, outcome, startingTerms, roundTerms, afterRound, roundsFrom, started, afterStarting, afterBuilding, runOf}
-use Rattle.lgg.specs.Lists.{clash, length-map}
+use Rattle.laws.specs.Tests.{clash}
+use Rattle.lgg.specs.Lists.{length-map}
 use Rattle.lgg.specs.Results.{Later, refused-ok, ok-inj, bind-ok}
 use Rattle.lgg.specs.Rounds.{changed}
 use Rattle.lgg.specs.Checks.{Spent, cut, paid, ended, starting-spends, starting-later, round-spends, round-later, withBudget}

@@ -11,7 +11,8 @@ use lib.Dec.{eqb}
 use lib.ListN.{length, getD, drop}
 use Rattle.spec.specs.Bytes.{Two, any, both, sameTwo}
 use Rattle.spec.specs.Image.{Tables, Class, Member, Lit, doubledIn, hasLiteral, kindOf, membersOf, spansFollow, tablesOf, theClass, theMember}
-use Rattle.laws.specs.AcceptedLists.{both-true, follow-cons}
+use Rattle.laws.specs.Tests.{both-true}
+use Rattle.laws.specs.AcceptedLists.{follow-cons}
 use Rattle.laws.specs.AcceptedLiterals.{isLiteral}
 use Rattle.laws.specs.AcceptedSpans.{follow-rule, class-span, class-spans-length, classes-within, part-length, part-at}
 use Rattle.laws.specs.AcceptedTurns.{any-go, any-stop, any-end, later-literals}

@@ -9,7 +9,8 @@ use lib.ListN.{length, getD, drop, set, length-drop}
 use lib.Seq.{getD-drop, getD-set-same, getD-set-other}
 use Rattle.spec.specs.Bytes.{any}
 use Rattle.spec.specs.Image.{Tables, Member, theMember}
-use Rattle.laws.specs.AcceptedLists.{any-in, at-in, is-false}
+use Rattle.laws.specs.Tests.{is-false}
+use Rattle.laws.specs.AcceptedLists.{any-in, at-in}
 use Rattle.laws.specs.AcceptedLiterals.{isLiteral, literal-rule}
 
 abbrev pub SLOTS : ℕ

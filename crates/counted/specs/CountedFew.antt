@@ -12,10 +12,11 @@ use Rattle.spec.specs.Bytes.{pick, each, upFrom, sum, Two}
 use Rattle.spec.specs.Image.{Tables, Lit, kindOf, bestMember, childrenOf}
 use Rattle.spec.specs.Round.{Act, Choice, stay, act, changes, Turn, turnOf}
 use Rattle.spec.specs.Meaning.{In, here, there, Term, lit, node, variants, Runs}
+use Rattle.laws.specs.Tests.{clash}
 use Rattle.laws.specs.Valid.{Valid}
 use Rattle.laws.specs.Buffers.{up-length}
 use Rattle.flow.specs.Queue.{upFrom-in}
-use Rattle.lgg.specs.Lists.{clash, in-cons, in-nil, in-map, in-each, length-map, Distinct, none, more, pigeon}
+use Rattle.lgg.specs.Lists.{in-cons, in-nil, in-map, in-each, length-map, Distinct, none, more, pigeon}
 use Rattle.lgg.specs.Quality.{⊏-not, ⊑-of-eq}
 use Rattle.lgg.specs.Turn.{Told, turn-told}
 use Rattle.lgg.specs.TurnPlaces.{children-few}

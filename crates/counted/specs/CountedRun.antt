@@ -15,8 +15,9 @@ use Rattle.spec.specs.Pool.{Pool, Interned, startingTerm}
 use Rattle.spec.specs.Round.{Terms, prepend, Choice, stay, act, Turn, changes, startingQuality, lookUp, choiceTerm, turnOf, turnsOf, turnsTerms, qualitiesAfter}
 use Rattle.spec.specs.Run.{documentLimits, State, Outcome, outcome, startingTerms, roundTerms, afterRound, roundsFrom, started, afterStarting, afterBuilding, runOf}
 use Rattle.spec.specs.Meaning.{In, here, there, Term, treeAt}
+use Rattle.laws.specs.Tests.{clash}
 use Rattle.laws.specs.Valid.{Valid}
-use Rattle.lgg.specs.Lists.{clash, in-cons, in-nil, same-eq, same-refl}
+use Rattle.lgg.specs.Lists.{in-cons, in-nil, same-eq, same-refl}
 use Rattle.lgg.specs.Results.{ok-inj, refused-ok, bind-ok, bind-refused}
 use Rattle.lgg.specs.Quality.{_⊏_}
 use Rattle.lgg.specs.Turn.{Told, turn-told}

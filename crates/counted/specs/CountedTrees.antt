@@ -14,11 +14,11 @@ use Rattle.spec.specs.Image.{Tables, kindOf, isCommutative}
 use Rattle.spec.specs.Pool.{Node, Pool, nodeAt, joinTo, joinRuns, opNode, runCount, Order, compareℕ, then, isGreater, structuralCmp, insertRun, sortRuns}
 use Rattle.spec.specs.Round.{planRuns}
 use Rattle.spec.specs.Meaning.{In, here, there, Term, lit, node, variants, Runs, done, run, expand, runsOf, treeOf, treesAfter, treeAt}
-use Rattle.lgg.specs.Lists.{clash, length-map, in-append, in-cons, in-nil}
+use Rattle.laws.specs.Tests.{both-true, clash}
+use Rattle.lgg.specs.Lists.{length-map, in-append, in-cons, in-nil}
 use Rattle.lgg.specs.Bag.{replicate-in}
 use Rattle.lgg.specs.Pool.{RunsBelow, runs-below-tail, runs-below-cons, runs-below-nil, Formed, operation, literal, marked, NodeValid, PoolValid, numbered, join-below, trees-length, tree-operation, tree-literal, tree-marked}
 use Rattle.lgg.specs.PoolTrees.{tree-is, valid-below, trees-apart, branches-below}
-use Rattle.lgg.specs.PoolIntern.{both-true}
 use Rattle.lgg.specs.PoolSort.{sort-perm, perm-below, actionRuns}
 use Rattle.lgg.specs.OrderTerms.{headOf, opOf, valueOf, expandedChildren, lex, termCmp}
 use Rattle.lgg.specs.Order.{as-expanded, tree-fuel}
@@ -29,23 +29,23 @@ mutual
   unfolding sameTree
 
   pub same-tree : (a b : Term) → sameTree a b ≡ true → a ≡ b
-  same-tree (lit o v) (lit p w) e = let (x, y) = both-true (eqb o p) (eqb v w) e in ap₂ lit (eqb-true o p x) (eqb-true v w y)
+  same-tree (lit o v) (lit p w) e = let (x, y) = both-true (eqb o p) (eqb v w) .0 e in ap₂ lit (eqb-true o p x) (eqb-true v w y)
   same-tree (lit o v) (node p s) e = absurd (clash (sym e))
   same-tree (lit o v) (variants c d) e = absurd (clash (sym e))
   same-tree (node o r) (lit p w) e = absurd (clash (sym e))
-  same-tree (node o r) (node p s) e = let (x, y) = both-true (eqb o p) (sameRuns r s) e in ap₂ node (eqb-true o p x) (same-runs r s y)
+  same-tree (node o r) (node p s) e = let (x, y) = both-true (eqb o p) (sameRuns r s) .0 e in ap₂ node (eqb-true o p x) (same-runs r s y)
   same-tree (node o r) (variants c d) e = absurd (clash (sym e))
   same-tree (variants a b) (lit p w) e = absurd (clash (sym e))
   same-tree (variants a b) (node p s) e = absurd (clash (sym e))
-  same-tree (variants a b) (variants c d) e = let (x, y) = both-true (sameTree a c) (sameTree b d) e in ap₂ variants (same-tree a c x) (same-tree b d y)
+  same-tree (variants a b) (variants c d) e = let (x, y) = both-true (sameTree a c) (sameTree b d) .0 e in ap₂ variants (same-tree a c x) (same-tree b d y)
 
   same-runs : (r s : Runs) → sameRuns r s ≡ true → r ≡ s
   same-runs done done e = refl
   same-runs done (run b m s) e = absurd (clash (sym e))
   same-runs (run a n r) done e = absurd (clash (sym e))
   same-runs (run a n r) (run b m s) e =
-      let (x, f) = both-true (sameTree a b) (both (eqb n m) (sameRuns r s)) e in
-      let (y, z) = both-true (eqb n m) (sameRuns r s) f in
+      let (x, f) = both-true (sameTree a b) (both (eqb n m) (sameRuns r s)) .0 e in
+      let (y, z) = both-true (eqb n m) (sameRuns r s) .0 f in
       let u = same-tree a b x in let w = eqb-true n m y in let q = same-runs r s z in
       λ i. run (u i) (w i) (q i)
 

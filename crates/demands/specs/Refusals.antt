@@ -14,9 +14,9 @@ use Rattle.spec.specs.Run.{documentLimits, Outcome, runOf}
 use Rattle.spec.specs.Listing.{listingOf}
 use Rattle.spec.specs.Merge.{mergeOf, outputAfter}
 use Rattle.spec.specs.Meaning.{HoldsDoubled}
+use Rattle.laws.specs.Tests.{clash}
 use Rattle.laws.specs.Valid.{Keeps}
 use Rattle.laws.specs.Accepted as A
-use Rattle.lgg.specs.Lists.{clash}
 use Rattle.lgg.specs.Results.{refused-ok, refused-inj}
 use Rattle.lgg.specs.Graph.{PairCount}
 use Rattle.counted.specs.CountedRun.{root-starts}

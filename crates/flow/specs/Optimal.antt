@@ -12,12 +12,13 @@ use lib.IntN.{pos}
 use Rattle.spec.specs.Bytes.{pick, sumTo, sum}
 use Rattle.spec.specs.Meaning.{Plan, _⊑_}
 use Rattle.spec.specs.Transport.{forbidden, Problem, allowed, sizeOf, massOf, largest, weight, rowsOf, colsOf, cellAt, supplyAt, demandAt, capacity, moved, row, column, sink, nodeCount, planSize, planMass, residual, price, Search, searched, found, solveCells}
+use Rattle.laws.specs.Tests.{clash}
 use Rattle.flow.specs.Augmentation.{rowSum, colSum, costAt, price-fwd, price-back, forward, Partial}
 use Rattle.flow.specs.Certificate.{Meets, Duals, optimal}
 use Rattle.flow.specs.Cut.{Closed, stuck, find}
 use Rattle.flow.specs.Lexicographic.{lexicographic}
 use Rattle.flow.specs.Network.{rowFlow-is, colFlow-is, planSize-sum2, planMass-sum2, largest-ge, node-row, node-column, node-sink}
-use Rattle.flow.specs.Search.{true-false, labelAt, residualOf, status, Settled, AtRest}
+use Rattle.flow.specs.Search.{labelAt, residualOf, status, Settled, AtRest}
 use Rattle.flow.specs.SearchEnds.{dearest, dear, searched-rests}
 use Rattle.flow.specs.Signed.{posPart, negPart}
 use Rattle.flow.specs.Solver.{solved, Outcome, total-of, placed, full, halted, refusedAtOnce, ran}
@@ -82,7 +83,7 @@ some-eq {x = x} p q = ap (from x) (sym p ∙ q)
     from d (some z) = z
 
 none-some-plan : {x : List ℕ} {o : Option (List ℕ)} → o ≡ none → o ≡ some x → ⊥
-none-some-plan p q = true-false (ap has (sym q ∙ p))
+none-some-plan p q = clash (ap has (sym q ∙ p))
   where
     has : Option (List ℕ) → Bool
     has none = false
@@ -132,7 +133,7 @@ module _ (p : Problem) (w : ℕ) (x : List ℕ) (I : Partial p w x) (lt : placed
   spread a b ha hb r e = go (status p w x (I .π) (I .pot) (dearest p w) (dear p w) s (rest .hops) (rest .good) a)
     where
       go : (labelAt s a ≡ none) ⊎ ((k : ℕ) × (labelAt s a ≡ some (pos k)) × (I .π a ≤ k)) → found (labelAt s b) ≡ true
-      go (inl q) = absurd (true-false (sym e ∙ ap found q))
+      go (inl q) = absurd (clash (sym e ∙ ap found q))
       go (inr (k, q, z)) = let (l, y, t) = rest .ok a b ha hb r k q in ap found y
 
   closed : Closed (rowsOf p) (colsOf p) (supplyAt p) (demandAt p) (λ i j. capacity p i j) (λ i j. moved p x i j) (λ i. found (labelAt s (1 + i))) (λ j. found (labelAt s (1 + rowsOf p + j)))
@@ -147,7 +148,7 @@ module _ (p : Problem) (w : ℕ) (x : List ℕ) (I : Partial p w x) (lt : placed
     where
       at : (j : ℕ) → j < colsOf p → found (labelAt s (1 + rowsOf p + j)) ≡ true → Dec (colSum p x j < demandAt p j) → colSum p x j ≡ demandAt p j
       at j hj e (no h) = omega (arith, I .cols j hj)
-      at j hj e (yes h) = absurd (true-false (sym (spread (1 + rowsOf p + j) (sink p) (omega arith) (omega arith) (rw (node-column p j hj, node-sink p) (omega (arith, colFlow-is p x j))) e) ∙ ap found out))
+      at j hj e (yes h) = absurd (clash (sym (spread (1 + rowsOf p + j) (sink p) (omega arith) (omega arith) (rw (node-column p j hj, node-sink p) (omega (arith, colFlow-is p x j))) e) ∙ ap found out))
 
   pub no-plan : (y : List ℕ) → Plan p y → ⊥
   unfolding residual

@@ -15,6 +15,7 @@ use lib.Seq.{getD-set-same, getD-set-other}
 use Rattle.spec.specs.Bytes.{pick, both, sumTo}
 use Rattle.spec.specs.Meaning.{In, here, there}
 use Rattle.spec.specs.Transport.{Problem, Vertex, source, row, column, target, nodeCount, vertexOf, neighbours, residual, price, Search, improves, labelOr0, label, leave, relax, visit, search, found}
+use Rattle.laws.specs.Tests.{clash}
 use Rattle.flow.specs.Cut.{bit}
 use Rattle.flow.specs.Flat.{at}
 use Rattle.flow.specs.Queue.{in-nil, queue-keeps, queue-has, queue-length, queue-from, in-tail}
@@ -30,11 +31,8 @@ labelOr inf (some z) = posPart z
 pub same-label : {k l : ℕ} {o : Option ℤ} → o ≡ some (pos k) → o ≡ some (pos l) → k ≡ l
 same-label p q = ap (labelOr 0) (sym p ∙ q)
 
-pub true-false : true ≡ false → ⊥
-true-false q = let z : _≡_ {A = ℕ} 0 1 = cc in omega arith
-
 pub none-some : {z : ℤ} {o : Option ℤ} → o ≡ none → o ≡ some z → ⊥
-none-some p q = true-false (ap found (sym q ∙ p))
+none-some p q = clash (ap found (sym q ∙ p))
 
 abbrev pub labelAt : Search → ℕ → Option ℤ
 labelAt s v = getD (s .dist) v none
@@ -358,7 +356,7 @@ module _ (p : Problem) (w : ℕ) (x : List ℕ) where
       where
         fl : (z : ℕ) → Dec (z ≡ u) → getD (set (s .queued) u false) z false ≡ true → In z q
         fl z (no ne) f = let i : In z (s .queue) = G .flags z (sym (getD-set-other (s .queued) u z false false ne) ∙ f) in in-tail (rw e at i) ne
-        fl z (yes y) f = absurd (true-false (sym (rw y at f) ∙ getD-set-same (s .queued) u false false (lt y)))
+        fl z (yes y) f = absurd (clash (sym (rw y at f) ∙ getD-set-same (s .queued) u false false (lt y)))
           where
             lt : z ≡ u → u < length (s .queued)
             lt y = let (a, b) = G .inside u (rw e here) in omega (arith, G .flagLength)

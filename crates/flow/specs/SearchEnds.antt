@@ -11,11 +11,12 @@ use lib.IntN.{pos}
 use lib.ListN.{getD, replicate, length-replicate}
 use Rattle.spec.specs.Meaning.{In, here, there}
 use Rattle.spec.specs.Transport.{forbidden, Problem, sizeOf, massOf, largest, cellCost, rowsOf, colsOf, cellAt, Vertex, source, row, column, target, sink, nodeCount, vertexOf, neighbours, residual, price, begin, searchFuel, searched, found}
+use Rattle.laws.specs.Tests.{clash}
 use Rattle.flow.specs.Cut.{bit}
 use Rattle.flow.specs.Flat.{at}
 use Rattle.flow.specs.Network.{largest-ge, NodeIs, view, isSource, isRow, isColumn, isSink}
 use Rattle.flow.specs.Queue.{in-nil, in-upFrom, upFrom-in}
-use Rattle.flow.specs.Search.{labelOr, true-false, none-some, labelAt, predAt, NodeLabel, residualOf, priceOf, Potential, Labelled, reachedCount, Settled, AtRest, rests, unseen, root}
+use Rattle.flow.specs.Search.{labelOr, none-some, labelAt, predAt, NodeLabel, residualOf, priceOf, Potential, Labelled, reachedCount, Settled, AtRest, rests, unseen, root}
 use Rattle.flow.specs.Signed.{posPart, negPart, z-neg}
 use Rattle.flow.specs.Sums.{sum-mono, sum-const, sum-term}
 
@@ -115,7 +116,7 @@ module _ (p : Problem) (w : ℕ) (x : List ℕ) where
 
       flag : (v : ℕ) → getD (true ∷ replicate (sink p) false) v false ≡ true → In v (0 ∷ [])
       flag zero e = here
-      flag (suc v) e = absurd (true-false (sym e ∙ getD-same (sink p) v false))
+      flag (suc v) e = absurd (clash (sym e ∙ getD-same (sink p) v false))
 
       ins : (v : ℕ) → In v (0 ∷ []) → (v < nodeCount p) × ((l : ℕ) × (labelAt (begin p) v ≡ some (pos l)))
       ins v here = (omega arith, (0, refl))

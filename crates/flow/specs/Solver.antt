@@ -13,10 +13,11 @@ use lib.IntN.{ℤ, pos}
 use lib.ListN.{replicate, length-replicate}
 use Rattle.spec.specs.Bytes.{either, sumTo, Two, sum}
 use Rattle.spec.specs.Transport.{Problem, weight, rowsOf, colsOf, supplyAt, moved, Vertex, source, row, column, target, sink, nodeCount, vertexOf, residual, price, searched, found, walkBack, bottleneck, push, augment, solveCells}
+use Rattle.laws.specs.Tests.{clash}
 use Rattle.flow.specs.Augmentation.{rowSum, colSum, augmented-by, Partial, next-partial, grows}
 use Rattle.flow.specs.AugmentingPath.{next, next-potential, path, bottleneck-le, bottleneck-carries, bottleneck-positive}
 use Rattle.flow.specs.Network.{is-no}
-use Rattle.flow.specs.Search.{true-false, labelAt, status}
+use Rattle.flow.specs.Search.{labelAt, status}
 use Rattle.flow.specs.SearchEnds.{getD-same, dearest, dear, searched-rests}
 use Rattle.flow.specs.Signed.{posPart, negPart}
 use Rattle.flow.specs.Sums.{sum-cong, sum-const, listSum-is}
@@ -47,14 +48,14 @@ module _ (p : Problem) (w : ℕ) where
   augment-done f left x e = rw e refl
 
   two-no : (b c : Bool) (x y : Option (List ℕ)) → b ≡ false → c ≡ false → _≡_ {A = Option (List ℕ)} (elim b [ true ↦ x | false ↦ elim c [ true ↦ y | false ↦ none ] ]) none
-  two-no true c x y e q = absurd (true-false e)
-  two-no false true x y e q = absurd (true-false q)
+  two-no true c x y e q = absurd (clash e)
+  two-no false true x y e q = absurd (clash q)
   two-no false false x y e q = refl
 
   one-no : (b c : Bool) (x y : Option (List ℕ)) → b ≡ false → c ≡ true → elim b [ true ↦ x | false ↦ elim c [ true ↦ y | false ↦ none ] ] ≡ y
-  one-no true c x y e q = absurd (true-false e)
+  one-no true c x y e q = absurd (clash e)
   one-no false true x y e q = refl
-  one-no false false x y e q = absurd (true-false (sym q))
+  one-no false false x y e q = absurd (clash (sym q))
 
   not-zero : (l : ℕ) → 0 < l → eqb l 0 ≡ false
   not-zero l h = is-no (eqb l 0) (λ t. not-source (eqb→eq l 0 t))

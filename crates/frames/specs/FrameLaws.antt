@@ -10,6 +10,7 @@ use borrow.Author.Tests.{le-leb, lt-leb, leb-true, eqb-true}
 use Rattle.spec.specs.Bytes.{both, be2, be4, text, decimal}
 use Rattle.spec.specs.Listing.{line}
 use Rattle.spec.specs.Merge.{INPUT}
+use Rattle.laws.specs.Tests.{both-true}
 use Rattle.decimals.specs.Writing.{Wrote}
 use Rattle.decimals.specs.WriteLaws.{wrote-then, wrote-length, wrote-as}
 use Rattle.decimals.specs.DecimalLaws.{decimal-short}
@@ -17,10 +18,6 @@ use Rattle.query.specs.declared.Query.{Query}
 use Rattle.frames.specs.Frame.{framed, queryOf, refusalBytes}
 
 -- ---- the test
-two : (a b : Bool) → both a b ≡ true → (a ≡ true) × (b ≡ true)
-two true b e = (refl, e)
-two false b e = let z : _≡_ {A = ℕ} 0 1 = cc in absurd (omega arith)
-
 pub record Framed (s : List ℕ) : Type 0 where
   pub short : length s ≤ 65536
   pub some : 4 ≤ length s
@@ -28,8 +25,8 @@ pub record Framed (s : List ℕ) : Type 0 where
 
 pub framed-says : (s : List ℕ) → framed s ≡ true → Framed s
 framed-says s e =
-    let (a, r) = two (leb (length s) INPUT) _ e in
-    let (b, c) = two (leb 4 (length s)) _ r in
+    let (a, r) = both-true (leb (length s) INPUT) _ .0 e in
+    let (b, c) = both-true (leb 4 (length s)) _ .0 r in
     record { short = leb-true (length s) INPUT a; some = leb-true 4 (length s) b; ends = eqb-true (be4 s 0 + 4 + 8) (length s) c }
 
 pub too-long : (s : List ℕ) → 65536 < length s → false ≡ framed s

@@ -13,8 +13,9 @@ use Rattle.spec.specs.Image.{Tables}
 use Rattle.spec.specs.Action.{joins}
 use Rattle.spec.specs.Graph.{enter, enterAll, buildFrom, build}
 use Rattle.spec.specs.Meaning.{In}
+use Rattle.laws.specs.Tests.{clash}
 use Rattle.laws.specs.Valid.{Valid}
-use Rattle.lgg.specs.Lists.{in-nil, in-cons, get-in, clash}
+use Rattle.lgg.specs.Lists.{in-nil, in-cons, get-in}
 use Rattle.lgg.specs.Results.{refused-ok, ok-inj}
 use Rattle.lgg.specs.Enter.{Entered, grown, overfull, enterAll-says}
 use Rattle.lgg.specs.BestMembers.{IsPair}

@@ -9,9 +9,10 @@ use borrow.Author.Tests.{ltb-true, ltb-false, lt-ltb, le-ltb, le-leb, lt-leb, eq
 use lib.ListN.{length, length-append, length-map}
 use Rattle.spec.specs.Bytes.{Limits, pick, both, place, sum, ok, refused}
 use Rattle.spec.specs.Pool.{Pool, Node, nodeAt, sameNode, runCount, interned, intern}
+use Rattle.laws.specs.Tests.{both-true}
 use Rattle.lgg.specs.Pool.{PoolValid, NodeValid}
 use Rattle.lgg.specs.PoolTrees.{node-ext}
-use Rattle.lgg.specs.PoolIntern.{both-true, same-twos, place-passes, intern-there, intern-enters}
+use Rattle.lgg.specs.PoolIntern.{same-twos, place-passes, intern-there, intern-enters}
 use Rattle.terms.specs.Buffers.{BUCKETS, LEAST, part, unpack, nodeOf, nodeIn, nodesIn, poolOf, partIn, lengthIn, firstIn, countIn}
 use Rattle.terms.specs.Chains.{keyOf, Holds, Rooms}
 use Rattle.interning.specs.Interning.{Sought, poolAfter, Interning}
@@ -23,9 +24,9 @@ use Rattle.term_entry.specs.EnterLaws.{adds, pool-new, holds-new}
 
 same-node : (x y : Node) → sameNode x y ≡ true → x ≡ y
 same-node x y e =
-    let (a, f) = both-true (eqb (x .head) (y .head)) _ e in
-    let (b, g) = both-true (eqb (x .op) (y .op)) _ f in
-    let (c, d) = both-true (eqb (x .value) (y .value)) _ g in
+    let (a, f) = both-true (eqb (x .head) (y .head)) _ .0 e in
+    let (b, g) = both-true (eqb (x .op) (y .op)) _ .0 f in
+    let (c, d) = both-true (eqb (x .value) (y .value)) _ .0 g in
     node-ext x y (eqb-true _ _ a) (eqb-true _ _ b) (eqb-true _ _ c) (same-twos (x .runs) (y .runs) d)
 
 -- a node that no entry is: entered where there is room

@@ -11,7 +11,7 @@ use lib.Dec.{leb, eqb}
 use lib.ListN.{length, getD}
 use Rattle.spec.specs.Bytes.{both, all, be4, Res, ok, refused, rule, _>>=_}
 use Rattle.spec.specs.Image.{Tables, HEADER, tablesOf, tablesRules, imageOf, imageEnd, countsRight, operationRight, spansRight, childrenRight, bestRight, literalsApart}
-use Rattle.laws.specs.AcceptedLists.{true-not-false, is-false}
+use Rattle.laws.specs.Tests.{clash, is-false}
 use Rattle.laws.specs.AcceptedRules.{length-rule, equal-rule, counts-rule, operations-rule, spans-rule, children-rule, best-rule}
 use Rattle.laws.specs.AcceptedLiterals.{apart-rule}
 use Rattle.laws.specs.Valid.{Valid, Keeps, two, three, four, five, six, seven, eight, nine, ten}
@@ -98,7 +98,7 @@ walk-ok a b n (true ∷ l) = (
     passes : AllPass l → (i : ℕ) → i < suc (length l) → getD (true ∷ l) i true ≡ true
     passes r zero h = refl
     passes r (suc i) h = r i (le-of-suc-le-suc h)
-walk-ok a b n (false ∷ l) = (λ e. absurd (not-ok e), λ h. absurd (true-not-false (sym (h .1 0 (suc-le-suc zero-le)))))
+walk-ok a b n (false ∷ l) = (λ e. absurd (not-ok e), λ h. absurd (clash (sym (h .1 0 (suc-le-suc zero-le)))))
 
 -- test k, counted from n, fails, and those before it pass
 pub record FirstFails (n k : ℕ) (l : List Bool) : Type 0 where
@@ -138,7 +138,7 @@ walk-refused a n k (true ∷ l) = (
 
     later : FirstFails n k (true ∷ l) → Dec (n < k) → suc n ≤ k
     later h (yes b) = b
-    later h (no b) = absurd (true-not-false (h .fails 0 (omega (arith, h .from))))
+    later h (no b) = absurd (clash (h .fails 0 (omega (arith, h .from))))
 walk-refused a n k (false ∷ l) = (
   λ e.
       let q = refused-same e in
@@ -156,7 +156,7 @@ walk-refused a n k (false ∷ l) = (
     now q (suc i) h = absurd (omega arith)
 
     same : FirstFails n k (false ∷ l) → Dec (n < k) → n ≡ k
-    same h (yes b) = absurd (true-not-false (sym (h .before 0 (omega arith))))
+    same h (yes b) = absurd (clash (sym (h .before 0 (omega arith))))
     same h (no b) = omega (arith, h .from)
 
 -- ---- rule 2 + i is kept exactly where test i passes
@@ -208,7 +208,7 @@ refused-in-its-case s n = (
         λ k a b. let z : 2 + (k - 2) ≡ k = omega arith in rw z at (keeps-said s (k - 2) (omega arith) (f .before (k - 2) (omega arith))),
         λ q.
             let z : 2 + (n - 2) ≡ n = omega (arith, f .from) in
-            true-not-false (sym (keeps-test s (n - 2) (sym z) q) ∙ f .fails (n - 2) z),
+            clash (sym (keeps-test s (n - 2) (sym z) q) ∙ f .fails (n - 2) z),
       ),
   λ h.
       image-walk s

@@ -12,26 +12,7 @@ use lib.ListN.{length, getD, take}
 use Rattle.spec.specs.Bytes.{both, either, all, any, sum, Two}
 use Rattle.spec.specs.Image.{spansFollow, rises}
 use Rattle.spec.specs.Meaning.{In, here, there}
-
--- ---- tests
-pub true-not-false : true ≡ false → ⊥
-true-not-false e = let z : _≡_ {A = ℕ} 0 1 = cc in omega arith
-
-pub is-false : (b : Bool) → (b ≡ true → ⊥) → b ≡ false
-is-false true h = absurd (h refl)
-is-false false h = refl
-
-pub both-true : (a b : Bool) → both a b ≡ true ↔ (a ≡ true) × (b ≡ true)
-both-true true b = (λ e. (refl, e), λ h. h .1)
-both-true false b = (λ e. absurd (true-not-false (sym e)), λ h. h .0)
-
-pub either-true : (a b : Bool) → either a b ≡ true ↔ (a ≡ true) ⊎ (b ≡ true)
-either-true true b = (λ e. inl refl, λ h. refl)
-either-true false b = (λ e. inr e, λ h. elim h [ inl e ↦ absurd (true-not-false (sym e)) | inr e ↦ e ])
-
-pub either-else : (a b : Bool) → either a b ≡ true ↔ (a ≡ false → b ≡ true)
-either-else true b = (λ e f. absurd (true-not-false f), λ h. refl)
-either-else false b = (λ e f. e, λ h. h refl)
+use Rattle.laws.specs.Tests.{both-true, clash, either-true}
 
 if-both : (b a : Bool) → elim b [ true ↦ a | false ↦ false ] ≡ both b a
 if-both true a = refl
@@ -81,7 +62,7 @@ all-from p l d h = all-of p l (λ x i. let (k, b, e) = at-in d i in rw e at (h k
 
 pub any-in : {A : Type 0} (p : A → Bool) (l : List A) → any p l ≡ true → (x : A) × In x l × (p x ≡ true)
 unfolding any
-any-in p [] e = absurd (true-not-false (sym e))
+any-in p [] e = absurd (clash (sym e))
 any-in p (y ∷ l) e =
     elim (either-true (p y) (any p l) .0 (sym (any-cons p y l) ∙ e)) [
       | inl q ↦ (y, here, q)

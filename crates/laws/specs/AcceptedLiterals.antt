@@ -14,7 +14,8 @@ use lib.Seq.{getD-drop}
 use Rattle.spec.specs.Bytes.{both, any, Two, sameTwo}
 use Rattle.spec.specs.Image.{Tables, Class, Member, Lit, literalsApart, doubledIn, hasLiteral, theClass, kindOf, membersIn, membersOf}
 use Rattle.spec.specs.Meaning.{In, HoldsDoubled}
-use Rattle.laws.specs.AcceptedLists.{true-not-false, is-false, both-true, any-in, any-of, at-in, in-at}
+use Rattle.laws.specs.Tests.{both-true, clash, is-false}
+use Rattle.laws.specs.AcceptedLists.{any-in, any-of, at-in, in-at}
 use Rattle.laws.specs.Valid.{Apart}
 
 module _ (t : Tables) where
@@ -67,7 +68,7 @@ module _ (t : Tables) where
       ))
 
   if-not : (b a : Bool) → elim b [ true ↦ false | false ↦ a ] ≡ true ↔ (b ≡ false) × (a ≡ true)
-  if-not true a = (λ e. absurd (true-not-false (sym e)), λ h. absurd (true-not-false (h .0)))
+  if-not true a = (λ e. absurd (clash (sym e)), λ h. absurd (clash (h .0)))
   if-not false a = (λ e. (refl, e), λ h. h .1)
 
   pub apart-cons : (c : Class) (l : List Class) → literalsApart t (c ∷ l) ≡ true ↔ (doubledIn t c l ≡ false) × (literalsApart t l ≡ true)
@@ -82,7 +83,7 @@ module _ (t : Tables) where
   list-said (c ∷ l) e zero zero h k s = not-suc-le-zero h
   list-said (c ∷ l) e (suc i) zero h k s = not-suc-le-zero h
   list-said (c ∷ l) e zero (suc j) h k s =
-      true-not-false (sym (doubled-test c l (getD l j none) (in-at l j none (le-of-suc-le-suc k)) s) ∙ apart-cons c l .0 e .0)
+      clash (sym (doubled-test c l (getD l j none) (in-at l j none (le-of-suc-le-suc k)) s) ∙ apart-cons c l .0 e .0)
   list-said (c ∷ l) e (suc i) (suc j) h k s = list-said l (apart-cons c l .0 e .1) i j (le-of-suc-le-suc h) (le-of-suc-le-suc k) s
 
   list-test : (l : List Class) → ((i j : ℕ) → i < j → j < length l → Shared (getD l i none) (getD l j none) → ⊥) → literalsApart t l ≡ true

@@ -12,8 +12,9 @@ use lib.ListN.{length, getD, length-map, List·getD-map}
 use Rattle.spec.specs.Bytes.{both, all, be4, pick, Two, within}
 use Rattle.spec.specs.Image.{Tables, Operation, Class, Member, HEADER, BEST-SIZE, NO-IDENTITY, Lit, MSet, FREE, OPERATIONS, CLASSES, MEMBERS, CHILDREN, arities, isAC, isCommutative, tablesOf, countsRight, operationRight, memberRight, childRight, arityRight, spansRight, childrenRight, bestRight, spansFollow, rises, sizeOver, theOperation, theClass, theMember, kindOf, membersIn, childrenOf, operationCount, classCount, memberCount, childCount}
 use Rattle.spec.specs.Meaning.{In}
+use Rattle.laws.specs.Tests.{both-true, either-else, either-true}
 use Rattle.laws.specs.Entries.{operations-length, classes-length, members-length, children-length}
-use Rattle.laws.specs.AcceptedLists.{both-true, either-true, either-else, all-in, all-of, all-at, all-from, rises-said, rises-test}
+use Rattle.laws.specs.AcceptedLists.{all-in, all-of, all-at, all-from, rises-said, rises-test}
 use Rattle.laws.specs.AcceptedSpans.{follow-rule, classes-within, part-length, part-at}
 use Rattle.laws.specs.Valid.{Counts, Operations, Spans, Children, Best, classSpans, memberSpans}
 

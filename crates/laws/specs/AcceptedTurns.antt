@@ -11,7 +11,8 @@ use lib.ListN.{length, getD, take, drop, drop-of-length-le, take-append-drop}
 use lib.Seq.{drop-cons, drop-drop}
 use Rattle.spec.specs.Bytes.{both, either, all, any, sum, Two}
 use Rattle.spec.specs.Image.{Tables, Class, spansFollow, rises, hasLiteral}
-use Rattle.laws.specs.AcceptedLists.{all-cons, any-cons, follow-cons, rises-cons, both-true}
+use Rattle.laws.specs.Tests.{both-true}
+use Rattle.laws.specs.AcceptedLists.{all-cons, any-cons, follow-cons, rises-cons}
 use Rattle.laws.specs.AcceptedLiterals.{isLiteral}
 
 -- what `if !r` says of the test that r answers

@@ -1,3 +1,4 @@
+pub mod Tests
 pub mod Valid
 pub mod Monomials
 pub mod Entries

@@ -15,6 +15,7 @@ use Rattle.spec.specs.Transport.{planSize, planMass}
 use Rattle.spec.specs.Pool.{Pool, joinRuns, opNode, litNode, variantsNode, Interned, intern, Children, childTerms, bestTermIn, bestTerm, startingTerm}
 use Rattle.spec.specs.Round.{startingQuality, cellsOver, qualityOver}
 use Rattle.spec.specs.Meaning.{In, here, there, Term, lit, node, variants, Runs, termQuality, expand, reading, runsOf, treesAfter, treeAt, member, Belongs, literal}
+use Rattle.laws.specs.Tests.{clash}
 use Rattle.laws.specs.Scans.{nil-of-length}
 use Rattle.laws.specs.Valid.{Valid}
 use Rattle.lgg.specs.Bag.{perm-of-eq}
@@ -24,7 +25,7 @@ use Rattle.lgg.specs.PoolTrees.{expand-runs}
 use Rattle.lgg.specs.PoolIntern.{Extends, extends-refl, extends-trans, extends-within, extends-tree, Interns, intern-enters}
 use Rattle.lgg.specs.ReadingsNode.{Covers, inOrder, anyOrder, TermFor, TermsFor, noTerm, andTerm, good-node}
 use Rattle.lgg.specs.BestMembers.{best-in, best-falls, child-within, child-counted, child-single, member-arity}
-use Rattle.lgg.specs.Lists.{clash, map-map}
+use Rattle.lgg.specs.Lists.{map-map}
 use Rattle.lgg.specs.Results.{bind-ok, ok-inj}
 
 -- an operation's node means the operation over its children's trees

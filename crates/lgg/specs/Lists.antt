@@ -11,9 +11,7 @@ use lib.ListN.{length, getD}
 use borrow.Author.Tests.{eqb-true, eq-eqb}
 use Rattle.spec.specs.Bytes.{any, each, place, Two, sameTwo}
 use Rattle.spec.specs.Meaning.{In, here, there}
-
-pub clash : true ≡ false → ⊥
-clash e = let y : _≡_ {A = ℕ} 0 1 = cc in omega arith
+use Rattle.laws.specs.Tests.{clash}
 
 -- ---- entries
 pub in-nil : {A : Type 0} {x : A} → In x [] → ⊥

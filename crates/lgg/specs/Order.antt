@@ -11,12 +11,12 @@ use borrow.Author.Tests.{eqb-true}
 use lib.ListN.{length, length-map}
 use Rattle.spec.specs.Pool.{Node, Pool, nodeAt, Order, less, equal, greater, compareℕ, then, expandedLength, runsCmp, structuralCmp, isGreater}
 use Rattle.spec.specs.Meaning.{In, Term, treeOf, treesAfter, treeAt}
+use Rattle.laws.specs.Tests.{clash}
 use Rattle.lgg.specs.BagCount.{written, written-length, in-written, join-written}
 use Rattle.lgg.specs.Pool.{Formed, operation, literal, marked, PoolValid, tree-operation, tree-literal, tree-marked}
 use Rattle.lgg.specs.PoolTrees.{tree-is, expand-runs, node-ext}
 use Rattle.lgg.specs.OrderTerms.{headOf, opOf, valueOf, expandedChildren, lex, termCmp, flip, Tri, compare-same, then-equal, lex-map, lex-agree, lex-same, term-flip, term-tri, term-refl}
 use Rattle.lgg.specs.OrderRuns.{runs-as-lists, lists-as-lex, written-inj}
-use Rattle.lgg.specs.Lists.{clash}
 
 -- ---- the parts of a number's tree are those of its node
 pub record Parts (p : Pool) (n : Node) (s : Term) : Type 0 where

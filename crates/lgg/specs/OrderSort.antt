@@ -11,6 +11,7 @@ use lib.ListN.{length, replicate}
 use Rattle.spec.specs.Bytes.{Two, pick}
 use Rattle.spec.specs.Pool.{Pool, joinRuns, Order, less, equal, greater, structuralCmp, isGreater, insertRun, sortRuns}
 use Rattle.spec.specs.Meaning.{In, here, there, occurs, countIn}
+use Rattle.laws.specs.Tests.{clash}
 use Rattle.lgg.specs.Bag.{Perm, both, perm-sym, replicate-in}
 use Rattle.lgg.specs.BagCount.{written, in-written, join-written, written-perm, occurs-perm, occurs-written}
 use Rattle.lgg.specs.Pool.{RunsBelow, runs-below-tail, PoolValid, join-below, join-joined}
@@ -18,7 +19,7 @@ use Rattle.lgg.specs.PoolSort.{sort-perm, perm-below}
 use Rattle.lgg.specs.OrderTerms.{flip}
 use Rattle.lgg.specs.OrderRuns.{written-inj}
 use Rattle.lgg.specs.Order.{NotAfter, reversible, transitive, antisymmetric, total}
-use Rattle.lgg.specs.Lists.{clash, in-append, in-cons, in-nil}
+use Rattle.lgg.specs.Lists.{in-append, in-cons, in-nil}
 
 -- each run's child at most the next one's
 pub data Sorted (p : Pool) : List Two → Type 0 where

@@ -12,16 +12,13 @@ use lib.ListN.{length, getD, length-append, List·getD-append}
 use Rattle.spec.specs.Bytes.{Limits, pick, both, place, Two, sameTwo, sameTwos, ok, refused}
 use Rattle.spec.specs.Pool.{Node, Pool, nodeAt, sameNode, runCount, Interned, interned, intern}
 use Rattle.spec.specs.Meaning.{treeOf, treesAfter, treeAt}
+use Rattle.laws.specs.Tests.{both-true, clash}
 use Rattle.lgg.specs.Pool.{NodeValid, PoolValid, getD-last, tree-last, tree-grows}
 use Rattle.lgg.specs.PoolTrees.{node-ext, tree-is}
-use Rattle.lgg.specs.Lists.{clash, same-eq, same-refl}
+use Rattle.lgg.specs.Lists.{same-eq, same-refl}
 use Rattle.lgg.specs.Results.{ok-inj, refused-ok}
 
 -- ---- tests
-pub both-true : (a b : Bool) → both a b ≡ true → (a ≡ true) × (b ≡ true)
-both-true true b e = (refl, e)
-both-true false b e = absurd (clash (sym e))
-
 pub same-twos : (l m : List Two) → sameTwos l m ≡ true → l ≡ m
 unfolding sameTwos
 same-twos [] [] e = refl
@@ -40,9 +37,9 @@ twos-same (p ∷ l) = rw (same-refl p, sameTwos) (twos-same l)
 
 same-node : (x y : Node) → sameNode x y ≡ true → x ≡ y
 same-node x y e =
-    let (a, f) = both-true (eqb (x .head) (y .head)) _ e in
-    let (b, g) = both-true (eqb (x .op) (y .op)) _ f in
-    let (c, d) = both-true (eqb (x .value) (y .value)) _ g in
+    let (a, f) = both-true (eqb (x .head) (y .head)) _ .0 e in
+    let (b, g) = both-true (eqb (x .op) (y .op)) _ .0 f in
+    let (c, d) = both-true (eqb (x .value) (y .value)) _ .0 g in
     node-ext x y (eqb-true _ _ a) (eqb-true _ _ b) (eqb-true _ _ c) (same-twos (x .runs) (y .runs) d)
 
 node-same : (x : Node) → sameNode x x ≡ true

@@ -11,10 +11,10 @@ use lib.ListN.{length, length-append, replicate}
 use Rattle.spec.specs.Bytes.{pick, Two}
 use Rattle.spec.specs.Pool.{Node, Pool, nodeAt, joinRuns, variantsNode}
 use Rattle.spec.specs.Meaning.{here, there, Term, lit, node, variants, Runs, run, expand, runsOf, treeOf, treesAfter, treeAt}
+use Rattle.laws.specs.Tests.{clash}
 use Rattle.lgg.specs.Bag.{map-append, map-replicate}
 use Rattle.lgg.specs.BagCount.{written}
 use Rattle.lgg.specs.Pool.{RunsBelow, runs-below-tail, Formed, operation, literal, marked, NodeValid, PoolValid, numbered, trees-keep, getD-last, tree-operation, tree-literal, tree-marked}
-use Rattle.lgg.specs.Lists.{clash}
 
 -- ---- a node's tree depends on its children's alone
 runs-cong : (ts us : List Term) (i : ℕ) (l : List Two) → RunsBelow i l → ((a : ℕ) → a < i → numbered ts a ≡ numbered us a) → runsOf ts l ≡ runsOf us l

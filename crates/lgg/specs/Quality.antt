@@ -12,7 +12,7 @@ use Rattle.spec.specs.Bytes.{Two}
 use Rattle.spec.specs.Transport.{planSize, planMass}
 use Rattle.spec.specs.Round.{better, cellsOver, qualityOver}
 use Rattle.spec.specs.Meaning.{In, here, there, _⊑_}
-use Rattle.lgg.specs.Lists.{clash}
+use Rattle.laws.specs.Tests.{clash}
 
 pub two-eq : {a b c d : ℕ} → a ≡ c → b ≡ d → _≡_ {A = Two} (a, b) (c, d)
 two-eq e f = λ i. (e i, f i)

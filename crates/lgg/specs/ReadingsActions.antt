@@ -15,15 +15,15 @@ use Rattle.spec.specs.Action.{Action, TransportAction, zip, byPosition, straigh
 use Rattle.spec.specs.Round.{ones, problemOver}
 use Rattle.spec.specs.Meaning.{In, occurs, countIn, Side, member, Plan}
 use Rattle.spec.specs.Meaning as M
+use Rattle.laws.specs.Tests.{both-true, clash}
 use Rattle.laws.specs.Valid.{Valid}
 use Rattle.laws.specs.Monomials.{count-insert, monomial-counts, Padded, level, left, right, padded}
 use Rattle.lgg.specs.Bag.{each-in, each-in, filter-in}
 use Rattle.lgg.specs.BagCount.{insert-all, monomial-all, spread, spread-ones, occurs-written, written-ones}
 use Rattle.lgg.specs.BagPlan.{plan-rows, plan-columns}
-use Rattle.lgg.specs.PoolIntern.{both-true}
 use Rattle.lgg.specs.ReadingsNode.{Covers, inOrder, anyOrder}
 use Rattle.lgg.specs.BestMembers.{IsClass, identity-class, child-within, child-single, member-arity}
-use Rattle.lgg.specs.Lists.{clash, map-in, in-append, in-cons, in-each, in-left, in-nil, in-right}
+use Rattle.lgg.specs.Lists.{map-in, in-append, in-cons, in-each, in-left, in-nil, in-right}
 
 -- operation o over the places ps, with counts x, is an action of pair p: its left classes cover the left class, its right ones the right, and it joins the places
 pub record Legal (t : Tables) (p : Two) (o : ℕ) (ps : List Two) (x : List ℕ) : Type 0 where
@@ -244,7 +244,7 @@ module _ (t : Tables) (v : Valid t) where
   unfolding acOps
   free-operation l r o i =
       either-right (eqb (kindOf t o) SPair) (isAC (kindOf t o))
-      (both-true (isAC (kindOf t o)) (used o) (filter-in (λ z. both (isAC (kindOf t z)) (used z)) (upFrom 0 (length (t .operations))) i .1) .0)
+      (both-true (isAC (kindOf t o)) (used o) .0 (filter-in (λ z. both (isAC (kindOf t z)) (used z)) (upFrom 0 (length (t .operations))) i .1) .0)
     where
       used : ℕ → Bool
       used z = any (λ n. eqb (n .op) z) (membersOf t l ++ membersOf t r)

@@ -13,7 +13,8 @@ use Rattle.spec.specs.Action.{cellPairs, joins}
 use Rattle.spec.specs.Round.{startingQuality, qualityOver, lookUp, Turn, changes, turnOf, turnsOf, next, qualitiesAfter}
 use Rattle.spec.specs.Meaning.{In, here, there, _⊑_, Derivation, start, action, transport, Places, noPlace}
 use Rattle.spec.specs.Meaning as M
-use Rattle.lgg.specs.Lists.{clash, map-in, length-map, in-nil, in-cons, in-map, any-in, any-none, map-map, map-ext, look-up, Distinct, none, more, pigeon}
+use Rattle.laws.specs.Tests.{clash}
+use Rattle.lgg.specs.Lists.{map-in, length-map, in-nil, in-cons, in-map, any-in, any-none, map-map, map-ext, look-up, Distinct, none, more, pigeon}
 use Rattle.lgg.specs.Quality.{_⊏_, ⊑-refl, ⊑-of-eq, ⊑-trans, ⊏-not, ⊑-size, Below, below-nil, below-next, quality-⊑, Total, Strict, differ}
 use Rattle.lgg.specs.Turn.{TransportTheorems, Told, turn-told, turn-old, Move, aligned, planned, plan-over, move-joins, turn-move, Won, turn-from}
 

@@ -19,15 +19,15 @@ use Rattle.spec.specs.Action.{Action, TransportAction, zip, byPosition, straigh
 use Rattle.spec.specs.Pool.{Pool}
 use Rattle.spec.specs.Round.{better, ones, problemOver, Act, ofAction, ofPlan, worth, Choice, stay, act, Turn, offer, offerActions, offerPlan, offerTransports, turnOf, planRuns, actionTerm, choiceTerm}
 use Rattle.spec.specs.Meaning.{In, here, there, Plan}
+use Rattle.laws.specs.Tests.{both-true, clash}
 use Rattle.laws.specs.Valid.{Valid}
 use Rattle.laws.specs.Monomials.{Padded, level, left, right, padded}
 use Rattle.flow.specs.Sums.{sum-term}
 use Rattle.flow.specs.Queue.{in-upFrom}
 use Rattle.flow.specs.Theorems.{margins}
-use Rattle.lgg.specs.Lists.{clash, in-nil, in-cons, in-append, map-in, length-map}
+use Rattle.lgg.specs.Lists.{in-nil, in-cons, in-append, map-in, length-map}
 use Rattle.lgg.specs.Bag.{each-in, filter-in}
 use Rattle.lgg.specs.BestMembers.{member-number}
-use Rattle.lgg.specs.PoolIntern.{both-true}
 use Rattle.lgg.specs.TurnAgree.{action-joins, transport-joins}
 
 -- ---- a turn's choice is one of its actions
@@ -208,7 +208,7 @@ module _ (t : Tables) (v : Valid t) where
           let (m, j, e) = map-in (λ m. record { op = o; sides = m }) (narrowPairs (representationPairs t l r o)) a h′ in
           let (k, f) = filter-in (λ p. both (narrow (p .rows)) (narrow (p .cols))) (representationPairs t l r o) j in
           let (x, y) = sides-few l r o m k in
-          let (c, d) = both-true (narrow (m .rows)) (narrow (m .cols)) f in
+          let (c, d) = both-true (narrow (m .rows)) (narrow (m .cols)) .0 f in
           let u = in-upFrom (length (t .operations)) 0 o (filter-in _ (upFrom 0 (length (t .operations))) i .0) .1 in
           rw (← e) (record { operation = omega arith; fewRows = x; fewColumns = y; narrowRows = c; narrowColumns = d })
 

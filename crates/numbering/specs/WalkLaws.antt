@@ -13,7 +13,8 @@ use Rattle.spec.specs.Bytes.{Two, any}
 use Rattle.spec.specs.Pool.{Pool, nodeAt}
 use Rattle.spec.specs.Listing.{visitRuns, visitTerm}
 use Rattle.spec.specs.Meaning.{In, here, there}
-use Rattle.lgg.specs.Lists.{clash, in-nil, in-cons, in-left, in-right, in-append, any-in, any-none}
+use Rattle.laws.specs.Tests.{clash}
+use Rattle.lgg.specs.Lists.{in-nil, in-cons, in-left, in-right, in-append, any-in, any-none}
 use Rattle.lgg.specs.Pool.{PoolValid}
 
 -- ---- a number in a list

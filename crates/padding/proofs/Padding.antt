@@ -10,6 +10,7 @@ use lib.ListN.{length}
 use Rattle.spec.specs.Bytes.{pick, both, sum, sameTwos}
 use Rattle.spec.specs.Image.{NO-IDENTITY}
 use Rattle.spec.specs.Monomial.{Monomial, insertAdd, total, itself, bothItself}
+use Rattle.laws.specs.Tests.{both-true}
 use Rattle.monomial_terms.specs.Terms.{terms, held, front, Holds, Roomy}
 use Rattle.padding.specs.Pad.{levelBy, levelled, unmatched, bothNarrow, paddedOf, answerOf, Pads, Paddable}
 use Rattle.monomial.specs.Places.{TOTAL}
@@ -146,7 +147,7 @@ module _ (id l r n m : ℕ) (s u : List ℕ) (p : Paddable n m s u) where
   unfolding answerOf
   pads-itself x h i =
       let q : bothItself l r (held n s) (held m u) ≡ true = sym h ∙ i in
-      let (y, z) = parts (sameTwos (held n s) (itself l)) (sameTwos (held m u) (itself r)) q in
+      let (y, z) = both-true (sameTwos (held n s) (itself l)) (sameTwos (held m u) (itself r)) .0 q in
       let a : total (held n s) ≡ 1 = itself-total (held n s) l y in
       let b : total (held m u) ≡ 1 = itself-total (held m u) r z in
       record {
@@ -155,10 +156,6 @@ module _ (id l r n m : ℕ) (s u : List ℕ) (p : Paddable n m s u) where
         cols = same id n m s u p (levelled id (held m u) (held n s)) m u (levelled-even id (held m u) (held n s) (b ∙ sym a)) (p .numbersRight) (p .fewRight);
         few = tt;
       }
-    where
-      parts : (a b : Bool) → both a b ≡ true → (a ≡ true) × (b ≡ true)
-      parts true b h = (refl, h)
-      parts false b h = absurd (let z : _≡_ {A = ℕ} 0 1 = cc in omega arith)
 
   pub pads-other : (x : Bool) (s′ u′ : List ℕ) (y : Padded) → x ≡ bothItself l r (held n s) (held m u) → x ≡ false
       → Pads (paddedOf id (held n s) (held m u)) id (held n s) (held m u) s u s′ u′ y

@@ -9,11 +9,11 @@ use lib.ListN.{length, getD, take, set, length-set}
 use borrow.Author.Tests.{lt-ltb}
 use Rattle.spec.specs.Bytes.{pick, any, place, Two, sameTwo}
 use Rattle.spec.specs.Graph.{PAIRS}
+use Rattle.laws.specs.Tests.{clash}
 use Rattle.arrays.specs.Arrays.{unkeyed}
 use Rattle.arrays.specs.ArrayLaws.{unkeyed-at}
 use Rattle.pair_search.specs.declared.Pair.{Pair}
 use Rattle.pair_search.specs.Records.{twoOf, recordOf, held, findOf}
-use Rattle.pair_search.specs.Lists.{clash}
 use Rattle.pair_table.specs.declared.Entered.{Entered}
 use Rattle.pair_table.specs.declared.Entered.the-variants.{At, New, Full}
 use Rattle.pair_table.specs.Table.{hasRoom, enterOf, tableAfter}

@@ -26,9 +26,6 @@ pub either-false : (t : Bool) → either t false ≡ t
 either-false true = refl
 either-false false = refl
 
-pub clash : true ≡ false → ⊥
-clash e = let y : _≡_ {A = ℕ} 0 1 = cc in omega arith
-
 module _ {A : Type 0} where
   -- ---- reading and taking
   pub drop-cons : (s : List A) (i : ℕ) (d : A) → i < length s → drop i s ≡ getD s i d ∷ drop (suc i) s

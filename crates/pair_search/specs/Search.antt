@@ -7,9 +7,10 @@ use native.Mathlib.Nat.{min-le-right}
 use native.Mathlib.Omega.{arith}
 use lib.ListN.{length, getD, take, drop}
 use Rattle.spec.specs.Bytes.{pick, either, place, Two, sameTwo}
+use Rattle.laws.specs.Tests.{clash}
 use Rattle.pair_search.specs.declared.Pair.{Pair}
 use Rattle.pair_search.specs.Records.{none, twoOf, findOf}
-use Rattle.pair_search.specs.Lists.{clash, drop-cons, take-min}
+use Rattle.pair_search.specs.Lists.{drop-cons, take-min}
 
 -- n records from place i on: the first place that holds the pair, or the place after them
 abbrev pub seek : List Pair → Two → ℕ → ℕ → ℕ

@@ -13,7 +13,7 @@ use lib.Dec.{ltb, eqb}
 use lib.ListN.{length, getD, set, length-set}
 use lib.Seq.{getD-set-same, getD-set-other, set-getD}
 use Rattle.spec.specs.Bytes.{pick, Two}
-use Rattle.lgg.specs.Lists.{clash}
+use Rattle.laws.specs.Tests.{clash}
 use Rattle.changes.specs.Marks.{markedIn}
 use Rattle.arrays.specs.Arrays.{unkey, NEW, qualitiesIn, termsIn, qualitiesFrom, termsFrom, given}
 use Rattle.arrays.specs.ArrayLaws.{given-length, given-other, qualities-more, terms-more, qualities-snoc, terms-snoc, quality-at}

@@ -9,7 +9,7 @@ use lib.Dec.{eqb}
 use lib.ListN.{length, getD, take, set}
 use borrow.Author.Tests.{eqb-true}
 use Rattle.spec.specs.Bytes.{any, place, Two, sameTwo}
-use Rattle.pair_search.specs.Lists.{clash}
+use Rattle.laws.specs.Tests.{clash}
 
 -- ---- pairs of numbers
 pub same-eq : (p q : Two) → sameTwo p q ≡ true → p ≡ q

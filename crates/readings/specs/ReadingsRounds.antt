@@ -14,6 +14,7 @@ use Rattle.spec.specs.Action.{Action, TransportAction, structural, transports, 
 use Rattle.spec.specs.Pool.{Pool, opNode, Interned, interned}
 use Rattle.spec.specs.Round.{better, qualityOver, problemOver, lookUp, Act, ofAction, ofPlan, worth, stay, act, Turn, offer, offerActions, offerPlan, offerTransports, turnOf, planRuns, actionTerm, choiceTerm, Terms, prepend, turnsTerms}
 use Rattle.spec.specs.Meaning.{In, here, there, treeAt, Plan}
+use Rattle.laws.specs.Tests.{clash}
 use Rattle.laws.specs.Valid.{Valid}
 use Rattle.lgg.specs.Bag.{both, perm-of-eq, perm-map}
 use Rattle.lgg.specs.BagCount.{written, spread, map-spread, written-perm}
@@ -24,7 +25,7 @@ use Rattle.lgg.specs.ReadingsNode.{TermFor, TermsFor, noTerm, good-node}
 use Rattle.lgg.specs.ReadingsNode as N
 use Rattle.lgg.specs.ReadingsActions.{Legal, structural-legal, transport-legal}
 use Rattle.lgg.specs.Best.{OpMeans, op-means, Makes}
-use Rattle.lgg.specs.Lists.{clash, in-cons, same-eq, same-refl}
+use Rattle.lgg.specs.Lists.{in-cons, same-eq, same-refl}
 use Rattle.lgg.specs.Results.{ok-inj, refused-ok}
 
 -- ---- a term for each pair of a list, with its quality

@@ -10,8 +10,9 @@ use lib.Dec.{ltb}
 use lib.ListN.{length, getD, replicate, getD-replicate}
 use Rattle.spec.specs.Bytes.{both, Two}
 use Rattle.spec.specs.Image.{Tables}
+use Rattle.laws.specs.Tests.{clash}
 use Rattle.laws.specs.Valid.{Valid}
-use Rattle.lgg.specs.Lists.{clash, get-in}
+use Rattle.lgg.specs.Lists.{get-in}
 use Rattle.arrays.specs.Arrays.{given}
 use Rattle.arrays.specs.ArrayLaws.{given-other, given-size, given-mass, given-term}
 use Rattle.live_pairs.specs.Live.{liveIn}

@@ -15,10 +15,11 @@ use lib.Seq.{getD-set-same, getD-set-other}
 use Rattle.spec.specs.Bytes.{pick}
 use Rattle.spec.specs.Meaning.{occurs, In}
 use Rattle.spec.specs.Transport.{Problem, Search, nodeCount, label, improves}
+use Rattle.laws.specs.Tests.{clash}
 use Rattle.wide.specs.declared.Wide.{Wide}
 use Rattle.wide.specs.Wrap.{Natural, less-natural}
 use Rattle.flow.specs.Cut.{bit}
-use Rattle.flow.specs.Search.{labelAt, predAt, true-false}
+use Rattle.flow.specs.Search.{labelAt, predAt}
 use Rattle.search_laws.specs.Holds.{NetHolds, ringFrom}
 use Rattle.search_laws.specs.NetReads.{labelled-size, labelled-at, labelled-off, labelled-pred, labelled-pred-off, labelled-state, labelled-head, labelled-count, labelled-ring, joined-size, joined-label, joined-pred, joined-state, joined-state-off, joined-head, joined-ring, ring-length}
 use Rattle.search_laws.specs.Once.{one-same, one-other, occurs-last, queue-room}
@@ -34,7 +35,7 @@ two-not x e = go (ℕ-discrete x 2)
   where
     go : Dec (x ≡ 2) → x ≡ 2
     go (yes q) = q
-    go (no q) = absurd (true-false (sym e ∙ ne-eqb x 2 q))
+    go (no q) = absurd (clash (sym e ∙ ne-eqb x 2 q))
 
 -- the lengths of a search's lists, and that its queue holds nodes
 pub record Sized (p : Problem) (s : Search) : Type 0 where

@@ -14,8 +14,9 @@ use lib.ListN.{length, getD, set, replicate, length-set, length-replicate}
 use lib.Seq.{getD-set-same, getD-set-other}
 use Rattle.spec.specs.Meaning.{occurs, In, here}
 use Rattle.spec.specs.Transport.{Problem, Search, nodeCount, sink, label, leave, begin}
+use Rattle.laws.specs.Tests.{clash}
 use Rattle.flow.specs.Cut.{bit}
-use Rattle.flow.specs.Search.{labelAt, true-false, visited as all-visited}
+use Rattle.flow.specs.Search.{labelAt, visited as all-visited}
 use Rattle.flow.specs.SearchEnds.{getD-same}
 use Rattle.search_laws.specs.Holds.{NetHolds, ringFrom}
 use Rattle.search_laws.specs.NetReads.{ring-other, ring-length, labelled-state}
@@ -117,7 +118,7 @@ module _ (p : Problem) (few′ : nodeCount p ≤ NODES) (s : Search) (Z : Sized 
         where
           go : Dec (stateOf m u ≡ 2) → stateOf m u ≡ 2
           go (yes e) = e
-          go (no e) = absurd (true-false (sym (N .flags u first-lt ∙ flag-u) ∙ ne-eqb (stateOf m u) 2 e))
+          go (no e) = absurd (clash (sym (N .flags u first-lt ∙ flag-u) ∙ ne-eqb (stateOf m u) 2 e))
 
       unseen : (z : ℕ) → z < nodeCount p → stateOf (left m) z ≡ 0 → Dec (z ≡ u) → labelAt s z ≡ none
       unseen z hz o (yes e) = absurd (clash (ap (stateOf (left m)) e) state-u)

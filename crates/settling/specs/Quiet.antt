@@ -10,10 +10,11 @@ use Rattle.spec.specs.Bytes.{both, any, place, Two, sameTwo}
 use Rattle.spec.specs.Image.{Tables}
 use Rattle.spec.specs.Round.{lookUp, stay, Turn, turnOf, turnsOf}
 use Rattle.spec.specs.Meaning.{In}
+use Rattle.laws.specs.Tests.{clash}
 use Rattle.laws.specs.Valid.{Valid}
 use Rattle.laws.specs.Buffers.{over}
 use Rattle.lgg.specs.BestMembers.{IsPair}
-use Rattle.lgg.specs.Lists.{clash, get-in, same-eq, map-map, look-up}
+use Rattle.lgg.specs.Lists.{get-in, same-eq, map-map, look-up}
 use Rattle.lgg.specs.Parts.{partsOf, stays}
 use Rattle.lgg.specs.PoolIntern.{place-passes}
 use Rattle.lgg.specs.Rounds.{Closed}

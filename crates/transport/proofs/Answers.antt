@@ -14,11 +14,11 @@ use lib.Seq.{getD-take, length-take-le, getD-set-same, getD-set-other, ext-getD}
 use Rattle.spec.specs.Bytes.{both, ok, sumTo, workAfter}
 use Rattle.spec.specs.Meaning.{Plan}
 use Rattle.spec.specs.Transport.{solveCells, solvedBy, planSize, planMass, planAfter, WIDEST}
+use Rattle.laws.specs.Tests.{both-true, clash}
 use Rattle.wide.specs.Value.{unsigned}
 use Rattle.wide.specs.Wrap.{Natural}
 use Rattle.flow.specs.Sums.{sum-term}
 use Rattle.flow.specs.Network.{rowFlow-is}
-use Rattle.flow.specs.Search.{true-false}
 use Rattle.flow.specs.Theorems.{margins}
 use Rattle.transport.specs.declared.Answer.{Answer}
 use Rattle.transport.specs.declared.Answer.the-variants as A
@@ -46,14 +46,14 @@ module _ (supply demand sizes masses flags plan : List ℕ) where
     where
       go : (o : Option (List ℕ)) → solveCells (problemOf supply demand sizes masses flags) ≡ o → Told (shapedOf supply demand sizes masses flags (length plan)) plan plan (A.Refused 16)
       go none q = rw (sym e, q) (record { is = refl; after = refl })
-      go (some x) q = absurd (true-false (sym (P .is ∙ ap isPlan q)))
+      go (some x) q = absurd (clash (sym (P .is ∙ ap isPlan q)))
 
   -- the plan that was found
   pub found-plan : (f : List ℕ) → PlanIn (problemOf supply demand sizes masses flags) true f → (x : List ℕ) × (solveCells (problemOf supply demand sizes masses flags) ≡ some x)
   found-plan f P = go (solveCells (problemOf supply demand sizes masses flags)) refl
     where
       go : (o : Option (List ℕ)) → solveCells (problemOf supply demand sizes masses flags) ≡ o → (x : List ℕ) × (o ≡ some x)
-      go none q = absurd (true-false (P .is ∙ ap isPlan q))
+      go none q = absurd (clash (P .is ∙ ap isPlan q))
       go (some x) q = (x, refl)
 
   -- its cells are 32-bit numbers
@@ -91,10 +91,6 @@ unfolding transportOf
 long-enough supply demand sizes masses flags plan plan′ r T = T
 
 -- ---- the shape
-both-true : (a b : Bool) → both a b ≡ true → (a ≡ true) × (b ≡ true)
-both-true true b e = (refl, e)
-both-true false b e = absurd (true-false (sym e))
-
 le-of : (a b : ℕ) → leb a b ≡ true → a ≤ b
 le-of a b e = leb→le a b (rw e tt)
 
@@ -105,11 +101,11 @@ pub shape-right : (supply demand sizes masses flags plan costs flow : List ℕ) 
     → true ≡ shapeOf (length supply) (length demand) (length sizes) (length masses) (length flags) (length plan) → Shaped supply demand sizes masses flags costs flow × (length plan ≡ length supply * length demand)
 shape-right supply demand sizes masses flags plan costs flow lc lf e =
     let n = length supply * length demand in
-    let (a, a′) = both-true (leb (length supply) WIDEST) (both (leb (length demand) WIDEST) (both (eqb (length sizes) n) (both (eqb (length masses) n) (both (eqb (length flags) n) (eqb (length plan) n))))) (sym e) in
-    let (b, b′) = both-true (leb (length demand) WIDEST) (both (eqb (length sizes) n) (both (eqb (length masses) n) (both (eqb (length flags) n) (eqb (length plan) n)))) a′ in
-    let (c, c′) = both-true (eqb (length sizes) n) (both (eqb (length masses) n) (both (eqb (length flags) n) (eqb (length plan) n))) b′ in
-    let (d, d′) = both-true (eqb (length masses) n) (both (eqb (length flags) n) (eqb (length plan) n)) c′ in
-    let (f, g) = both-true (eqb (length flags) n) (eqb (length plan) n) d′ in
+    let (a, a′) = both-true (leb (length supply) WIDEST) (both (leb (length demand) WIDEST) (both (eqb (length sizes) n) (both (eqb (length masses) n) (both (eqb (length flags) n) (eqb (length plan) n))))) .0 (sym e) in
+    let (b, b′) = both-true (leb (length demand) WIDEST) (both (eqb (length sizes) n) (both (eqb (length masses) n) (both (eqb (length flags) n) (eqb (length plan) n)))) .0 a′ in
+    let (c, c′) = both-true (eqb (length sizes) n) (both (eqb (length masses) n) (both (eqb (length flags) n) (eqb (length plan) n))) .0 b′ in
+    let (d, d′) = both-true (eqb (length masses) n) (both (eqb (length flags) n) (eqb (length plan) n)) .0 c′ in
+    let (f, g) = both-true (eqb (length flags) n) (eqb (length plan) n) .0 d′ in
     let few = cells-fit (length supply) (length demand) (le-of (length supply) WIDEST a) (le-of (length demand) WIDEST b) in (
       record {
         rows = le-of (length supply) WIDEST a;

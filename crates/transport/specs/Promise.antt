@@ -11,8 +11,8 @@ use lib.ListN.{length, replicate}
 use Rattle.spec.specs.Bytes.{both, Two, Res, ok, refused, workAfter}
 use Rattle.spec.specs.Meaning.{Plan, _⊑_}
 use Rattle.spec.specs.Transport.{Problem, Solution, shapeRight, solveTransport, planAfter, WIDEST}
+use Rattle.laws.specs.Tests.{both-true, clash}
 use Rattle.wide.specs.Value.{unsigned}
-use Rattle.flow.specs.Search.{true-false}
 use Rattle.flow.specs.Theorems as F
 use Rattle.flow.specs.Theorems.{totals, NoPlan}
 use Rattle.transport.specs.declared.Answer.{Answer}
@@ -53,13 +53,9 @@ pub record Promise (supply demand sizes masses allowed plan costs flow plan′ c
   pub alone : (Fits costs flow → ⊥) → (costs′ ≡ costs) × (flow′ ≡ flow)
 
 -- ---- the tests
-both-true : (a b : Bool) → both a b ≡ true → (a ≡ true) × (b ≡ true)
-both-true true b e = (refl, e)
-both-true false b e = absurd (true-false (sym e))
-
 fits-says : (costs flow : List ℕ) → both (leb COSTS (length costs)) (leb CELLS (length flow)) ≡ true ↔ Fits costs flow
 fits-says costs flow = (
-  λ e. let (a, b) = both-true (leb COSTS (length costs)) _ e in (leb-true COSTS (length costs) a, leb-true CELLS (length flow) b),
+  λ e. let (a, b) = both-true (leb COSTS (length costs)) _ .0 e in (leb-true COSTS (length costs) a, leb-true CELLS (length flow) b),
   λ h. rw (le-leb COSTS (length costs) (h .0), le-leb CELLS (length flow) (h .1)) refl,
 )
 
@@ -68,11 +64,11 @@ shape-says r c s m a p = (says, λ h. rw (le-leb r WIDEST (h .0), le-leb c WIDES
   where
     says : shapeOf r c s m a p ≡ true → (r ≤ WIDEST) × (c ≤ WIDEST) × (s ≡ r * c) × (m ≡ r * c) × (a ≡ r * c) × (p ≡ r * c)
     says e =
-        let (x, e₁) = both-true (leb r WIDEST) _ e in
-        let (y, e₂) = both-true (leb c WIDEST) _ e₁ in
-        let (z, e₃) = both-true (eqb s (r * c)) _ e₂ in
-        let (u, e₄) = both-true (eqb m (r * c)) _ e₃ in
-        let (v, w) = both-true (eqb a (r * c)) _ e₄ in
+        let (x, e₁) = both-true (leb r WIDEST) _ .0 e in
+        let (y, e₂) = both-true (leb c WIDEST) _ .0 e₁ in
+        let (z, e₃) = both-true (eqb s (r * c)) _ .0 e₂ in
+        let (u, e₄) = both-true (eqb m (r * c)) _ .0 e₃ in
+        let (v, w) = both-true (eqb a (r * c)) _ .0 e₄ in
         (leb-true r WIDEST x, leb-true c WIDEST y, eqb-true s (r * c) z, eqb-true m (r * c) u, eqb-true a (r * c) v, eqb-true p (r * c) w)
 
 by-tests : (a b s p : Bool) → both a (both b (both s (both s (both s p)))) ≡ both (both a b) (both s p)
@@ -138,10 +134,10 @@ module _ (supply demand sizes masses allowed plan costs flow plan′ costs′ fl
   M = transportOf fit supply demand sizes masses allowed (length plan)
 
   short : fit ≡ false → Fits costs flow → ⊥
-  short e h = true-false (sym (fits-says costs flow .1 h) ∙ e)
+  short e h = clash (sym (fits-says costs flow .1 h) ∙ e)
 
   wrong : shape ≡ false → Shape supply demand sizes masses allowed plan → ⊥
-  wrong e h = true-false (sym (shape-says (length supply) (length demand) (length sizes) (length masses) (length allowed) (length plan) .1 h) ∙ e)
+  wrong e h = clash (sym (shape-says (length supply) (length demand) (length sizes) (length masses) (length allowed) (length plan) .1 h) ∙ e)
 
   clears : Fits costs flow → (costs′ ≡ replicate (length costs) 0) × (flow′ ≡ replicate (length flow) 0)
   clears h = let e = fits-says costs flow .1 h in (c .1 ∙ ap (λ (b : Bool). workAfter 0 b costs) e, c .2 ∙ ap (λ (b : Bool). workAfter 0 b flow) e)

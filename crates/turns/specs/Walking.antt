@@ -10,6 +10,7 @@ use Rattle.spec.specs.Image.{Tables}
 use Rattle.spec.specs.Monomial.{pairOf, narrow}
 use Rattle.spec.specs.Action.{TransportAction, transports, cellPairs}
 use Rattle.spec.specs.Meaning.{In, here}
+use Rattle.laws.specs.Tests.{both-true}
 use Rattle.laws.specs.Valid.{Valid}
 use Rattle.lgg.specs.Lists.{in-left, in-right}
 use Rattle.lgg.specs.Cells.{CellsFit}
@@ -59,14 +60,6 @@ pub one-fitting : {w k : ℕ} (l : List TransportAction) (a : TransportAction) �
 one-fitting l a h e = h a (rw e here)
 
 -- ---- what is found at a pair of places
-both-left : (a b : Bool) → both a b ≡ true → a ≡ true
-both-left true b e = refl
-both-left false b e = e
-
-both-right : (a b : Bool) → both a b ≡ true → b ≡ true
-both-right true b e = e
-both-right false b e = absurd (let y : _≡_ {A = ℕ} 0 1 = cc in omega arith)
-
 module _ (t : Tables) (l r : ℕ) (w : Walk) (s u s′ u′ : List ℕ) (x : Padded) (D : Answered t l r w s u s′ u′ x) where
   pub found-none : x ≡ Nothing → actionsAt t l r w ≡ []
   found-none e = action-none t l r w s u s′ u′ (rw e at D)
@@ -79,10 +72,10 @@ module _ (t : Tables) (l r : ℕ) (w : Walk) (s u s′ u′ : List ℕ) (x : Pad
     found-one = action-one t l r w s u s′ u′ n m (rw e at D)
 
     found-left : narrow (held n s′) ≡ true
-    found-left = both-left (narrow (held n s′)) (narrow (held m u′)) (action-narrow t l r w s u s′ u′ n m (rw e at D))
+    found-left = both-true (narrow (held n s′)) (narrow (held m u′)) .0 (action-narrow t l r w s u s′ u′ n m (rw e at D)) .0
 
     found-right : narrow (held m u′) ≡ true
-    found-right = both-right (narrow (held n s′)) (narrow (held m u′)) (action-narrow t l r w s u s′ u′ n m (rw e at D))
+    found-right = both-true (narrow (held n s′)) (narrow (held m u′)) .0 (action-narrow t l r w s u s′ u′ n m (rw e at D)) .1
 
     module _ (long : length s′ ≡ NUMBERS) (wide : length u′ ≡ NUMBERS) where
       pub found-sides : Sides s′ n u′ m
