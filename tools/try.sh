@@ -1,6 +1,6 @@
 #!/bin/bash
-# mf.sh . CRATE [EDIT...]: tries the must-fail edits of one crate over target/, from the root
-shift; c=$1; shift
+# try.sh CRATE [EDIT..], from the root: tries must-fail edits of one crate over the libraries in target/, which must be proved (rt check CRATE); prints the first error of each log
+c=$1; shift
 home=$(dirname $(dirname $(readlink -f $(command -v rt)))); own=$home/on/$(uname -m)
 w=()
 for d in $(sed -n "s/^$c: *//p" crates.txt); do if [ -e target/rlib/$d.rlib ]; then w+=(--extern $d=target/rlib/$d.rlib); else w+=(--extern $d=$own/rlib/$d.rlib); fi; done

@@ -1,4 +1,5 @@
-# fixpaths.py ROOT: references to modules, types and functions that moved to another crate
+#!/usr/bin/env python3
+"""moved.py ROOT [w]: references to modules, types and functions that moved to another crate, and with w mends them; BAD where it cannot tell (a crate of the kit, or two crates that have the name)."""
 import os,re,sys,collections
 os.chdir(sys.argv[1]); write=len(sys.argv)>2
 crates=[c for c in os.listdir('crates') if os.path.isdir('crates/'+c+'/src')]
