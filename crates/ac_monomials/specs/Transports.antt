@@ -17,7 +17,7 @@ use Rattle.laws.specs.Valid.{Valid}
 use Rattle.laws.specs.AcceptedUses.{membersWithin}
 use Rattle.monomial.specs.Places.{monomialAt}
 use Rattle.ac_repr.specs.Walk.{hasPlace, placesFrom, walkAt, row, rows, pairsFrom, walks, allWalks, afterOf, leftOf, Stepped}
-use Rattle.ac_ops.specs.Firsts.{passing}
+use Rattle.laws.specs.Firsts.{passing}
 use Rattle.ac_ops.specs.AcOps.{endOf, acOp}
 use Rattle.ac_monomials.specs.Actions.{actionOver, actionsAt}
 use Rattle.ac_repr.specs.declared.Walk.{Walk}

@@ -6,7 +6,7 @@ ghost use Rattle.spec.specs.Bytes.{any};
 ghost use Rattle.spec.specs.Image.{tablesOf, membersOf};
 ghost use Rattle.laws.specs.Valid.{Valid};
 ghost use Rattle.image.specs.Loaded.{Loaded};
-ghost use Rattle.ac_ops.specs.Firsts.{firstFrom};
+ghost use Rattle.laws.specs.Firsts.{firstFrom};
 ghost use Rattle.ac_ops.specs.AcOps.{acOp};
 use image::Image;
 

@@ -12,7 +12,7 @@ use Rattle.spec.specs.Bytes.{each}
 use Rattle.spec.specs.Image.{Tables, theClass}
 use Rattle.ac_repr.specs.Walk.{hasPlace, walkAt, row, rows, under, pairsFrom, walks, allWalks, afterOf, InRow, InOp, Stepped}
 use Rattle.ac_repr.specs.WalkLaws.{row-some, row-none, rows-some, rows-none, rows-has, rows-empty, under-has, under-not, stepped}
-use Rattle.ac_ops.specs.Firsts.{firstFrom, found, passing-stop, passing-end}
+use Rattle.laws.specs.Firsts.{firstFrom, found, passing-stop, passing-end}
 use Rattle.ac_ops.specs.AcOps.{endOf, acOp}
 use Rattle.ac_repr.specs.declared.Walk.{Walk}
 use Rattle.ac_repr.specs.declared.Step.{Step}

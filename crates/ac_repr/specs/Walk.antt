@@ -11,7 +11,7 @@ use Rattle.spec.specs.Image.{Tables, NO-IDENTITY, identityOf, theClass, theMemb
 use Rattle.ac_repr.specs.declared.Walk.{Walk}
 use Rattle.ac_repr.specs.declared.Step.{Step}
 use Rattle.ac_repr.specs.declared.Step.the-variants.{At, End}
-use Rattle.ac_ops.specs.Firsts.{passing}
+use Rattle.laws.specs.Firsts.{passing}
 use Rattle.ac_ops.specs.AcOps.{endOf, acOp}
 
 -- ---- places

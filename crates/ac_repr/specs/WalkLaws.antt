@@ -11,7 +11,7 @@ use Rattle.ac_repr.specs.Walk.{hasPlace, placesFrom, walkAt, row, rows, 
 use Rattle.ac_repr.specs.declared.Walk.{Walk}
 use Rattle.ac_repr.specs.declared.Step.{Step}
 use Rattle.ac_repr.specs.declared.Step.the-variants.{At, End}
-use Rattle.ac_ops.specs.Firsts.{firstFrom, found, found-some, found-none}
+use Rattle.laws.specs.Firsts.{firstFrom, found, found-some, found-none}
 use Rattle.ac_ops.specs.AcOps.{endOf}
 
 -- ---- pairs beside one left place

@@ -4,7 +4,7 @@ ghost use Prim.Native.Nat.{suc, _≤_, _<_};
 ghost use Rattle.spec.specs.Image.{tablesOf};
 ghost use Rattle.laws.specs.Valid.{Valid};
 ghost use Rattle.image.specs.Loaded.{Loaded};
-ghost use Rattle.ac_ops.specs.Firsts.{firstFrom};
+ghost use Rattle.laws.specs.Firsts.{firstFrom};
 ghost use Rattle.ac_repr.specs.Walk.{hasPlace, rows, under, pairsFrom, walks, allWalks, afterOf, Within, InRow, InOp, Stepped};
 ghost use Rattle.ac_repr.specs.declared.Step.the-variants.{At};
 use ac_ops::next_op;

@@ -11,3 +11,4 @@ pub mod AcceptedUses
 pub mod AcceptedTurns
 pub mod Scans
 pub mod Buffers
+pub mod Firsts

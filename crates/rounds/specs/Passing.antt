@@ -10,9 +10,10 @@ use Rattle.spec.specs.Bytes.{Limits, either, Two, Res, Checked}
 use Rattle.spec.specs.Image.{Tables}
 use Rattle.spec.specs.Round.{Terms}
 use Rattle.spec.specs.Run.{State}
+use Rattle.laws.specs.Firsts.{first-within, first-skips}
 use Rattle.lgg.specs.Standing.{Standing}
 use Rattle.live_pairs.specs.Live.{liveIn, nextLive, dueOf}
-use Rattle.live_pairs.specs.LiveLaws.{first-within, first-passes, due-idle, due-live}
+use Rattle.live_pairs.specs.LiveLaws.{due-idle, due-live}
 use Rattle.settling.specs.Quiet.{Quiet}
 use Rattle.visits.specs.VisitLaws.{idle-moved}
 use Rattle.rounds.specs.Graphs.{Graphs, number-here}
@@ -57,10 +58,10 @@ module _ (lim : Limits) (t : Tables) (ps : List Two) (s : State) (whole : Res (C
     f i = liveIn llive rlive (getD ps i (0, 0))
 
     within : j ≤ length ps
-    within = omega (arith, is, first-within f k (length ps - k))
+    within = omega (arith, is, first-within f k (length ps) (omega arith))
 
     idle : (i : ℕ) → k ≤ i → i < j → f i ≡ false
-    idle i l m = first-passes f k (length ps - k) i l (omega (arith, is))
+    idle i l m = first-skips f k (length ps) (omega arith) i l (omega (arith, is))
 
     pub step-cut : b < dueOf k j → Stays lim ps s whole pairs terms runs
     step-cut l =

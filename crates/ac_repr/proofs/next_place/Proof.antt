@@ -1,4 +1,4 @@
-use Rattle.ac_ops.specs.Firsts.{turn-stop, turn-more, turn-end, firstFrom}
+use Rattle.laws.specs.Firsts.{turn-stop, turn-more, turn-end, firstFrom}
 use Rattle.ac_repr.specs.Walk.{hasPlace}
 use Rattle.spec.specs.Image.{tablesOf}
 use borrow.Author.Needs.{needs}

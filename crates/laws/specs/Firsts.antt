@@ -1,8 +1,10 @@
 -- The first number of a range that passes a test, and all that do.
-use mathlib.Core.Path.{_≡_, refl, sym, _∙_}
+use mathlib.Core.Path.{_≡_, refl, sym, ap, _∙_}
+use mathlib.Core.Logic.{_⊎_, inl, inr}
 use mathlib.Core.Bool.{Bool, true, false}
 use mathlib.Core.List.{List, [], _∷_}
 use Prim.Native.Nat.{ℕ, zero, suc, _-_, _≤_, _<_, _+_}
+use native.Mathlib.Nat.{eq-or-lt-of-le}
 use native.Mathlib.Omega.{arith}
 use Rattle.spec.specs.Bytes.{filter, upFrom, place}
 use native.Mathlib.Numerals.{add-one}
@@ -73,6 +75,29 @@ module _ (p : ℕ → Bool) (x e f : ℕ) (z : f ≡ firstFrom p x e) where
 
   pub found-none : e ≤ f → passing p x e ≡ []
   found-none h = found p x e f z .same ∙ passing-end p f e h
+
+-- ---- what is passed over
+skips-fuel : (p : ℕ → Bool) (n x e : ℕ) → e - x ≡ n → x ≤ e → (firstFrom p x e ≤ e) × ((i : ℕ) → x ≤ i → i < firstFrom p x e → p i ≡ false)
+skips-fuel p zero x e q l = rw (first-end p x e (omega arith)) (omega arith, λ i h k. absurd (omega arith))
+skips-fuel p (suc n) x e q l = step (p x) refl (skips-fuel p n (suc x) e (omega arith) (omega arith))
+  where
+    h : x < e
+    h = omega arith
+
+    step : (b : Bool) → p x ≡ b → (firstFrom p (suc x) e ≤ e) × ((i : ℕ) → suc x ≤ i → i < firstFrom p (suc x) e → p i ≡ false) → (firstFrom p x e ≤ e) × ((i : ℕ) → x ≤ i → i < firstFrom p x e → p i ≡ false)
+    step true z ih = rw (first-stop p x e h z) (omega arith, λ i a k. absurd (omega arith))
+    step false z ih = rw (first-more p x e h z) (ih .0, λ i a k. here i (eq-or-lt-of-le {n = x} {m = i} a) k)
+      where
+        here : (i : ℕ) → (x ≡ i) ⊎ (x < i) → i < firstFrom p (suc x) e → p i ≡ false
+        here i (inl w) k = ap p (sym w) ∙ z
+        here i (inr w) k = ih .1 i w k
+
+-- it stands within the range, and none before it passes
+pub first-within : (p : ℕ → Bool) (x e : ℕ) → x ≤ e → firstFrom p x e ≤ e
+first-within p x e l = skips-fuel p (e - x) x e refl l .0
+
+pub first-skips : (p : ℕ → Bool) (x e : ℕ) → x ≤ e → (i : ℕ) → x ≤ i → i < firstFrom p x e → p i ≡ false
+first-skips p x e l = skips-fuel p (e - x) x e refl l .1
 
 -- ---- the scan for the first number that passes, at number i
 module _ (p : ℕ → Bool) (x e i : ℕ) (inv : firstFrom p i e ≡ firstFrom p x e) where
