@@ -1,5 +1,7 @@
 # The crates in layers, from crates.txt: a crate stands one layer above the highest crate that it needs. Libraries of the kit are left out.
 /^#/ || NF == 0 { next }
+# a crate that a program only waits for
+/# waits for / { sub(" " $NF " # waits for " $NF, "") }
 {
     name = $1
     sub(":", "", name)

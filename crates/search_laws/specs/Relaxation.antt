@@ -24,7 +24,7 @@ use Rattle.search_laws.specs.Holds.{NetHolds, ringFrom}
 use Rattle.search_laws.specs.NetReads.{labelled-size, labelled-at, labelled-off, labelled-pred, labelled-pred-off, labelled-state, labelled-head, labelled-count, labelled-ring, joined-size, joined-label, joined-pred, joined-state, joined-state-off, joined-head, joined-ring, ring-length}
 use Rattle.search_laws.specs.Once.{one-same, one-other, occurs-last, queue-room}
 use Rattle.net.specs.Net.{labelOf, predOf, stateOf, headOf, countOf, labelled, joined, improved, offered, relaxed, NODES, NET}
-use Rattle.labels.specs.NetLaws.{improved-queued, improved-joins, relaxed-yes, relaxed-not}
+use Rattle.net.specs.NetLaws.{improved-queued, improved-joins, relaxed-yes, relaxed-not}
 
 bit-le : (b : Bool) → bit b ≤ 1
 bit-le true = omega arith

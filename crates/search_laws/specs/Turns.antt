@@ -23,7 +23,7 @@ use Rattle.search_laws.specs.NetReads.{ring-other, ring-length, labelled
 use Rattle.search_laws.specs.Once.{one, one-same, one-other, occurs-first}
 use Rattle.search_laws.specs.Relaxation.{Sized, improved-holds}
 use Rattle.net.specs.Net.{labelOf, stateOf, headOf, countOf, firstOf, left, unseenTo, begun, NODES, HIGH, PRED, STATE, HEAD, COUNT, NET}
-use Rattle.labels.specs.NetLaws.{improved-joins}
+use Rattle.net.specs.NetLaws.{improved-joins}
 
 -- ---- a place of the ring by its remainder
 pub ring-same : (m : List ℕ) (n a b : ℕ) → a % NODES ≡ b % NODES → ringFrom m n a ≡ ringFrom m n b

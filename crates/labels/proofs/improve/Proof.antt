@@ -1,4 +1,4 @@
-use Rattle.labels.specs.NetLaws.{improved-queued, improved-joins}
+use Rattle.net.specs.NetLaws.{improved-queued, improved-joins}
 use Rattle.net.specs.Net.{stateOf, joined}
 use Prim.Native.Nat.{ℕ, _-_}
 use mathlib.Core.Path.{ap, sym, _∙_}

@@ -1,4 +1,4 @@
-use Rattle.labels.specs.NetLaws.{relaxed-yes, relaxed-not}
+use Rattle.net.specs.NetLaws.{relaxed-yes, relaxed-not}
 use Prim.Native.Nat.{_-_}
 use mathlib.Core.Path.{sym, _∙_}
 use borrow.Author.Needs.{needs}

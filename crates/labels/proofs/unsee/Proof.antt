@@ -1,4 +1,4 @@
-use Rattle.labels.specs.NetLaws.{unsee-start, unsee-turn, unsee-end}
+use Rattle.net.specs.NetLaws.{unsee-start, unsee-turn, unsee-end}
 use Rattle.net.specs.Net.{unseenTo}
 use borrow.Author.Needs.{needs}
 use Prim.Native.Nat.{ℕ, _≤_, _-_, _+_}
