@@ -7,9 +7,12 @@ MEMORY := /dev/shm
 ROOMY := $(shell df -Pk $(MEMORY) 2>/dev/null | awk 'NR == 2 && $$4 > 6000000 { print "TMPDIR=$(MEMORY)" }')
 LARGE := GLIBC_TUNABLES=glibc.malloc.hugetlb=1:glibc.malloc.arena_max=2:glibc.malloc.top_pad=67108864:glibc.malloc.trim_threshold=4000000000:glibc.malloc.mmap_threshold=1000000000
 
-# Everything that the gate runs; the last line printed is rt ci's `N passed, 0 failed`. Five at a time, also on two cores: rt waits for all of a batch, so that with two one core often idles. The uppermost crates take 3.5 GB each.
-test: fmt oracle
-	$(ROOMY) $(LARGE) RT_JOBS=5 rt ci
+# Everything that the gate runs; the last line printed is rt ci's `N passed, 0 failed`. Five at a time, also on two cores: rt waits for all of a batch, so that with two one core often idles. The uppermost crates take 3.5 GB each. The oracle's tests run beside, in what is left of the processors; what they print is shown where they fail.
+test: fmt
+	@log=$$(mktemp); nice $(MAKE) --no-print-directory oracle > $$log 2>&1 & judge=$$!; \
+	$(ROOMY) $(LARGE) RT_JOBS=5 rt ci; status=$$?; \
+	wait $$judge || { cat $$log; echo "the oracle's tests failed"; status=1; }; \
+	rm -f $$log; exit $$status
 
 # The layout of every Rattle and antt file.
 fmt:
