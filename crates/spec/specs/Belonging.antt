@@ -13,8 +13,10 @@ use Rattle.spec.specs.Monomial.{classes}
 use Rattle.spec.specs.Transport.{Cell, cost, forbidden, Problem, allowed, cellAt, supplyAt, demandAt, moved, rowFlow, colFlow, planSize, planMass}
 use Rattle.spec.specs.Action.{Action, TransportAction, structural, transports, cellPairs, joins}
 use Rattle.spec.specs.Pool.{litNode, opNode, variantsNode, joinRuns}
+use Rattle.spec.specs.System as system
+use Rattle.spec.specs.Pairs.{offersOf}
 use Rattle.spec.specs.Round.{startingQuality, qualityOver, ones, problemOver, qualitiesAfter}
-use Rattle.spec.specs.Meaning.{In, here, there, Term, lit, node, variants, Runs, done, run, termQuality, expand, readFirst, readSecond, reading, treeAt, treesAfter, Belongs, literal, ordered, unordered, AllBelong, noMore, andThen, Side, member, itself, padded, occurs, countIn, Plan, _⊑_, Derivation, start, action, transport, Places, noPlace, andPlace, Reachable, queried, joined, HoldsDoubled}
+use Rattle.spec.specs.Meaning.{In, here, there, Term, lit, node, variants, Runs, done, run, termQuality, expand, readFirst, readSecond, reading, treeAt, treesAfter, Belongs, literal, ordered, unordered, AllBelong, noMore, andThen, Side, member, itself, padded, occurs, countIn, Plan, _⊑_, Derivation, Move, aligned, planned, start, action, Places, noPlace, andPlace, Reachable, queried, joined, HoldsDoubled}
 
 -- ---- terms as trees
 abbrev mark : Term
@@ -270,41 +272,40 @@ not-smaller = (large, heavy)
 -- ---- derivations
 at-start : {k : ℕ} {p q : Two} → k ≤ 0 → Derivation D k p q → q ≡ startingQuality D p
 at-start h (start e) = e
-at-start h (action a i qs ps e) = absurd (omega arith)
-at-start h (transport a i qs ps x l e) = absurd (omega arith)
+at-start h (action cs x m qs ps e) = absurd (omega arith)
 
 -- (2, 3) joins (0, 0) and (1, 0): 1 + 1 + 2, mass 2
 step : Derivation D 1 (2, 3) (4, 2)
 unfolding structural planSize planMass
-step = action (record { op = 1; pairs = (0, 0) ∷ (1, 0) ∷ [] }) here ((1, 0) ∷ (2, 2) ∷ []) (andPlace {h = 0} {k = 0} (omega arith) (start refl) (andPlace {h = 0} {k = 0} (omega arith) (start refl) noPlace)) refl
+step = action ((0, 0) ∷ (1, 0) ∷ []) (1 ∷ 1 ∷ []) (aligned (record { op = 1; pairs = (0, 0) ∷ (1, 0) ∷ [] }) here refl refl) ((1, 0) ∷ (2, 2) ∷ []) (andPlace {h = 0} {k = 0} (omega arith) (start refl) (andPlace {h = 0} {k = 0} (omega arith) (start refl) noPlace)) refl
 
 -- (4, 5) joins (2, 3), of height 1, and (0, 0), of height 0
 two-steps : Derivation D 2 (4, 5) (6, 2)
 unfolding structural planSize planMass
-two-steps = action (record { op = 1; pairs = (2, 3) ∷ (0, 0) ∷ [] }) here ((4, 2) ∷ (1, 0) ∷ []) (andPlace {h = 1} {k = 1} (omega arith) step (andPlace {h = 1} {k = 0} (omega arith) (start refl) noPlace)) refl
+two-steps = action ((2, 3) ∷ (0, 0) ∷ []) (1 ∷ 1 ∷ []) (aligned (record { op = 1; pairs = (2, 3) ∷ (0, 0) ∷ [] }) here refl refl) ((4, 2) ∷ (1, 0) ∷ []) (andPlace {h = 1} {k = 1} (omega arith) step (andPlace {h = 1} {k = 0} (omega arith) (start refl) noPlace)) refl
 
 step-only : {q : Two} → Derivation D 1 (2, 3) q → q ≡ (4, 2)
 unfolding structural transports planSize planMass
-step-only (action a i qs ps e) = e ∙ go i ps
+step-only (action cs x (aligned a i c f) qs ps e) = e ∙ rw f (go i (rw c at ps))
   where
     go : {a : Action} → In a (record { op = 1; pairs = (0, 0) ∷ (1, 0) ∷ [] } ∷ []) → {qs : List Two} → Places D 0 (a .pairs) qs → qualityOver (ones (a .pairs)) qs ≡ (4, 2)
-    go here (andPlace {q = u} h d (andPlace {q = v} k f noPlace)) = ap (λ (z : Two). qualityOver (1 ∷ 1 ∷ []) (z ∷ v ∷ [])) (at-start h d) ∙ ap (λ (z : Two). qualityOver (1 ∷ 1 ∷ []) ((1, 0) ∷ z ∷ [])) (at-start k f)
+    go here (andPlace {z = u} h d (andPlace {z = v} k f noPlace)) = ap (λ (z : Two). qualityOver (1 ∷ 1 ∷ []) (z ∷ v ∷ [])) (at-start h d) ∙ ap (λ (z : Two). qualityOver (1 ∷ 1 ∷ []) ((1, 0) ∷ z ∷ [])) (at-start k f)
     go (there j) ps = absurd (in-nil j)
-step-only (transport a i qs ps x l e) = absurd (in-nil i)
+step-only (action cs x (planned a i c zs l m) qs ps e) = absurd (in-nil i)
 
 not-yet : {q : Two} → Derivation D 1 (4, 5) q → q ≡ (8, 6)
 unfolding structural transports planSize planMass
-not-yet (action a i qs ps e) = e ∙ go i ps
+not-yet (action cs x (aligned a i c f) qs ps e) = e ∙ rw f (go i (rw c at ps))
   where
     go : {a : Action} → In a (record { op = 1; pairs = (2, 3) ∷ (0, 0) ∷ [] } ∷ []) → {qs : List Two} → Places D 0 (a .pairs) qs → qualityOver (ones (a .pairs)) qs ≡ (8, 6)
-    go here (andPlace {q = u} h d (andPlace {q = v} k f noPlace)) = ap (λ (z : Two). qualityOver (1 ∷ 1 ∷ []) (z ∷ v ∷ [])) (at-start h d) ∙ ap (λ (z : Two). qualityOver (1 ∷ 1 ∷ []) ((6, 6) ∷ z ∷ [])) (at-start k f)
+    go here (andPlace {z = u} h d (andPlace {z = v} k f noPlace)) = ap (λ (z : Two). qualityOver (1 ∷ 1 ∷ []) (z ∷ v ∷ [])) (at-start h d) ∙ ap (λ (z : Two). qualityOver (1 ∷ 1 ∷ []) ((6, 6) ∷ z ∷ [])) (at-start k f)
     go (there j) ps = absurd (in-nil j)
-not-yet (transport a i qs ps x l e) = absurd (in-nil i)
+not-yet (action cs x (planned a i c zs l m) qs ps e) = absurd (in-nil i)
 
 no-action : {q : Two} → Derivation D 1 (0, 1) q → ⊥
 unfolding structural transports
-no-action (action a i qs ps e) = in-nil i
-no-action (transport a i qs ps x l e) = in-nil i
+no-action (action cs x (aligned a i c f) qs ps e) = in-nil i
+no-action (action cs x (planned a i c zs l m) qs ps e) = in-nil i
 
 -- (7, 6) by transport of 2 units over the one cell (0, 1): 1 + 2 × 2, mass 2 × 2
 abbrev moves : TransportAction
@@ -312,7 +313,7 @@ moves = record { op = 3; sides = record { rows = (0, 2) ∷ []; cols = (1, 2) �
 
 by-transport : Derivation D 1 (7, 6) (5, 4)
 unfolding transports cellPairs planSize planMass rowFlow colFlow
-by-transport = transport moves here ((2, 2) ∷ []) (andPlace {h = 0} {k = 0} (omega arith) (start refl) noPlace) (2 ∷ []) (record { long = refl; someRow = omega arith; someColumn = omega arith; rows = rows; columns = columns; kept = kept }) refl
+by-transport = action ((0, 1) ∷ []) (2 ∷ []) (planned moves here refl ((2, 2) ∷ []) refl plan) ((2, 2) ∷ []) (andPlace {h = 0} {k = 0} (omega arith) (start refl) noPlace) refl
   where
     rows : (i : ℕ) → i < 1 → rowFlow (problemOver moves ((2, 2) ∷ [])) (2 ∷ []) i ≡ supplyAt (problemOver moves ((2, 2) ∷ [])) i
     rows zero h = refl
@@ -327,23 +328,26 @@ by-transport = transport moves here ((2, 2) ∷ []) (andPlace {h = 0} {k = 0} (o
     kept zero (suc j) h k e = absurd (omega arith)
     kept (suc i) j h k e = absurd (omega arith)
 
+    plan : Plan (problemOver moves ((2, 2) ∷ [])) (2 ∷ [])
+    plan = record { long = refl; someRow = omega arith; someColumn = omega arith; rows = rows; columns = columns; kept = kept }
+
 transport-only : {q : Two} → Derivation D 1 (7, 6) q → q ≡ (5, 4)
 unfolding structural transports cellPairs planSize planMass rowFlow
-transport-only (action a i qs ps e) = absurd (in-nil i)
-transport-only (transport a i qs ps x l e) = e ∙ go i ps x l
+transport-only (action cs x (aligned a i c f) qs ps e) = absurd (in-nil i)
+transport-only (action cs x (planned a i c zs k l) qs ps e) = e ∙ go i (rw c at ps) x zs l
   where
-    go : {a : TransportAction} → In a (moves ∷ []) → {qs : List Two} → Places D 0 (cellPairs (a .sides)) qs → (x : List ℕ) → Plan (problemOver a qs) x → qualityOver x qs ≡ (5, 4)
-    go here (andPlace {q = u} h d noPlace) [] l = absurd (let k = l .long in omega arith)
-    go here (andPlace {q = u} h d noPlace) (n ∷ []) l = let r = l .rows 0 (omega arith) in let k : n ≡ 2 = omega arith in ap (λ (z : Two). qualityOver (n ∷ []) (z ∷ [])) (at-start h d) ∙ ap (λ (z : ℕ). qualityOver (z ∷ []) ((2, 2) ∷ [])) k
-    go here (andPlace {q = u} h d noPlace) (n ∷ m ∷ x) l = absurd (let k = l .long in omega arith)
-    go (there j) ps x l = absurd (in-nil j)
+    go : {a : TransportAction} → In a (moves ∷ []) → {qs : List Two} → Places D 0 (cellPairs (a .sides)) qs → (x : List ℕ) (zs : List Two) → Plan (problemOver a zs) x → qualityOver x qs ≡ (5, 4)
+    go here (andPlace {z = u} h d noPlace) [] zs l = absurd (let k = l .long in omega arith)
+    go here (andPlace {z = u} h d noPlace) (n ∷ []) zs l = let r = l .rows 0 (omega arith) in let k : n ≡ 2 = omega arith in ap (λ (z : Two). qualityOver (n ∷ []) (z ∷ [])) (at-start h d) ∙ ap (λ (z : ℕ). qualityOver (z ∷ []) ((2, 2) ∷ [])) k
+    go here (andPlace {z = u} h d noPlace) (n ∷ m ∷ x) zs l = absurd (let k = l .long in omega arith)
+    go (there j) ps x zs l = absurd (in-nil j)
 
 no-transport-at-once : Derivation D 0 (7, 6) (5, 4) → ⊥
 no-transport-at-once d = let e : _≡_ {A = Two} (5, 4) (6, 6) = at-start (omega arith) d in let k : _≡_ {A = ℕ} 5 6 = ap (λ (z : Two). z .0) e in omega arith
 
 -- the same by rounds: (4, 5) improves twice
 by-rounds : qualitiesAfter 2 D ((4, 5) ∷ (2, 3) ∷ (0, 0) ∷ (1, 0) ∷ []) ≡ (6, 2) ∷ (4, 2) ∷ (1, 0) ∷ (2, 2) ∷ []
-unfolding qualitiesAfter
+unfolding system.qualitiesAfter offersOf planSize planMass
 by-rounds = refl
 
 -- ---- reachable pairs: (4, 5), then (2, 3) and (0, 0), then (1, 0)

@@ -38,6 +38,11 @@ unfoldable pub each : {A B : Type 0} → (A → List B) → List A → List B
 each f [] = []
 each f (x ∷ l) = f x ++ each f l
 
+-- x is an entry of the list
+pub data In {A : Type 0} (x : A) : List A → Type 0 where
+  here : {l : List A} → In x (x ∷ l)
+  there : {y : A} {l : List A} → In x l → In x (y ∷ l)
+
 unfoldable pub sum : List ℕ → ℕ
 sum [] = 0
 sum (x ∷ l) = x + sum l

@@ -3,8 +3,10 @@ pub mod Image
 pub mod Monomial
 pub mod Transport
 pub mod Action
-pub mod Graph
 pub mod Pool
+pub mod System
+pub mod Pairs
+pub mod Graph
 pub mod Round
 pub mod Run
 pub mod Listing

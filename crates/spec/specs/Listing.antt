@@ -31,7 +31,7 @@ unfoldable pub firstLine : Outcome → List ℕ
 unfolding digits line text
 firstLine o = line (
     text (pick (o .complete) "complete" "partial")
-    ∷ text "pairs" ∷ decimal (o .pairs)
+    ∷ text "pairs" ∷ decimal (o .nodes)
     ∷ text "rounds" ∷ decimal (o .rounds)
     ∷ text "size" ∷ decimal (o .quality .0)
     ∷ text "mass" ∷ decimal (o .quality .1) ∷ [])

@@ -6,18 +6,16 @@ use mathlib.Core.List.{List, [], _∷_, _++_}
 use Prim.Native.Nat.{ℕ, zero, suc, _+_, _*_, _≤_, _<_}
 use lib.Dec.{eqb}
 use lib.ListN.{length, getD, replicate}
+pub use Rattle.spec.specs.Bytes.{In, here, there}
 use Rattle.spec.specs.Bytes.{pick, Two}
 use Rattle.spec.specs.Image.{Tables, Member, Lit, NO-IDENTITY, kindOf, identityOf, isCommutative, membersOf, childrenOf}
 use Rattle.spec.specs.Monomial.{classes}
 use Rattle.spec.specs.Transport.{allowed, Problem, rowsOf, colsOf, cellAt, supplyAt, demandAt, moved, rowFlow, colFlow}
-use Rattle.spec.specs.Action.{Action, TransportAction, structural, transports, cellPairs, joins}
+use Rattle.spec.specs.Action.{Action, TransportAction, structural, transports, cellPairs}
 use Rattle.spec.specs.Pool.{Pool, Node, LIT, VARIANTS}
-use Rattle.spec.specs.Round.{startingQuality, qualityOver, ones, problemOver}
-
--- x is an entry of the list
-pub data In {A : Type 0} (x : A) : List A → Type 0 where
-  here : {l : List A} → In x (x ∷ l)
-  there : {y : A} {l : List A} → In x l → In x (y ∷ l)
+use Rattle.spec.specs.System as system
+pub use Rattle.spec.specs.System.{start, action, noPlace, andPlace, queried, joined}
+use Rattle.spec.specs.Pairs.{ones, problemOver, pairs}
 
 -- ---- terms as trees
 mutual
@@ -134,26 +132,22 @@ infix 50 _⊑_
 abbrev pub _⊑_ : Two → Two → Type 0
 a ⊑ b = (a .0 < b .0) ⊎ ((a .0 ≡ b .0) × (a .1 ≤ b .1))
 
--- ---- "Derivation, of a pair": its height, the pair, its quality. One derivation for each place that an action joins.
-mutual
-  pub data Derivation (t : Tables) : ℕ → Two → Two → Type 0 where
-    -- "Height 0 is its starting term."
-    start : {p q : Two} → q ≡ startingQuality t p → Derivation t 0 p q
-    -- "Height h + 1 is an action of the pair, .. over derivations, of height at most h, of the pairs it joins."
-    action : {h : ℕ} {p q : Two} (a : Action) → In a (structural t (p .0) (p .1)) → (qs : List Two) → Places t h (a .pairs) qs
-        → q ≡ qualityOver (ones (a .pairs)) qs → Derivation t (suc h) p q
-    -- "for transport with any whole-number plan"
-    transport : {h : ℕ} {p q : Two} (a : TransportAction) → In a (transports t (p .0) (p .1)) → (qs : List Two) → Places t h (cellPairs (a .sides)) qs
-        → (x : List ℕ) → Plan (problemOver a qs) x → q ≡ qualityOver x qs → Derivation t (suc h) p q
+-- ---- "an action of the pair, for transport with any whole-number plan": the pairs that it joins, each so many times. No cell is forbidden, so that a plan is one whatever the qualities of the cells.
+pub data Move (t : Tables) (p : Two) : List Two → List ℕ → Type 0 where
+  aligned : {ps : List Two} {x : List ℕ} (a : Action) → In a (structural t (p .0) (p .1)) → ps ≡ a .pairs → x ≡ ones (a .pairs) → Move t p ps x
+  planned : {ps : List Two} {x : List ℕ} (a : TransportAction) → In a (transports t (p .0) (p .1)) → ps ≡ cellPairs (a .sides) → (qs : List Two) → length qs ≡ length (cellPairs (a .sides)) → Plan (problemOver a qs) x → Move t p ps x
 
-  pub data Places (t : Tables) : ℕ → List Two → List Two → Type 0 where
-    noPlace : {h : ℕ} → Places t h [] []
-    andPlace : {h k : ℕ} {p q : Two} {ps qs : List Two} → k ≤ h → Derivation t k p q → Places t h ps qs → Places t h (p ∷ ps) (q ∷ qs)
+-- "Derivation, of a pair": its height, the pair, its quality
+abbrev pub Derivation : Tables → ℕ → Two → Two → Type 0
+Derivation t h p z = system.Derivation (pairs t) (Move t) h p z
 
--- ---- "it holds the queried pair and, with each pair, every pair of classes that an action of it joins"
-pub data Reachable (t : Tables) (root : Two) : Two → Type 0 where
-  queried : {p : Two} → p ≡ root → Reachable t root p
-  joined : {p q : Two} → Reachable t root p → In q (joins t p) → Reachable t root q
+-- its places: one derivation for each pair that the action joins
+abbrev pub Places : Tables → ℕ → List Two → List Two → Type 0
+Places t h ps qs = system.Places (pairs t) (Move t) h ps qs
+
+-- "it holds the queried pair and, with each pair, every pair of classes that an action of it joins"
+abbrev pub Reachable : Tables → Two → Two → Type 0
+Reachable t root p = system.Reachable (pairs t) root p
 
 -- ---- "10, with a class: a literal in two classes; the class is one that holds it". Which one is open, so this is a relation.
 pub record HoldsDoubled (t : Tables) (c : ℕ) : Type 0 where

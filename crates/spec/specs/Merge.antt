@@ -6,13 +6,18 @@ use lib.Dec.{ltb, leb, eqb}
 use lib.ListN.{length, take, drop}
 use Rattle.spec.specs.Bytes.{both, be2, be4, text, decimal, digits, Limits, Res, ok, refused, _>>=_, rule}
 use Rattle.spec.specs.Image.{imageOf}
+use Rattle.spec.specs.Transport.{planSize, planMass}
+use Rattle.spec.specs.Action.{joins}
+use Rattle.spec.specs.Pool.{startingTerm}
+use Rattle.spec.specs.System as system
+use Rattle.spec.specs.Pairs.{offersOf, actionTerm}
 use Rattle.spec.specs.Run.{documentLimits, runOf}
 use Rattle.spec.specs.Listing.{listingOf, line}
 
 -- "Order: 1 to 11, then 12 and 13 as met, 14 last". 2 to 10 are the image's, 12 and 13 the run's.
 -- `fit`: no work buffer is below its constant length; `room`: the output buffer's length.
 unfoldable pub mergeUnder : Limits → Bool → List ℕ → ℕ → ℕ → ℕ → ℕ → Res (List ℕ)
-unfolding imageOf listingOf runOf
+unfolding imageOf listingOf system.runOf actionTerm joins offersOf planMass planSize startingTerm
 mergeUnder lim fit image left right budget room = do
   _ ← rule 1 fit
   t ← imageOf image
