@@ -19,8 +19,12 @@ use Rattle.spec.specs.Round.{startingQuality, qualityOver, ones, problem
 use Rattle.spec.specs.Meaning.{In, here, there, Term, lit, node, variants, Runs, done, run, termQuality, expand, readFirst, readSecond, reading, treeAt, treesAfter, Belongs, literal, ordered, unordered, AllBelong, noMore, andThen, Side, member, itself, padded, occurs, countIn, Plan, _⊑_, Derivation, Move, aligned, planned, start, action, Places, noPlace, andPlace, Reachable, queried, joined, HoldsDoubled}
 
 -- ---- terms as trees
+-- a marked place of two branches
+abbrev marked : Term → Term → Term
+marked a b = variants (run a 1 (run b 1 done))
+
 abbrev mark : Term
-mark = variants (node 1 (run (lit 0 5) 2 done)) (lit 0 7)
+mark = marked (node 1 (run (lit 0 5) 2 done)) (lit 0 7)
 
 -- 3 × 1 + 2 × (3 + 1) + 1; the mass is the marked place's, twice
 quality : termQuality (node 1 (run (lit 0 5) 3 (run mark 2 done))) ≡ (12, 8)
@@ -32,16 +36,30 @@ unfolding expand
 expanded = refl
 
 abbrev marks : Term
-marks = node 1 (run (variants (variants (lit 0 1) (lit 0 2)) (variants (lit 0 3) (lit 0 4))) 1 (run (variants (lit 0 5) (lit 0 6)) 2 done))
+marks = node 1 (run (marked (marked (lit 0 1) (lit 0 2)) (marked (lit 0 3) (lit 0 4))) 1 (run (marked (lit 0 5) (lit 0 6)) 2 done))
 
 read : (readFirst marks ≡ node 1 (run (lit 0 1) 1 (run (lit 0 5) 2 done))) × (readSecond marks ≡ node 1 (run (lit 0 4) 1 (run (lit 0 6) 2 done)))
 unfolding reading
 read = (refl, refl)
 
-abbrev shared : Term
-shared = node 1 (run (lit 0 5) 1 (run (variants (lit 0 7) (lit 0 5)) 2 done))
+-- branches that are alike, joined: both readings are the one; of three branches with the first two joined, the third is the other
+alike : (readFirst (variants (run mark 2 done)) ≡ node 1 (run (lit 0 5) 2 done)) × (readSecond (variants (run mark 2 done)) ≡ lit 0 7)
+unfolding reading
+alike = (refl, refl)
 
-tree : treeAt (litNode 0 5 ∷ litNode 0 7 ∷ variantsNode 1 0 ∷ opNode 1 ((0, 1) ∷ (2, 2) ∷ []) ∷ variantsNode 3 3 ∷ []) 4 ≡ variants shared shared
+third : (reading 1 (variants (run (lit 0 1) 2 (run mark 1 done))) ≡ lit 0 1) × (reading 2 (variants (run (lit 0 1) 2 (run (lit 0 3) 1 done))) ≡ lit 0 3)
+unfolding reading
+third = (refl, refl)
+
+-- three branches: 2 × 1 + 4, twice
+three : termQuality (variants (run (lit 0 1) 2 (run mark 1 done))) ≡ (6, 6)
+unfolding termQuality
+three = refl
+
+abbrev shared : Term
+shared = node 1 (run (lit 0 5) 1 (run (marked (lit 0 7) (lit 0 5)) 2 done))
+
+tree : treeAt (litNode 0 5 ∷ litNode 0 7 ∷ variantsNode 1 0 ∷ opNode 1 ((0, 1) ∷ (2, 2) ∷ []) ∷ variantsNode 3 3 ∷ []) 4 ≡ variants (run shared 2 done)
 unfolding treesAfter joinRuns
 tree = refl
 
@@ -170,7 +188,7 @@ no-child-too-many (ordered m i o k z b) = go i b
     go (there j) y = in-nil j
 no-child-too-many (unordered l cs s k b p) = clash k
 
-no-mark : {a b : Term} {c : ℕ} → Belongs D (variants a b) c → ⊥
+no-mark : {r : Runs} {c : ℕ} → Belongs D (variants r) c → ⊥
 no-mark x = elim x [ ]
 
 no-lost-literal : Belongs D (node 0 done) 0 → ⊥

@@ -1,10 +1,10 @@
 -- What document 01 says of terms, classes, plans and derivations, with no algorithm in sight.
 use mathlib.Core.Path.{_≡_}
 use mathlib.Core.Logic.{_≢_, _⊎_}
-use mathlib.Core.Bool.{Bool, true, false}
+use mathlib.Core.Bool.{true, false}
 use mathlib.Core.List.{List, [], _∷_, _++_}
-use Prim.Native.Nat.{ℕ, zero, suc, _+_, _*_, _≤_, _<_}
-use lib.Dec.{eqb}
+use Prim.Native.Nat.{ℕ, zero, suc, _+_, _*_, _-_, _≤_, _<_}
+use lib.Dec.{ltb, eqb}
 use lib.ListN.{length, getD, replicate}
 pub use Rattle.spec.specs.Bytes.{In, here, there}
 use Rattle.spec.specs.Bytes.{pick, Two}
@@ -22,7 +22,8 @@ mutual
   pub data Term : Type 0 where
     lit : ℕ → ℕ → Term
     node : ℕ → Runs → Term
-    variants : Term → Term → Term
+    -- a marked place over its branches
+    variants : Runs → Term
 
   pub data Runs : Type 0 where
     done : Runs
@@ -33,7 +34,7 @@ unfoldable mutual
   pub termQuality : Term → Two
   termQuality (lit o v) = (1, 0)
   termQuality (node o r) = (1 + runsQuality r .0, runsQuality r .1)
-  termQuality (variants a b) = (termQuality a .0 + termQuality b .0, termQuality a .0 + termQuality b .0)
+  termQuality (variants r) = (runsQuality r .0, runsQuality r .0)
 
   pub runsQuality : Runs → Two
   runsQuality done = (0, 0)
@@ -44,40 +45,38 @@ unfoldable pub expand : Runs → List Term
 expand done = []
 expand (run a n r) = replicate n a ++ expand r
 
--- ---- "read by the first branch at every marked place", or by the second
+-- ---- "read by the first branch at every marked place", or by the second: by the branch at place k, counted from 0
 unfoldable mutual
-  pub reading : Bool → Term → Term
-  reading first (lit o v) = lit o v
-  reading first (node o r) = node o (readingRuns first r)
-  reading first (variants a b) = pick first (reading first a) (reading first b)
+  pub reading : ℕ → Term → Term
+  reading k (lit o v) = lit o v
+  reading k (node o r) = node o (readingRuns k r)
+  reading k (variants r) = branch k k r
 
-  pub readingRuns : Bool → Runs → Runs
-  readingRuns first done = done
-  readingRuns first (run a n r) = run (reading first a) n (readingRuns first r)
+  pub readingRuns : ℕ → Runs → Runs
+  readingRuns k done = done
+  readingRuns k (run a n r) = run (reading k a) n (readingRuns k r)
+
+  -- the branch at place i of the runs, read by k
+  pub branch : ℕ → ℕ → Runs → Term
+  branch k i done = lit 0 0
+  branch k i (run a n r) = elim (ltb i n) [ true ↦ reading k a | false ↦ branch k (i - n) r ]
 
 abbrev pub readFirst : Term → Term
-readFirst a = reading true a
+readFirst a = reading 0 a
 
 abbrev pub readSecond : Term → Term
-readSecond a = reading false a
+readSecond a = reading 1 a
 
 -- ---- the tree that a pool's number stands for
 unfoldable pub runsOf : List Term → List Two → Runs
 runsOf trees [] = done
 runsOf trees (r ∷ l) = run (getD trees (r .0) (lit 0 0)) (r .1) (runsOf trees l)
 
--- the two branches of a marked place: two runs, or one run of 2
-abbrev pub firstBranch : List Two → ℕ
-firstBranch l = getD l 0 (0, 0) .0
-
-abbrev pub secondBranch : List Two → ℕ
-secondBranch l = getD l 1 (getD l 0 (0, 0)) .0
-
 unfoldable pub treeOf : List Term → Node → Term
 unfolding runsOf
 treeOf trees n =
     pick (eqb (n .head) LIT) (lit (n .op) (n .value))
-    (pick (eqb (n .head) VARIANTS) (variants (getD trees (firstBranch (n .runs)) (lit 0 0)) (getD trees (secondBranch (n .runs)) (lit 0 0)))
+    (pick (eqb (n .head) VARIANTS) (variants (runsOf trees (n .runs)))
     (node (n .op) (runsOf trees (n .runs))))
 
 unfoldable pub treesAfter : List Term → Pool → List Term
