@@ -7,8 +7,8 @@ use native.Mathlib.Omega.{arith}
 use lib.ListN.{length, getD, take, drop, take-append-drop, length-append}
 use Rattle.spec.specs.Bytes.{Limits, pick, sum, Two}
 use Rattle.spec.specs.Pool.{Pool, Node, opNode, joinRuns, sortRuns, intern}
-use Rattle.lgg.specs.Pool.{RunsBelow, NodeValid, op-valid}
-use Rattle.lgg.specs.PoolSort.{sort-perm, perm-below}
+use Rattle.pools.specs.Pool.{RunsBelow, NodeValid, op-valid}
+use Rattle.pools.specs.PoolSort.{sort-perm, perm-below}
 use Rattle.terms.specs.Buffers.{part, unpack, nodesIn, poolOf, nodeOf, countIn}
 use Rattle.terms.specs.Chains.{Holds}
 use Rattle.interning.specs.Interning.{enteredOf, poolAfter, Interning}

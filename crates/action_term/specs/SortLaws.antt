@@ -12,8 +12,8 @@ use Rattle.term_order.specs.Comparing.{orderOf}
 use Rattle.term_order.specs.declared.Order.the-variants as O
 use Rattle.spec.specs.Pool.{Pool, Order, less, equal, greater, structuralCmp, isGreater, insertRun, sortRuns}
 use Rattle.spec.specs.Meaning.{In, here, there}
-use Rattle.lgg.specs.Pool.{RunsBelow, runs-below-cons, runs-below-tail, runs-below-nil}
-use Rattle.lgg.specs.PoolSort.{sort-perm, perm-below}
+use Rattle.pools.specs.Pool.{RunsBelow, runs-below-cons, runs-below-tail, runs-below-nil}
+use Rattle.pools.specs.PoolSort.{sort-perm, perm-below}
 use Rattle.terms.specs.Buffers.{part, unpack}
 use Rattle.action_term.specs.Sorting.{insertNumber, sortNumbers, within}
 use Rattle.terms.specs.PartLaws.{part-length, part-cons, part-over, part-cong, part-at, part-take, part-front}

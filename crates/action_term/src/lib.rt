@@ -9,7 +9,7 @@ ghost use lib.ListN.{length, getD};
 ghost use Rattle.spec.specs.Bytes.{sum};
 ghost use Rattle.spec.specs.Pool.{structuralCmp, isGreater};
 ghost use Rattle.query.specs.Settings.{limitsOf};
-ghost use Rattle.lgg.specs.Pool.{RunsBelow};
+ghost use Rattle.pools.specs.Pool.{RunsBelow};
 ghost use Rattle.terms.specs.Buffers.{countIn, part, unpack, poolOf};
 ghost use Rattle.terms.specs.Chains.{Holds, Rooms};
 ghost use Rattle.joining.specs.Joining.{over};

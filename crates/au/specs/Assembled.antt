@@ -12,7 +12,7 @@ use Rattle.spec.specs.Bytes.{both, either, refused}
 use Rattle.spec.specs.Run.{documentLimits}
 use Rattle.spec.specs.Merge.{mergeUnder, mergeOf, outputAfter}
 use Rattle.laws.specs.Tests.{both-true}
-use Rattle.lgg.specs.Results.{refused-ok, refused-inj}
+use Rattle.laws.specs.Results.{refused-ok, refused-inj}
 use Rattle.lgg.specs.Limits.{NoLess}
 use Rattle.query.specs.Settings.{limitsOf}
 use Rattle.query.specs.declared.Limits.{Limits}

@@ -8,9 +8,9 @@ use Rattle.spec.specs.Bytes.{Two, Limits, Res, ok, refused, Checked, passed, cu
 use Rattle.spec.specs.Image.{Tables}
 use Rattle.spec.specs.Graph.{build}
 use Rattle.spec.specs.Pool.{Pool, Interned, startingTerm}
-use Rattle.lgg.specs.Results.{refused-ok}
-use Rattle.lgg.specs.Refusals.{start-only}
-use Rattle.lgg.specs.Graph.{build-refused}
+use Rattle.laws.specs.Results.{refused-ok}
+use Rattle.steps.specs.Refusals.{start-only}
+use Rattle.steps.specs.Graph.{build-refused}
 use Rattle.budget.specs.Budget.{budgetOf}
 use Rattle.budget.specs.declared.Budget.{Budget}
 use Rattle.terms.specs.Buffers.{LEAST, poolOf}

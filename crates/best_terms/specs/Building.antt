@@ -19,11 +19,11 @@ use Rattle.laws.specs.Valid.{Valid}
 use Rattle.laws.specs.AcceptedUses.{membersWithin, childrenWithin, child-of-at, children-length-at}
 use Rattle.image.specs.Loaded.{Loaded, theChild, operations-many, classes-many, members-many, children-many}
 use Rattle.image.specs.declared.Image.{Image}
-use Rattle.lgg.specs.Results.{ok-inj, refused-ok}
-use Rattle.lgg.specs.Lists.{in-nil}
-use Rattle.lgg.specs.Pool.{PoolValid}
-use Rattle.lgg.specs.PoolIntern.{Extends, extends-refl}
-use Rattle.lgg.specs.BestMembers.{best-in, best-falls, child-within, child-counted, member-arity, children-length}
+use Rattle.laws.specs.Results.{ok-inj, refused-ok}
+use Rattle.laws.specs.Lists.{in-nil}
+use Rattle.pools.specs.Pool.{PoolValid}
+use Rattle.pools.specs.PoolIntern.{Extends, extends-refl}
+use Rattle.laws.specs.BestMembers.{best-in, best-falls, child-within, child-counted, member-arity, children-length}
 use Rattle.terms.specs.Buffers.{poolOf, nodesIn, countIn}
 use Rattle.terms.specs.Chains.{Holds}
 use Rattle.interning.specs.Interning.{enteredOf, poolAfter}

@@ -15,7 +15,7 @@ use Rattle.spec.specs.Bytes.{Two, pick}
 use Rattle.spec.specs.Image.{Tables, childrenOf, bestMember, bestSize}
 use Rattle.spec.specs.Meaning.{In, here, there}
 use Rattle.laws.specs.Valid.{Valid}
-use Rattle.lgg.specs.BestMembers.{best-in, best-falls, child-within}
+use Rattle.laws.specs.BestMembers.{best-in, best-falls, child-within}
 use Rattle.best_terms.specs.Reaching.{mark, marksOf, reachAll, reachIn, reach}
 
 -- what visiting a class of size n changes

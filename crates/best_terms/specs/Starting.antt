@@ -14,9 +14,9 @@ use Rattle.spec.specs.Bytes.{Limits, Two, upFrom, pick, Res, ok, refused, _>>=_
 use Rattle.spec.specs.Image.{Tables}
 use Rattle.spec.specs.Pool.{Pool, Node, variantsNode, Interned, interned, intern, bestTerm, bestTermIn, startingTerm, joinRuns}
 use Rattle.laws.specs.Valid.{Valid}
-use Rattle.lgg.specs.Results.{ok-inj, refused-ok}
-use Rattle.lgg.specs.Pool.{PoolValid, variants-valid}
-use Rattle.lgg.specs.PoolIntern.{Extends, extends-within, intern-enters}
+use Rattle.laws.specs.Results.{ok-inj, refused-ok}
+use Rattle.pools.specs.Pool.{PoolValid, variants-valid}
+use Rattle.pools.specs.PoolIntern.{Extends, extends-within, intern-enters}
 use Rattle.terms.specs.Buffers.{poolOf, nodesIn, countIn}
 use Rattle.terms.specs.Chains.{Holds}
 use Rattle.interning.specs.Interning.{enteredOf, poolAfter}

@@ -11,7 +11,7 @@ use Rattle.spec.specs.Bytes.{Two, each}
 use Rattle.spec.specs.Monomial.{Monomial, MonomialPair, pairOf, classes, narrow}
 use Rattle.spec.specs.Action.{cellPairs}
 use Rattle.spec.specs.Meaning.{In}
-use Rattle.lgg.specs.Lists.{length-map, get-in}
+use Rattle.laws.specs.Lists.{length-map, get-in}
 use Rattle.monomial_terms.specs.Terms.{TERMS, NUMBERS, terms, held}
 use Rattle.monomial_terms.specs.TermLaws.{held-length}
 use Rattle.cost_matrix.specs.Places.{cells-fit, div-in}

@@ -16,7 +16,7 @@ use Rattle.spec.specs.Action.{cellPairs}
 use Rattle.spec.specs.Round.{cellsOver}
 use Rattle.laws.specs.Buffers.{over}
 use Rattle.flow.specs.Magnitude.{Small}
-use Rattle.lgg.specs.Lists.{length-map}
+use Rattle.laws.specs.Lists.{length-map}
 use Rattle.monomial_terms.specs.Terms.{TERMS, NUMBERS, terms, held}
 use Rattle.monomial_terms.specs.TermLaws.{held-length}
 use Rattle.arrays.specs.Arrays.{qualityIn}

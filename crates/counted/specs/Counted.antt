@@ -11,10 +11,10 @@ use Rattle.spec.specs.Image.{Tables, Lit, kindOf, isCommutative, bestSize, best
 use Rattle.spec.specs.Pool.{Order, isGreater}
 use Rattle.spec.specs.Round.{Choice, stay, act, turnOf}
 use Rattle.spec.specs.Meaning.{In, Term, lit, node, variants, Runs, done, run}
-use Rattle.lgg.specs.Lists.{Distinct}
-use Rattle.lgg.specs.Quality.{_⊏_}
-use Rattle.lgg.specs.Rounds.{qualityAfter}
-use Rattle.lgg.specs.OrderTerms.{termCmp}
+use Rattle.laws.specs.Lists.{Distinct}
+use Rattle.steps.specs.Quality.{_⊏_}
+use Rattle.steps.specs.Rounds.{qualityAfter}
+use Rattle.pools.specs.OrderTerms.{termCmp}
 
 -- ---- whether two trees are the same
 unfoldable mutual

@@ -17,18 +17,18 @@ use Rattle.spec.specs.Run.{documentLimits, State, Outcome, outcome, startingTer
 use Rattle.spec.specs.Meaning.{In, here, there, Term, treeAt}
 use Rattle.laws.specs.Tests.{clash}
 use Rattle.laws.specs.Valid.{Valid}
-use Rattle.lgg.specs.Lists.{in-cons, in-nil, same-eq, same-refl}
-use Rattle.lgg.specs.Results.{ok-inj, refused-ok, bind-ok, bind-refused}
-use Rattle.lgg.specs.Quality.{_⊏_}
+use Rattle.laws.specs.Lists.{in-cons, in-nil, same-eq, same-refl}
+use Rattle.laws.specs.Results.{ok-inj, refused-ok, bind-ok, bind-refused}
+use Rattle.steps.specs.Quality.{_⊏_}
 use Rattle.lgg.specs.Turn.{Told, turn-told}
 use Rattle.lgg.specs.TurnPlaces.{choice-joins}
-use Rattle.lgg.specs.Rounds.{Closed, qualityAfter, q-next}
-use Rattle.lgg.specs.Enter.{Starts}
-use Rattle.lgg.specs.Graph.{build-whole, build-first, build-closed, build-passed, build-same, build-refused}
-use Rattle.budgets.specs.Outcomes.{root-in}
-use Rattle.lgg.specs.Pool.{PoolValid, empty-valid}
-use Rattle.lgg.specs.PoolIntern.{Extends, extends-refl, extends-trans, extends-within, extends-tree}
-use Rattle.lgg.specs.BestMembers.{IsClass, IsPair}
+use Rattle.steps.specs.Rounds.{Closed, qualityAfter, q-next}
+use Rattle.steps.specs.Enter.{Starts}
+use Rattle.steps.specs.Graph.{build-whole, build-first, build-closed, build-passed, build-same, build-refused}
+use Rattle.steps.specs.Outcomes.{root-in}
+use Rattle.pools.specs.Pool.{PoolValid, empty-valid}
+use Rattle.pools.specs.PoolIntern.{Extends, extends-refl, extends-trans, extends-within, extends-tree}
+use Rattle.laws.specs.BestMembers.{IsClass, IsPair}
 use Rattle.readings.specs.Readings.{reach-within}
 use Rattle.counted.specs.Counted.{treeRuns, bestTree, startingTree, choiceTree, termAfter, Improved, Counted, best, starting, final, Beyond}
 use Rattle.counted.specs.CountedFew.{best-runs, starting-runs, counted-few}

@@ -15,16 +15,16 @@ use Rattle.spec.specs.Pool.{Pool, joinTo, joinRuns, opNode, isGreater, sortRuns
 use Rattle.spec.specs.Round.{Act, Choice, stay, act, turnOf, planRuns}
 use Rattle.spec.specs.Meaning.{In, here, there, Term, node, variants, Runs, done, run, treeOf, treesAfter, treeAt}
 use Rattle.laws.specs.Valid.{Valid}
-use Rattle.lgg.specs.Lists.{in-nil, in-cons, in-map, length-map, Distinct, none, more, pigeon}
-use Rattle.lgg.specs.Bag.{perm-sym, perm-in}
-use Rattle.lgg.specs.Pool.{RunsBelow, runs-below-tail, NodeValid, PoolValid, op-valid}
-use Rattle.lgg.specs.PoolSort.{sort-perm, perm-below, plan-below, actionRuns, action-perm}
-use Rattle.lgg.specs.Order.{NotAfter, antisymmetric}
-use Rattle.lgg.specs.OrderSort.{Sorted, sort-sorted, not-after-self, all-later}
-use Rattle.lgg.specs.OrderSort as S
-use Rattle.lgg.specs.Rounds.{Closed}
+use Rattle.laws.specs.Lists.{in-nil, in-cons, in-map, length-map, Distinct, none, more, pigeon}
+use Rattle.laws.specs.Bag.{perm-sym, perm-in}
+use Rattle.pools.specs.Pool.{RunsBelow, runs-below-tail, NodeValid, PoolValid, op-valid}
+use Rattle.pools.specs.PoolSort.{sort-perm, perm-below, plan-below, actionRuns, action-perm}
+use Rattle.pools.specs.Order.{NotAfter, antisymmetric}
+use Rattle.pools.specs.OrderSort.{Sorted, sort-sorted, not-after-self, all-later}
+use Rattle.pools.specs.OrderSort as S
+use Rattle.steps.specs.Rounds.{Closed}
 use Rattle.lgg.specs.TurnPlaces.{turn-choice, choice-joins, structural-made, children-few}
-use Rattle.lgg.specs.ReadingsActions.{transport-carries}
+use Rattle.readings.specs.ReadingsActions.{transport-carries}
 use Rattle.counted.specs.Counted.{sameTree, joinTree, joinTrees, runsIn, treeRuns, treeCmp, insertTree, sortTrees, childTrees, planTrees, choiceTree}
 use Rattle.counted.specs.CountedTrees.{action-tree, plan-trees, node-runs}
 

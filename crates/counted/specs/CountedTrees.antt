@@ -15,13 +15,13 @@ use Rattle.spec.specs.Pool.{Node, Pool, nodeAt, joinTo, joinRuns, opNode, runCo
 use Rattle.spec.specs.Round.{planRuns}
 use Rattle.spec.specs.Meaning.{In, here, there, Term, lit, node, variants, Runs, done, run, expand, runsOf, treeOf, treesAfter, treeAt}
 use Rattle.laws.specs.Tests.{both-true, clash}
-use Rattle.lgg.specs.Lists.{length-map, in-append, in-cons, in-nil}
-use Rattle.lgg.specs.Bag.{replicate-in}
-use Rattle.lgg.specs.Pool.{RunsBelow, runs-below-tail, runs-below-cons, runs-below-nil, Formed, operation, literal, marked, NodeValid, PoolValid, numbered, join-below, trees-length, tree-operation, tree-literal, tree-marked}
-use Rattle.lgg.specs.PoolTrees.{tree-is, valid-below, trees-apart, branches-below}
-use Rattle.lgg.specs.PoolSort.{sort-perm, perm-below, actionRuns}
-use Rattle.lgg.specs.OrderTerms.{headOf, opOf, valueOf, expandedChildren, lex, termCmp}
-use Rattle.lgg.specs.Order.{as-expanded, tree-fuel}
+use Rattle.laws.specs.Lists.{length-map, in-append, in-cons, in-nil}
+use Rattle.laws.specs.Bag.{replicate-in}
+use Rattle.pools.specs.Pool.{RunsBelow, runs-below-tail, runs-below-cons, runs-below-nil, Formed, operation, literal, marked, NodeValid, PoolValid, numbered, join-below, trees-length, tree-operation, tree-literal, tree-marked}
+use Rattle.pools.specs.PoolTrees.{tree-is, valid-below, trees-apart, branches-below}
+use Rattle.pools.specs.PoolSort.{sort-perm, perm-below, actionRuns}
+use Rattle.pools.specs.OrderTerms.{headOf, opOf, valueOf, expandedChildren, lex, termCmp}
+use Rattle.pools.specs.Order.{as-expanded, tree-fuel}
 use Rattle.counted.specs.Counted.{sameTree, sameRuns, joinTree, joinTrees, runsIn, treeRuns, places, placesIn, treeCmp, insertTree, sortTrees, planTrees}
 
 -- ---- the same tree

@@ -16,7 +16,7 @@ use Rattle.spec.specs.Listing.{listingOf}
 use Rattle.spec.specs.Merge.{mergeOf, outputAfter}
 use Rattle.laws.specs.Valid.{Keeps}
 use Rattle.laws.specs.Accepted as A
-use Rattle.lgg.specs.Results.{refused-ok, ok-inj, refused-inj}
+use Rattle.laws.specs.Results.{refused-ok, ok-inj, refused-inj}
 use Rattle.contract.specs.declared.Answer.{Answer}
 use Rattle.contract.specs.declared.Answer.the-variants.{Listing, Refused, Doubled}
 use Rattle.contract.specs.Merges.{Merges}

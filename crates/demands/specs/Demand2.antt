@@ -17,7 +17,7 @@ use Rattle.spec.specs.Meaning.{In, here, there, Plan, _⊑_, termQuality, readF
 use Rattle.laws.specs.Valid.{Valid}
 use Rattle.laws.specs.Accepted as A
 use Rattle.flow.specs.Theorems.{margins, least, totals}
-use Rattle.lgg.specs.Pool.{PoolValid}
+use Rattle.pools.specs.Pool.{PoolValid}
 use Rattle.readings.specs.Readings as L
 use Rattle.contract.specs.declared.Answer.the-variants.{Listing}
 use Rattle.contract.specs.Merges.{Merges}

@@ -12,14 +12,14 @@ use Rattle.spec.specs.Graph.{build}
 use Rattle.spec.specs.Run.{documentLimits, Outcome, runOf}
 use Rattle.spec.specs.Listing.{listingOf}
 use Rattle.spec.specs.Meaning.{In, _⊑_, Derivation, Reachable}
-use Rattle.lgg.specs.Lists.{Distinct}
-use Rattle.lgg.specs.Results.{ok-inj}
-use Rattle.lgg.specs.Rounds.{LeastOf, qualityAfter}
-use Rattle.lgg.specs.Graph.{PairCount, build-cut}
-use Rattle.budgets.specs.Run.{Ends, inBuilding, inStarting, inRounds, run-ends}
-use Rattle.budgets.specs.Outcomes.{root-in, started-says}
-use Rattle.budgets.specs.Demand3 as D
-use Rattle.budgets.specs.Demand3.{FirstQuiet, Reported}
+use Rattle.laws.specs.Lists.{Distinct}
+use Rattle.laws.specs.Results.{ok-inj}
+use Rattle.steps.specs.Rounds.{LeastOf, qualityAfter}
+use Rattle.steps.specs.Graph.{PairCount, build-cut}
+use Rattle.steps.specs.Run.{Ends, inBuilding, inStarting, inRounds, run-ends}
+use Rattle.steps.specs.Outcomes.{root-in, started-says}
+use Rattle.steps.specs.Demand3 as D
+use Rattle.steps.specs.Demand3.{FirstQuiet, Reported}
 use Rattle.contract.specs.declared.Answer.{Answer}
 use Rattle.contract.specs.declared.Answer.the-variants.{Listing, Refused}
 use Rattle.contract.specs.Merges.{Merges}

@@ -14,9 +14,9 @@ use Rattle.spec.specs.Pool.{Pool, Node, nodeAt, OP, LIT, VARIANTS, joinRuns, va
 use Rattle.spec.specs.Run.{Outcome}
 use Rattle.spec.specs.Listing.{visitRuns, visitTerm, subterms, line, runField, headFields, termLine, listingOf}
 use Rattle.spec.specs.Meaning.{In, here, there, Term, lit, node, variants, run, runsOf, firstBranch, secondBranch, treeOf, treesAfter, treeAt}
-use Rattle.lgg.specs.Lists.{in-cons, in-nil}
-use Rattle.lgg.specs.Pool.{Formed, operation, literal, marked, PoolValid, numbered, getD-last, tree-operation, tree-literal}
-use Rattle.lgg.specs.PoolTrees.{tree-is}
+use Rattle.laws.specs.Lists.{in-cons, in-nil}
+use Rattle.pools.specs.Pool.{Formed, operation, literal, marked, PoolValid, numbered, getD-last, tree-operation, tree-literal}
+use Rattle.pools.specs.PoolTrees.{tree-is}
 use Rattle.numbering.specs.WalkLaws.{visit-fresh, visit-new, subterms-closed}
 use Rattle.numbering.specs.NumberLaws.{at-in}
 use Rattle.contract.specs.declared.Answer.the-variants.{Listing}

@@ -17,10 +17,10 @@ use Rattle.spec.specs.Meaning.{HoldsDoubled}
 use Rattle.laws.specs.Tests.{clash}
 use Rattle.laws.specs.Valid.{Keeps}
 use Rattle.laws.specs.Accepted as A
-use Rattle.lgg.specs.Results.{refused-ok, refused-inj}
-use Rattle.lgg.specs.Graph.{PairCount}
+use Rattle.laws.specs.Results.{refused-ok, refused-inj}
+use Rattle.steps.specs.Graph.{PairCount}
 use Rattle.counted.specs.CountedRun.{root-starts}
-use Rattle.budgets.specs.Demand3 as D
+use Rattle.steps.specs.Demand3 as D
 use Rattle.contract.specs.declared.Answer.{Answer}
 use Rattle.contract.specs.declared.Answer.the-variants.{Listing, Refused, Doubled}
 use Rattle.contract.specs.Merges.{Merges}

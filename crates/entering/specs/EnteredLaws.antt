@@ -12,7 +12,7 @@ use Rattle.spec.specs.Bytes.{Two}
 use Rattle.spec.specs.Meaning.{In, here, there}
 use Rattle.arrays.specs.Arrays.{placeOf, keyOf, unkey, pairsIn}
 use Rattle.arrays.specs.ArrayLaws.{place-lt, unkey-key, unkeyed-length, unkeyed-at}
-use Rattle.lgg.specs.Lists.{get-in}
+use Rattle.laws.specs.Lists.{get-in}
 use Rattle.entering.specs.Entered.{withPair, entered}
 use Rattle.entering.specs.Growing.{Small, AllSmall}
 

@@ -11,7 +11,7 @@ use lib.ListN.{length, getD, length-replicate, length-append, replicate}
 use Rattle.spec.specs.Bytes.{Limits, Two, any, sameTwo, Res, ok, refused, _>>=_}
 use Rattle.spec.specs.Graph.{enter, enterAll}
 use Rattle.spec.specs.Meaning.{In}
-use Rattle.lgg.specs.Lists.{in-left, in-right, in-append, in-cons, in-nil, is-in, in-any, get-in}
+use Rattle.laws.specs.Lists.{in-left, in-right, in-append, in-cons, in-nil, is-in, in-any, get-in}
 use Rattle.arrays.specs.Arrays.{numberIn, keyOf, unkey, pairsIn}
 use Rattle.arrays.specs.ArrayLaws.{place-lt, unkey-key, unkeyed-length, unkeyed-at}
 use Rattle.entering.specs.declared.Grown.{Grown}

@@ -10,12 +10,12 @@ use Rattle.spec.specs.Graph.{build}
 use Rattle.spec.specs.Pool.{Interned, interned, startingTerm}
 use Rattle.spec.specs.Run.{startingTerms, runOf, afterBuilding}
 use Rattle.laws.specs.Valid.{Valid}
-use Rattle.lgg.specs.BestMembers.{IsPair}
-use Rattle.lgg.specs.Pool.{empty-valid}
-use Rattle.lgg.specs.PoolIntern.{extends-refl}
-use Rattle.lgg.specs.PoolLimits.{starting-within}
-use Rattle.lgg.specs.Standing.{starting-grows}
-use Rattle.lgg.specs.RunFrom.{run-no-root, run-no-graph, run-cut-building}
+use Rattle.laws.specs.BestMembers.{IsPair}
+use Rattle.pools.specs.Pool.{empty-valid}
+use Rattle.pools.specs.PoolIntern.{extends-refl}
+use Rattle.pools.specs.PoolLimits.{starting-within}
+use Rattle.steps.specs.Standing.{starting-grows}
+use Rattle.steps.specs.RunFrom.{run-no-root, run-no-graph, run-cut-building}
 use Rattle.budget.specs.Budget.{budgetOf}
 use Rattle.budget.specs.declared.Budget.{Budget}
 use Rattle.arrays.specs.Arrays.{pairsIn}

@@ -5,8 +5,8 @@ use Prim.Native.Nat.{ℕ, _≤_}
 use Rattle.spec.specs.Bytes.{Limits, Res}
 use Rattle.spec.specs.Image.{Tables}
 use Rattle.spec.specs.Run.{Outcome}
-use Rattle.lgg.specs.RoundsFrom.{roundsOf}
-use Rattle.lgg.specs.Standing.{Standing}
+use Rattle.steps.specs.RoundsFrom.{roundsOf}
+use Rattle.steps.specs.Standing.{Standing}
 use Rattle.arrays.specs.Arrays.{pairsIn}
 use Rattle.terms.specs.Buffers.{countIn}
 use Rattle.terms.specs.Chains.{Holds}

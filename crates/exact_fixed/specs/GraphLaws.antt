@@ -8,7 +8,7 @@ use Rattle.spec.specs.Bytes.{Two, Limits, ok, passed}
 use Rattle.spec.specs.Image.{Tables}
 use Rattle.spec.specs.Graph.{build}
 use Rattle.laws.specs.Valid.{Valid}
-use Rattle.lgg.specs.BestMembers.{IsPair}
+use Rattle.laws.specs.BestMembers.{IsPair}
 use Rattle.entering.specs.Entered.{entered}
 use Rattle.entering.specs.EnteredLaws.{entered-length}
 use Rattle.graph.specs.Built.{built-distinct, built-closed, built-some, built-few, built-below, built-within, built-number}

@@ -11,10 +11,10 @@ use Rattle.spec.specs.Round.{Terms}
 use Rattle.spec.specs.Run as run
 use Rattle.spec.specs.Run.{startingTerms, afterStarting, afterBuilding}
 use Rattle.laws.specs.Valid.{Valid}
-use Rattle.lgg.specs.PoolIntern.{Extends, extends-within}
-use Rattle.lgg.specs.Pool.{PoolValid}
-use Rattle.lgg.specs.RoundsFrom.{roundsOf}
-use Rattle.lgg.specs.Standing.{Standing, startState, standing-started, listing-started}
+use Rattle.pools.specs.PoolIntern.{Extends, extends-within}
+use Rattle.pools.specs.Pool.{PoolValid}
+use Rattle.steps.specs.RoundsFrom.{roundsOf}
+use Rattle.steps.specs.Standing.{Standing, startState, standing-started, listing-started}
 use Rattle.arrays.specs.Arrays.{termsIn}
 use Rattle.terms.specs.Buffers.{poolOf, countIn}
 use Rattle.terms.specs.PoolLaws.{pool-length}

@@ -12,12 +12,12 @@ use Rattle.spec.specs.Pool.{Pool, Interned, startingTerm}
 use Rattle.spec.specs.Round.{startingQuality, Terms}
 use Rattle.spec.specs.Run.{startingTerms}
 use Rattle.laws.specs.Valid.{Valid}
-use Rattle.lgg.specs.Refusals.{start-only}
-use Rattle.lgg.specs.BestMembers.{IsPair}
-use Rattle.lgg.specs.PoolIntern.{Extends}
-use Rattle.lgg.specs.PoolLimits.{starting-within}
-use Rattle.lgg.specs.TurnsFrom.{StartingAt, starting-begin, starting-cut, starting-turn, starting-refused, starting-end}
-use Rattle.lgg.specs.Standing.{Midway, midway-begin, starting-midway, starting-grows}
+use Rattle.steps.specs.Refusals.{start-only}
+use Rattle.laws.specs.BestMembers.{IsPair}
+use Rattle.pools.specs.PoolIntern.{Extends}
+use Rattle.pools.specs.PoolLimits.{starting-within}
+use Rattle.steps.specs.TurnsFrom.{StartingAt, starting-begin, starting-cut, starting-turn, starting-refused, starting-end}
+use Rattle.steps.specs.Standing.{Midway, midway-begin, starting-midway, starting-grows}
 use Rattle.arrays.specs.Arrays.{qualitiesFrom, termsFrom, qualitiesIn, termsIn, given}
 use Rattle.arrays.specs.ArrayLaws.{qualities-more, terms-more}
 use Rattle.terms.specs.Buffers.{poolOf, countIn}

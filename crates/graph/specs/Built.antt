@@ -11,11 +11,11 @@ use Rattle.spec.specs.Image.{Tables}
 use Rattle.spec.specs.Graph.{build}
 use Rattle.spec.specs.Meaning.{In, Reachable, queried, joined}
 use Rattle.laws.specs.Valid.{Valid}
-use Rattle.lgg.specs.Lists.{get-in, same-refl, same-eq, Distinct, more}
-use Rattle.lgg.specs.BestMembers.{IsPair}
-use Rattle.lgg.specs.ReadingsWithin.{joins-within}
-use Rattle.lgg.specs.Rounds.{Closed}
-use Rattle.lgg.specs.Graph as L
+use Rattle.laws.specs.Lists.{get-in, same-refl, same-eq, Distinct, more}
+use Rattle.laws.specs.BestMembers.{IsPair}
+use Rattle.readings.specs.ReadingsWithin.{joins-within}
+use Rattle.steps.specs.Rounds.{Closed}
+use Rattle.steps.specs.Graph as L
 use Rattle.arrays.specs.Arrays.{placeOf, numberIn, keyOf, pairsIn}
 use Rattle.arrays.specs.ArrayLaws.{place-lt}
 use Rattle.entering.specs.Entered.{entered, cleared}

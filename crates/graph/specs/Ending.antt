@@ -5,7 +5,7 @@ use Prim.Native.Nat.{ℕ}
 use Rattle.spec.specs.Bytes.{Limits, Two, Res, ok, refused, Checked, passed, cutShort}
 use Rattle.spec.specs.Image.{Tables}
 use Rattle.spec.specs.Meaning.{In}
-use Rattle.lgg.specs.BestMembers.{IsPair}
+use Rattle.laws.specs.BestMembers.{IsPair}
 use Rattle.arrays.specs.Arrays.{pairsIn}
 use Rattle.budget.specs.declared.Budget.{Budget}
 use Rattle.entering.specs.Growing.{Graph}

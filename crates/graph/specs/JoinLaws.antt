@@ -11,9 +11,9 @@ use Rattle.spec.specs.Image.{Tables, tablesOf}
 use Rattle.spec.specs.Monomial.{Monomial, classes, pairOf}
 use Rattle.spec.specs.Action.{Action, TransportAction, structural, transports, cellPairs, joins}
 use Rattle.laws.specs.Valid.{Valid}
-use Rattle.lgg.specs.Lists.{in-left, in-right}
-use Rattle.lgg.specs.BestMembers.{IsPair}
-use Rattle.lgg.specs.ReadingsWithin.{joins-within}
+use Rattle.laws.specs.Lists.{in-left, in-right}
+use Rattle.laws.specs.BestMembers.{IsPair}
+use Rattle.readings.specs.ReadingsWithin.{joins-within}
 use Rattle.image.specs.Loaded.{Loaded}
 use Rattle.image.specs.declared.Image.{Image}
 use Rattle.actions.specs.declared.State.{State}

@@ -15,11 +15,11 @@ use Rattle.spec.specs.Graph.{enter, enterAll, buildFrom, build}
 use Rattle.spec.specs.Meaning.{In}
 use Rattle.laws.specs.Tests.{clash}
 use Rattle.laws.specs.Valid.{Valid}
-use Rattle.lgg.specs.Lists.{in-nil, in-cons, get-in}
-use Rattle.lgg.specs.Results.{refused-ok, ok-inj}
-use Rattle.lgg.specs.Enter.{Entered, grown, overfull, enterAll-says}
-use Rattle.lgg.specs.BestMembers.{IsPair}
-use Rattle.lgg.specs.ReadingsWithin.{joins-within}
+use Rattle.laws.specs.Lists.{in-nil, in-cons, get-in}
+use Rattle.laws.specs.Results.{refused-ok, ok-inj}
+use Rattle.steps.specs.Enter.{Entered, grown, overfull, enterAll-says}
+use Rattle.laws.specs.BestMembers.{IsPair}
+use Rattle.readings.specs.ReadingsWithin.{joins-within}
 use Rattle.arrays.specs.Arrays.{unkey, unkeyed, pairsIn}
 use Rattle.arrays.specs.ArrayLaws.{unkeyed-length, unkeyed-at}
 use Rattle.budget.specs.declared.Budget.{Budget}

@@ -10,7 +10,7 @@ use lib.ListN.{length, take, drop, length-append, length-map}
 use lib.Seq.{paste, take-all, drop-append-seam, drop-length}
 use Rattle.spec.specs.Bytes.{Limits, pick, both, place, Res, ok, refused}
 use Rattle.spec.specs.Pool.{Pool, Node, sameNode, runCount, Interned, interned, intern}
-use Rattle.lgg.specs.PoolIntern.{Extends, extends-refl}
+use Rattle.pools.specs.PoolIntern.{Extends, extends-refl}
 use Rattle.terms.specs.Buffers.{part, pack, unpack, nodeOf, poolOf}
 use Rattle.terms.specs.Chains.{keyOf, Holds}
 use Rattle.interning.specs.Interning.{poolAfter, grew, Interning}

@@ -4,7 +4,7 @@ use mathlib.Core.List.{List, [], _∷_, map}
 use Prim.Native.Nat.{ℕ, _+_, _*_}
 use lib.ListN.{length, drop}
 use Rattle.spec.specs.Pool.{Pool, Node}
-use Rattle.lgg.specs.PoolIntern.{Extends}
+use Rattle.pools.specs.PoolIntern.{Extends}
 use Rattle.terms.specs.Buffers.{pack, poolOf}
 use Rattle.terms.specs.Chains.{keyOf, Holds}
 use Rattle.term_entry.specs.TermEntry.{enterTerm, enterRuns}

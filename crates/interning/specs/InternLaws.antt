@@ -10,9 +10,9 @@ use lib.ListN.{length, length-append, length-map}
 use Rattle.spec.specs.Bytes.{Limits, pick, both, place, sum, ok, refused}
 use Rattle.spec.specs.Pool.{Pool, Node, nodeAt, sameNode, runCount, interned, intern}
 use Rattle.laws.specs.Tests.{both-true}
-use Rattle.lgg.specs.Pool.{PoolValid, NodeValid}
-use Rattle.lgg.specs.PoolTrees.{node-ext}
-use Rattle.lgg.specs.PoolIntern.{same-twos, place-passes, intern-there, intern-enters}
+use Rattle.pools.specs.Pool.{PoolValid, NodeValid}
+use Rattle.pools.specs.PoolTrees.{node-ext}
+use Rattle.pools.specs.PoolIntern.{same-twos, place-passes, intern-there, intern-enters}
 use Rattle.terms.specs.Buffers.{BUCKETS, LEAST, part, unpack, nodeOf, nodeIn, nodesIn, poolOf, partIn, lengthIn, firstIn, countIn}
 use Rattle.terms.specs.Chains.{keyOf, Holds, Rooms}
 use Rattle.interning.specs.Interning.{Sought, poolAfter, Interning}

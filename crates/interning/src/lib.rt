@@ -11,7 +11,7 @@ ghost use Prim.Native.Nat.{_+_, _*_, _^_, _≤_, _<_};
 ghost use lib.ListN.{length};
 ghost use Rattle.spec.specs.Bytes.{sum};
 ghost use Rattle.query.specs.Settings.{limitsOf};
-ghost use Rattle.lgg.specs.Pool.{NodeValid};
+ghost use Rattle.pools.specs.Pool.{NodeValid};
 ghost use Rattle.terms.specs.Buffers.{BUCKETS, countIn, part, nodeOf, nodeIn};
 ghost use Rattle.terms.specs.Chains.{keyOf, Holds, Rooms};
 ghost use Rattle.interning.specs.Interning.{Tells, Sought, Interning};

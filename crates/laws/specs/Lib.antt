@@ -12,3 +12,8 @@ pub mod AcceptedTurns
 pub mod Scans
 pub mod Buffers
 pub mod Firsts
+pub mod Lists
+pub mod Bag
+pub mod BagCount
+pub mod BestMembers
+pub mod Results

@@ -12,7 +12,7 @@ use Rattle.spec.specs.Transport.{rowsOf, colsOf, rowFlow, colFlow}
 use Rattle.spec.specs.Action.{TransportAction, cellPairs}
 use Rattle.spec.specs.Round.{problemOver}
 use Rattle.spec.specs.Meaning.{Plan, occurs, countIn}
-use Rattle.lgg.specs.BagCount.{spread, occurs-append, occurs-replicate, times-pick}
+use Rattle.laws.specs.BagCount.{spread, occurs-append, occurs-replicate, times-pick}
 
 -- ---- sums over a range
 pub sumTo-cong : (n : ℕ) {f g : ℕ → ℕ} → ((i : ℕ) → i < n → f i ≡ g i) → sumTo n f ≡ sumTo n g

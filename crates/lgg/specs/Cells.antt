@@ -14,11 +14,11 @@ use Rattle.spec.specs.Action.{TransportAction, structural, acOps, transports, c
 use Rattle.spec.specs.Graph.{build}
 use Rattle.spec.specs.Meaning.{In, here, there}
 use Rattle.laws.specs.Monomials.{Rising, end, more, rising-insert, monomial-rises, Padded, level, left, right, padded}
-use Rattle.lgg.specs.Lists as L
-use Rattle.lgg.specs.Lists.{in-nil, in-cons, in-append, in-map, map-in, in-right, in-each, length-map, Distinct, none, pigeon}
-use Rattle.lgg.specs.Bag.{each-in, filter-in}
-use Rattle.lgg.specs.Graph.{build-closed, build-few}
-use Rattle.lgg.specs.Rounds.{Closed}
+use Rattle.laws.specs.Lists as L
+use Rattle.laws.specs.Lists.{in-nil, in-cons, in-append, in-map, map-in, in-right, in-each, length-map, Distinct, none, pigeon}
+use Rattle.laws.specs.Bag.{each-in, filter-in}
+use Rattle.steps.specs.Graph.{build-closed, build-few}
+use Rattle.steps.specs.Rounds.{Closed}
 
 -- ---- rows and columns rise
 pick-in : {A : Type 0} (b : Bool) (x y : A) → In y (pick b [] (x ∷ [])) → y ≡ x

@@ -16,11 +16,11 @@ use Rattle.spec.specs.Action.{Action, TransportAction, structural, acOps, trans
 use Rattle.spec.specs.Graph.{enter, enterAll}
 use Rattle.spec.specs.Round.{qualityOver, ones, ofAction, ofPlan, stay, Turn, offer, offerActions, offerPlan, offerTransports, turnOf}
 use Rattle.spec.specs.Meaning.{In, here, _⊑_}
-use Rattle.lgg.specs.Lists.{in-nil, in-cons, in-any}
-use Rattle.lgg.specs.Quality.{⊑-refl, ⊑-of-eq, ⊑-trans, two-eq, Total}
+use Rattle.laws.specs.Lists.{in-nil, in-cons, in-any}
+use Rattle.steps.specs.Quality.{⊑-refl, ⊑-of-eq, ⊑-trans, two-eq, Total}
 use Rattle.lgg.specs.Turn.{actionQuality, cellQualities, solved, offer-old, offer-new, offer-stays, plan-stays, actions-new, plan-new, transports-new}
-use Rattle.lgg.specs.Enter.{Entered, grown, enter-says, starts-in}
-use Rattle.lgg.specs.Bag.{Perm, nil, skip, swap, both, perm-in, perm-sym}
+use Rattle.steps.specs.Enter.{Entered, grown, enter-says, starts-in}
+use Rattle.laws.specs.Bag.{Perm, nil, skip, swap, both, perm-in, perm-sym}
 use Rattle.lgg.specs.Repeats.{Fewer, done, keep, drop, Equal, fewer-all, fewer-seen, fewer-append, fewer-in, fewer-each, fewer-map, fewer-filter, fewer-trans}
 
 -- ---- the same action twice: by operation and joined pairs, in whatever order (the signature of `dedup_and_insert`)

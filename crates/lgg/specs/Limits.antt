@@ -17,7 +17,7 @@ use Rattle.spec.specs.Round.{Terms, prepend, Choice, stay, act, Turn, changes, 
 use Rattle.spec.specs.Run.{documentLimits, State, Outcome, outcome, startingTerms, roundTerms, afterRound, roundsFrom, started, afterStarting, afterBuilding, runOf}
 use Rattle.spec.specs.Listing.{listingOf}
 use Rattle.spec.specs.Merge.{mergeUnder, mergeOf}
-use Rattle.lgg.specs.Refusals.{run-refused}
+use Rattle.steps.specs.Refusals.{run-refused}
 
 -- no limit of l is above that of m
 pub record NoLess (l m : Limits) : Type 0 where

@@ -16,8 +16,8 @@ use Rattle.spec.specs.Round.{stay, turnOf}
 use Rattle.spec.specs.Meaning.{In, here, there}
 use Rattle.laws.specs.Valid.{Valid}
 use Rattle.laws.specs.AcceptedLists.{in-at}
-use Rattle.lgg.specs.Lists.{in-nil, in-left, in-right, in-map, in-each, any-none, length-map}
-use Rattle.lgg.specs.BestMembers.{member-arity}
+use Rattle.laws.specs.Lists.{in-nil, in-left, in-right, in-map, in-each, any-none, length-map}
+use Rattle.laws.specs.BestMembers.{member-arity}
 use Rattle.lgg.specs.Within.{Over, joins-in}
 use Rattle.lgg.specs.TurnAgain.{turn-again}
 

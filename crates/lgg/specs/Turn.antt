@@ -15,8 +15,8 @@ use Rattle.spec.specs.Transport.{forbidden, allowed, Problem, solveCells, planS
 use Rattle.spec.specs.Action.{Action, TransportAction, structural, transports, cellPairs, joins}
 use Rattle.spec.specs.Round.{better, cellsOver, qualityOver, ones, problemOver, Act, ofAction, ofPlan, worth, stay, Turn, changes, offer, offerActions, offerPlan, offerTransports, turnOf}
 use Rattle.spec.specs.Meaning.{In, here, there, Plan, _⊑_}
-use Rattle.lgg.specs.Lists.{in-left, in-right, in-each, length-map}
-use Rattle.lgg.specs.Quality.{_⊏_, ⊏-⊑-trans, ⊑-refl, ⊑-trans, ⊏-⊑, ⊏-not, better-is, better-not, suc-⊑}
+use Rattle.laws.specs.Lists.{in-left, in-right, in-each, length-map}
+use Rattle.steps.specs.Quality.{_⊏_, ⊏-⊑-trans, ⊑-refl, ⊑-trans, ⊏-⊑, ⊏-not, better-is, better-not, suc-⊑}
 
 -- ---- what the transport theorems say of the solver
 pub record TransportTheorems : Type 0 where

@@ -8,7 +8,7 @@ use Rattle.spec.specs.Image.{Tables}
 use Rattle.spec.specs.Action.{Action, TransportAction, structural, transports, joins}
 use Rattle.spec.specs.Round.{qualityOver, ofAction, stay, Turn, offerActions, offerTransports, turnOf}
 use Rattle.spec.specs.Meaning.{In, here, there, _⊑_}
-use Rattle.lgg.specs.Quality.{⊑-trans}
+use Rattle.steps.specs.Quality.{⊑-trans}
 use Rattle.lgg.specs.Turn.{actionQuality, cellQualities, solved, actions-old, actions-new, transports-old, transports-new, offer-stays, plan-stays}
 use Rattle.lgg.specs.TurnAgree.{action-joins, transport-joins, actions-agree, transports-agree}
 

@@ -9,7 +9,7 @@ use Rattle.spec.specs.Transport.{solveCells}
 use Rattle.spec.specs.Action.{Action, TransportAction, structural, transports, cellPairs, joins}
 use Rattle.spec.specs.Round.{better, qualityOver, problemOver, Act, ofAction, ofPlan, stay, act, Turn, offer, offerActions, offerPlan, offerTransports, turnOf}
 use Rattle.spec.specs.Meaning.{In, here, there}
-use Rattle.lgg.specs.Lists.{in-left, in-right, in-each, map-ext}
+use Rattle.laws.specs.Lists.{in-left, in-right, in-each, map-ext}
 
 -- ---- what an action joins, the pair joins
 pub action-joins : (t : Tables) (p : Two) (a : Action) → In a (structural t (p .0) (p .1)) → (c : Two) → In c (a .pairs) → In c (joins t p)

@@ -9,8 +9,8 @@ use Rattle.spec.specs.Transport.{Cell, sizeOf, massOf, planSize, planMass}
 use Rattle.spec.specs.Action.{structural, transports, cellPairs, joins}
 use Rattle.spec.specs.Round.{cellsOver, ones, qualityOver, turnOf}
 use Rattle.spec.specs.Meaning.{In, here, there}
-use Rattle.lgg.specs.Lists.{map-in}
-use Rattle.lgg.specs.Quality.{⊑-size}
+use Rattle.laws.specs.Lists.{map-in}
+use Rattle.steps.specs.Quality.{⊑-size}
 use Rattle.lgg.specs.Turn.{turn-old, actions-one, transports-one}
 use Rattle.lgg.specs.TurnAgree.{action-joins, transport-joins}
 

@@ -25,9 +25,9 @@ use Rattle.laws.specs.Monomials.{Padded, level, left, right, padded}
 use Rattle.flow.specs.Sums.{sum-term}
 use Rattle.flow.specs.Queue.{in-upFrom}
 use Rattle.flow.specs.Theorems.{margins}
-use Rattle.lgg.specs.Lists.{in-nil, in-cons, in-append, map-in, length-map}
-use Rattle.lgg.specs.Bag.{each-in, filter-in}
-use Rattle.lgg.specs.BestMembers.{member-number}
+use Rattle.laws.specs.Lists.{in-nil, in-cons, in-append, map-in, length-map}
+use Rattle.laws.specs.Bag.{each-in, filter-in}
+use Rattle.laws.specs.BestMembers.{member-number}
 use Rattle.lgg.specs.TurnAgree.{action-joins, transport-joins}
 
 -- ---- a turn's choice is one of its actions

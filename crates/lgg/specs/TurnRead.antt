@@ -11,11 +11,11 @@ use Rattle.spec.specs.Image.{Tables}
 use Rattle.spec.specs.Pool.{Pool}
 use Rattle.spec.specs.Round.{lookUp, Turn, turnOf, choiceTerm}
 use Rattle.spec.specs.Meaning.{In}
-use Rattle.lgg.specs.Lists.{get-in, same-refl, same-eq, Distinct, more}
-use Rattle.lgg.specs.Rounds.{Closed}
+use Rattle.laws.specs.Lists.{get-in, same-refl, same-eq, Distinct, more}
+use Rattle.steps.specs.Rounds.{Closed}
 use Rattle.lgg.specs.TurnAgree.{turn-agree}
 use Rattle.lgg.specs.TurnPlaces.{turn-term-agree}
-use Rattle.lgg.specs.TurnsFrom.{turnTerm}
+use Rattle.steps.specs.TurnsFrom.{turnTerm}
 
 -- ---- a pair's place in a list without repeats
 pub place-at : (ps : List Two) (k : ℕ) → Distinct ps → k < length ps → place (sameTwo (getD ps k (0, 0))) ps ≡ k

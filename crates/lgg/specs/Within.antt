@@ -13,8 +13,8 @@ use Rattle.spec.specs.Image.{Tables, Member, NO-IDENTITY, SPair, Lit, isAC, kin
 use Rattle.spec.specs.Monomial.{Monomial, MonomialPair, pairOf, insertAdd, addAll, monomial, classes, itself, total, monomialsOf, padPair, bothItself, representationPairs, narrowPairs}
 use Rattle.spec.specs.Action.{Action, TransportAction, zip, byPosition, straightAndCrossed, alignments, alignMembers, structural, acOps, transports, cellPairs, joins}
 use Rattle.spec.specs.Meaning.{In, here, there, Reachable, queried, joined}
-use Rattle.lgg.specs.Lists.{in-nil, in-cons, in-append, map-in}
-use Rattle.lgg.specs.Bag.{each-in, filter-in}
+use Rattle.laws.specs.Lists.{in-nil, in-cons, in-append, map-in}
+use Rattle.laws.specs.Bag.{each-in, filter-in}
 
 -- ---- every entry of a list
 abbrev pub All : {A : Type 0} → (A → Type 0) → List A → Type 0

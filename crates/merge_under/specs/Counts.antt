@@ -11,7 +11,7 @@ use Rattle.spec.specs.Graph.{build}
 use Rattle.spec.specs.Pool.{Interned, startingTerm}
 use Rattle.laws.specs.Valid.{Valid}
 use Rattle.laws.specs.Accepted as A
-use Rattle.lgg.specs.BestMembers.{IsPair}
+use Rattle.laws.specs.BestMembers.{IsPair}
 use Rattle.image.specs.Loaded.{classes-many}
 use Rattle.query.specs.Settings.{askedOf}
 use Rattle.query.specs.declared.Query.{Query}

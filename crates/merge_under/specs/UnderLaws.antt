@@ -16,8 +16,8 @@ use Rattle.spec.specs.Merge.{mergeUnder, mergeOf, outputAfter}
 use Rattle.spec.specs.Meaning.{HoldsDoubled}
 use Rattle.laws.specs.Valid.{Valid}
 use Rattle.laws.specs.Accepted as A
-use Rattle.lgg.specs.Results.{refused-ok, refused-inj}
-use Rattle.lgg.specs.Refusals.{run-refused}
+use Rattle.laws.specs.Results.{refused-ok, refused-inj}
+use Rattle.steps.specs.Refusals.{run-refused}
 use Rattle.lgg.specs.Limits.{NoLess, merge-same}
 use Rattle.image.specs.Loaded.{Loaded}
 use Rattle.image.specs.declared.Image.{Image}

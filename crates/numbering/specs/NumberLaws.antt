@@ -13,9 +13,9 @@ use lib.Seq.{getD-set-same, getD-set-other, ext-getD}
 use borrow.Author.Tests.{eqb-true, eq-eqb}
 use Rattle.spec.specs.Bytes.{any, place, upFrom}
 use Rattle.spec.specs.Meaning.{In, here, there}
-use Rattle.lgg.specs.Lists.{in-nil, in-cons, in-left, in-right, in-append, Distinct, none, more, distinct-last, pigeon}
-use Rattle.lgg.specs.Pool.{getD-last}
-use Rattle.lgg.specs.PoolIntern.{place-passes, place-first}
+use Rattle.laws.specs.Lists.{in-nil, in-cons, in-left, in-right, in-append, Distinct, none, more, distinct-last, pigeon}
+use Rattle.pools.specs.Pool.{getD-last}
+use Rattle.pools.specs.PoolIntern.{place-passes, place-first}
 use Rattle.numbering.specs.Numbering.{orderFrom, orderIn, settle, settleAll, cleared, Numbered, Walk}
 use Rattle.numbering.specs.WalkLaws.{is-seen, not-seen}
 

@@ -5,7 +5,7 @@ use Prim.Native.Nat.{ℕ, zero, suc, _+_, _*_, _≤_, _<_}
 use lib.ListN.{length, getD, set, drop, replicate}
 use Rattle.spec.specs.Listing.{visitTerm, subterms}
 use Rattle.spec.specs.Meaning.{In}
-use Rattle.lgg.specs.Lists.{Distinct}
+use Rattle.laws.specs.Lists.{Distinct}
 use Rattle.terms.specs.Buffers.{nodesIn, poolOf, countIn}
 
 -- the terms of n lines from line k on

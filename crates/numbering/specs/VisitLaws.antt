@@ -11,7 +11,7 @@ use Rattle.spec.specs.Bytes.{any}
 use Rattle.spec.specs.Pool.{Node, nodeAt}
 use Rattle.spec.specs.Listing.{visitRuns, visitTerm, subterms}
 use Rattle.spec.specs.Meaning.{In, here, there}
-use Rattle.lgg.specs.Lists.{in-map}
+use Rattle.laws.specs.Lists.{in-map}
 use Rattle.terms.specs.Buffers.{part, unpack, firstIn, lengthIn, partIn, poolOf, countIn}
 use Rattle.terms.specs.Chains.{Holds}
 use Rattle.terms.specs.PartLaws.{part-cons}

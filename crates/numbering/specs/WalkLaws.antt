@@ -14,8 +14,8 @@ use Rattle.spec.specs.Pool.{Pool, nodeAt}
 use Rattle.spec.specs.Listing.{visitRuns, visitTerm}
 use Rattle.spec.specs.Meaning.{In, here, there}
 use Rattle.laws.specs.Tests.{clash}
-use Rattle.lgg.specs.Lists.{in-nil, in-cons, in-left, in-right, in-append, any-in, any-none}
-use Rattle.lgg.specs.Pool.{PoolValid}
+use Rattle.laws.specs.Lists.{in-nil, in-cons, in-left, in-right, in-append, any-in, any-none}
+use Rattle.pools.specs.Pool.{PoolValid}
 
 -- ---- a number in a list
 pub is-seen : (a : ℕ) (l : List ℕ) → any (eqb a) l ≡ true → In a l

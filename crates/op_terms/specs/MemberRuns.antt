@@ -14,7 +14,7 @@ use Rattle.spec.specs.Bytes.{Limits, Two, pick, sum}
 use Rattle.spec.specs.Image.{Tables, Member, Lit, kindOf, childrenOf, theMember, tablesOf}
 use Rattle.spec.specs.Pool.{Pool, Node, litNode, opNode, variantsNode, joinRuns, intern}
 use Rattle.spec.specs.Meaning.{In, here, there}
-use Rattle.lgg.specs.Pool.{RunsBelow, runs-below-nil, runs-below-cons, NodeValid, lit-valid, op-valid, variants-valid}
+use Rattle.pools.specs.Pool.{RunsBelow, runs-below-nil, runs-below-cons, NodeValid, lit-valid, op-valid, variants-valid}
 use Rattle.image.specs.Loaded.{Loaded, theChild, children-many}
 use Rattle.image.specs.declared.Image.{Image}
 use Rattle.terms.specs.Buffers.{part, unpack, nodesIn, poolOf, nodeOf, countIn}

@@ -13,16 +13,16 @@ use Rattle.spec.specs.Round.{startingQuality, lookUp, changes, turnsOf, Terms}
 use Rattle.spec.specs.Run.{Outcome, startingTerms, State, outcome, roundTerms, afterRound, roundsFrom, started, afterStarting, afterBuilding, runOf}
 use Rattle.spec.specs.Meaning.{In, here, there, termQuality, readFirst, readSecond, treeAt, Belongs, Reachable, queried, joined}
 use Rattle.laws.specs.Valid.{Valid}
-use Rattle.lgg.specs.Enter.{Starts}
-use Rattle.lgg.specs.Graph.{Whole, build-whole, build-first}
-use Rattle.lgg.specs.Pool.{PoolValid, empty-valid}
-use Rattle.lgg.specs.ReadingsNode.{TermFor}
+use Rattle.steps.specs.Enter.{Starts}
+use Rattle.steps.specs.Graph.{Whole, build-whole, build-first}
+use Rattle.pools.specs.Pool.{PoolValid, empty-valid}
+use Rattle.readings.specs.ReadingsNode.{TermFor}
 use Rattle.flow.specs.Theorems.{margins}
-use Rattle.lgg.specs.BestMembers.{IsPair}
-use Rattle.lgg.specs.ReadingsWithin.{joins-within}
-use Rattle.lgg.specs.Best.{Makes, starting-made}
+use Rattle.laws.specs.BestMembers.{IsPair}
+use Rattle.readings.specs.ReadingsWithin.{joins-within}
+use Rattle.readings.specs.Best.{Makes, starting-made}
 use Rattle.readings.specs.ReadingsRounds.{Holds, pair, holds-look, Done, done-nil, done-step, turns-done}
-use Rattle.lgg.specs.Results.{bind-ok, ok-inj}
+use Rattle.laws.specs.Results.{bind-ok, ok-inj}
 
 -- what is shown of a run: its pool is valid, and its root is a term of the pool that is good for the queried pair and the reported quality
 pub record RunGood (t : Tables) (p : Two) (o : Outcome) : Type 0 where

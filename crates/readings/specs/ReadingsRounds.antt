@@ -16,17 +16,17 @@ use Rattle.spec.specs.Round.{better, qualityOver, problemOver, lookUp, Act, ofA
 use Rattle.spec.specs.Meaning.{In, here, there, treeAt, Plan}
 use Rattle.laws.specs.Tests.{clash}
 use Rattle.laws.specs.Valid.{Valid}
-use Rattle.lgg.specs.Bag.{both, perm-of-eq, perm-map}
-use Rattle.lgg.specs.BagCount.{written, spread, map-spread, written-perm}
-use Rattle.lgg.specs.Pool.{PoolValid}
-use Rattle.lgg.specs.PoolIntern.{Extends, extends-refl, extends-trans, extends-within, extends-tree, Interns}
-use Rattle.lgg.specs.PoolSort.{plan-written, plan-below, actionRuns, action-perm, action-kept, action-enters}
-use Rattle.lgg.specs.ReadingsNode.{TermFor, TermsFor, noTerm, good-node}
-use Rattle.lgg.specs.ReadingsNode as N
-use Rattle.lgg.specs.ReadingsActions.{Legal, structural-legal, transport-legal}
-use Rattle.lgg.specs.Best.{OpMeans, op-means, Makes}
-use Rattle.lgg.specs.Lists.{in-cons, same-eq, same-refl}
-use Rattle.lgg.specs.Results.{ok-inj, refused-ok}
+use Rattle.laws.specs.Bag.{both, perm-of-eq, perm-map}
+use Rattle.laws.specs.BagCount.{written, spread, map-spread, written-perm}
+use Rattle.pools.specs.Pool.{PoolValid}
+use Rattle.pools.specs.PoolIntern.{Extends, extends-refl, extends-trans, extends-within, extends-tree, Interns}
+use Rattle.pools.specs.PoolSort.{plan-written, plan-below, actionRuns, action-perm, action-kept, action-enters}
+use Rattle.readings.specs.ReadingsNode.{TermFor, TermsFor, noTerm, good-node}
+use Rattle.readings.specs.ReadingsNode as N
+use Rattle.readings.specs.ReadingsActions.{Legal, structural-legal, transport-legal}
+use Rattle.readings.specs.Best.{OpMeans, op-means, Makes}
+use Rattle.laws.specs.Lists.{in-cons, same-eq, same-refl}
+use Rattle.laws.specs.Results.{ok-inj, refused-ok}
 
 -- ---- a term for each pair of a list, with its quality
 pub data Holds (t : Tables) (pool : Pool) : List Two → List Two → List ℕ → Type 0 where

@@ -12,8 +12,8 @@ use Rattle.spec.specs.Image.{tablesOf}
 use Rattle.spec.specs.Run.{documentLimits}
 use Rattle.spec.specs.Merge.{mergeOf}
 use Rattle.laws.specs.Accepted as A
-use Rattle.lgg.specs.Results.{refused-ok, refused-inj}
-use Rattle.budgets.specs.Demand3 as D
+use Rattle.laws.specs.Results.{refused-ok, refused-inj}
+use Rattle.steps.specs.Demand3 as D
 use Rattle.contract.specs.declared.Answer.{Answer}
 use Rattle.contract.specs.declared.Answer.the-variants.{Listing, Refused, Doubled}
 use Rattle.contract.specs.Merges.{fitOf, Merges}

@@ -11,12 +11,12 @@ use Rattle.spec.specs.Run.{State}
 use Rattle.spec.specs.Pool.{Pool}
 use Rattle.spec.specs.Meaning.{In}
 use Rattle.laws.specs.Valid.{Valid}
-use Rattle.lgg.specs.BestMembers.{IsPair}
-use Rattle.lgg.specs.Rounds.{Closed}
-use Rattle.lgg.specs.Lists.{get-in, Distinct}
-use Rattle.lgg.specs.Standing.{Standing, place-in, Midway}
-use Rattle.lgg.specs.PoolIntern.{extends-within}
-use Rattle.lgg.specs.TurnsFrom.{turnTerm}
+use Rattle.laws.specs.BestMembers.{IsPair}
+use Rattle.steps.specs.Rounds.{Closed}
+use Rattle.laws.specs.Lists.{get-in, Distinct}
+use Rattle.steps.specs.Standing.{Standing, place-in, Midway}
+use Rattle.pools.specs.PoolIntern.{extends-within}
+use Rattle.steps.specs.TurnsFrom.{turnTerm}
 use Rattle.lgg.specs.TurnRead.{turn-read, term-read, place-at}
 use Rattle.lgg.specs.Cells.{CellsFit, cells-within}
 use Rattle.arrays.specs.Arrays.{unkey, pairsIn, numberIn, qualitiesIn, termsIn, qualityIn, termIn, Known, TermsBelow}

@@ -12,7 +12,7 @@ use Rattle.spec.specs.Bytes.{both, Two}
 use Rattle.spec.specs.Image.{Tables}
 use Rattle.laws.specs.Tests.{clash}
 use Rattle.laws.specs.Valid.{Valid}
-use Rattle.lgg.specs.Lists.{get-in}
+use Rattle.laws.specs.Lists.{get-in}
 use Rattle.arrays.specs.Arrays.{given}
 use Rattle.arrays.specs.ArrayLaws.{given-other, given-size, given-mass, given-term}
 use Rattle.live_pairs.specs.Live.{liveIn}

@@ -11,7 +11,7 @@ use Rattle.spec.specs.Image.{Tables}
 use Rattle.spec.specs.Round.{Terms}
 use Rattle.spec.specs.Run.{State}
 use Rattle.laws.specs.Firsts.{first-within, first-skips}
-use Rattle.lgg.specs.Standing.{Standing}
+use Rattle.steps.specs.Standing.{Standing}
 use Rattle.live_pairs.specs.Live.{liveIn, nextLive, dueOf}
 use Rattle.live_pairs.specs.LiveLaws.{due-idle, due-live}
 use Rattle.settling.specs.Quiet.{Quiet}

@@ -14,10 +14,10 @@ use Rattle.spec.specs.Run as run
 use Rattle.spec.specs.Run.{State, outcome}
 use Rattle.spec.specs.Listing.{listingOf}
 use Rattle.laws.specs.Valid.{Valid}
-use Rattle.lgg.specs.PoolIntern.{Extends, extends-refl, extends-within}
-use Rattle.lgg.specs.Rounds.{Closed}
-use Rattle.lgg.specs.RoundsFrom.{turnsAt, roundAt, stateAfter, roundsOf, rounds-expired, rounds-refused, rounds-cut, rounds-quiet, rounds-next, round-left as rounds-left}
-use Rattle.lgg.specs.Standing.{Standing, standing-next, listing-cut}
+use Rattle.pools.specs.PoolIntern.{Extends, extends-refl, extends-within}
+use Rattle.steps.specs.Rounds.{Closed}
+use Rattle.steps.specs.RoundsFrom.{turnsAt, roundAt, stateAfter, roundsOf, rounds-expired, rounds-refused, rounds-cut, rounds-quiet, rounds-next, round-left as rounds-left}
+use Rattle.steps.specs.Standing.{Standing, standing-next, listing-cut}
 use Rattle.arrays.specs.Arrays.{NEW, pairsIn, qualitiesIn, termsIn}
 use Rattle.arrays.specs.ArrayLaws.{quality-at, term-at}
 use Rattle.terms.specs.Buffers.{poolOf, countIn}

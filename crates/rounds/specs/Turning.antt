@@ -12,12 +12,12 @@ use Rattle.spec.specs.Image.{Tables}
 use Rattle.spec.specs.Pool.{Interned}
 use Rattle.spec.specs.Round.{lookUp, Turn, changes, turnOf, Terms}
 use Rattle.spec.specs.Run.{State}
-use Rattle.lgg.specs.Refusals.{choice-only}
-use Rattle.lgg.specs.PoolIntern.{Extends}
-use Rattle.lgg.specs.PoolLimits.{choice-within}
-use Rattle.lgg.specs.TurnsFrom.{turns-length, turn-at, changedBy, changed-begin, changed-turn, changed-end, turnTerm, RoundAt, round-begin, round-cut, round-turn, round-refused, round-end}
-use Rattle.lgg.specs.RoundsFrom.{turnsAt, roundAt}
-use Rattle.lgg.specs.Standing.{Midway, midway-begin, turn-midway, Standing}
+use Rattle.steps.specs.Refusals.{choice-only}
+use Rattle.pools.specs.PoolIntern.{Extends}
+use Rattle.pools.specs.PoolLimits.{choice-within}
+use Rattle.steps.specs.TurnsFrom.{turns-length, turn-at, changedBy, changed-begin, changed-turn, changed-end, turnTerm, RoundAt, round-begin, round-cut, round-turn, round-refused, round-end}
+use Rattle.steps.specs.RoundsFrom.{turnsAt, roundAt}
+use Rattle.steps.specs.Standing.{Midway, midway-begin, turn-midway, Standing}
 use Rattle.arrays.specs.Arrays.{NEW, qualitiesFrom, termsFrom, qualitiesIn, termsIn, qualityIn, termIn}
 use Rattle.arrays.specs.ArrayLaws.{given-length, qualities-more, terms-more, old-kept}
 use Rattle.terms.specs.Buffers.{poolOf, countIn}

@@ -13,12 +13,12 @@ use Rattle.spec.specs.Meaning.{In}
 use Rattle.laws.specs.Tests.{clash}
 use Rattle.laws.specs.Valid.{Valid}
 use Rattle.laws.specs.Buffers.{over}
-use Rattle.lgg.specs.BestMembers.{IsPair}
-use Rattle.lgg.specs.Lists.{get-in, same-eq, map-map, look-up}
+use Rattle.laws.specs.BestMembers.{IsPair}
+use Rattle.laws.specs.Lists.{get-in, same-eq, map-map, look-up}
 use Rattle.lgg.specs.Parts.{partsOf, stays}
-use Rattle.lgg.specs.PoolIntern.{place-passes}
-use Rattle.lgg.specs.Rounds.{Closed}
-use Rattle.lgg.specs.Standing.{place-in}
+use Rattle.pools.specs.PoolIntern.{place-passes}
+use Rattle.steps.specs.Rounds.{Closed}
+use Rattle.steps.specs.Standing.{place-in}
 use Rattle.changes.specs.Marks.{markedIn}
 use Rattle.changes.specs.MarkLaws.{live-at}
 use Rattle.arrays.specs.Arrays.{unkey, pairsIn, NEW, qualitiesIn}

@@ -10,7 +10,7 @@ use lib.ListN.{length, getD, set, length-set}
 use lib.Seq.{length-paste, getD-set-same, getD-set-other}
 use Rattle.spec.specs.Bytes.{sum}
 use Rattle.spec.specs.Pool.{Pool, Node, TERMS, RUNS}
-use Rattle.lgg.specs.Pool.{PoolValid}
+use Rattle.pools.specs.Pool.{PoolValid}
 use Rattle.terms.specs.Buffers.{BUCKETS, BUCKET, COUNT, FIRSTS, HEADS, VALUES, CHAINS, LEAST, part, nodeOf, nodeIn, nodesIn, poolOf, partIn, lengthIn, firstIn, headIn, valueIn, chainIn, bucketIn, countIn}
 use Rattle.terms.specs.Chains.{keyOf, keyIn, Chained, Holds}
 use Rattle.term_entry.specs.TermEntry.{putTerm, enterTerm, enterRuns}

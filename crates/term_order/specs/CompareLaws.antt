@@ -13,7 +13,7 @@ use lib.ListN.{length, getD}
 use Rattle.spec.specs.Bytes.{pick, sum, Two}
 use Rattle.spec.specs.Pool.{Order, less, equal, greater, past, runsCmp, expandedLength}
 use Rattle.spec.specs.Meaning.{In, here, there}
-use Rattle.lgg.specs.Pool.{Joined, none, one, more, RunsBelow, runs-below-tail}
+use Rattle.pools.specs.Pool.{Joined, none, one, more, RunsBelow, runs-below-tail}
 use Rattle.terms.specs.Buffers.{part, unpack}
 use Rattle.term_order.specs.Comparing.{timesOf, headChild, apartNumbers, diffNumbers, Differs}
 use Rattle.terms.specs.PartLaws.{part-cons, part-over}

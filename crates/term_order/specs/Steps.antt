@@ -11,7 +11,7 @@ use borrow.Author.Tests.{eq-eqb, ne-eqb, lt-ltb, le-ltb}
 use lib.ListN.{length, getD, length-map}
 use Rattle.spec.specs.Bytes.{pick, sum, Two}
 use Rattle.spec.specs.Pool.{Pool, Node, nodeAt, Order, less, equal, greater, then, compareℕ, runsCmp, structuralCmp, expandedLength}
-use Rattle.lgg.specs.Pool.{PoolValid, NodeValid}
+use Rattle.pools.specs.Pool.{PoolValid, NodeValid}
 use Rattle.terms.specs.Buffers.{part, unpack, poolOf, nodesIn, nodeIn, nodeOf, partIn, headIn, valueIn, countIn}
 use Rattle.terms.specs.Chains.{Holds}
 use Rattle.term_order.specs.Comparing.{timesOf, diffNumbers, orderOf}

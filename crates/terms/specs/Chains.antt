@@ -5,7 +5,7 @@ use Prim.Native.Nat.{ℕ, _+_, _*_, _-_, _/_, _%_, _^_, _≤_, _<_}
 use lib.ListN.{length}
 use Rattle.spec.specs.Bytes.{Limits, sum}
 use Rattle.spec.specs.Pool.{TERMS, RUNS}
-use Rattle.lgg.specs.Pool.{PoolValid}
+use Rattle.pools.specs.Pool.{PoolValid}
 use Rattle.terms.specs.Buffers.{BUCKETS, LEAST, firstIn, headIn, valueIn, chainIn, bucketIn, countIn, partIn, poolOf}
 
 abbrev pub mixOf : ℕ → ℕ → ℕ

@@ -5,7 +5,7 @@ use Prim.Native.Nat.{ℕ, zero, suc, _+_, _≤_, _<_}
 use native.Mathlib.Nat.{not-suc-le-zero}
 use native.Mathlib.Omega.{arith}
 use lib.ListN.{length, getD, drop, replicate, length-append, length-drop, length-replicate}
-use Rattle.lgg.specs.Pool.{empty-valid}
+use Rattle.pools.specs.Pool.{empty-valid}
 use Rattle.terms.specs.Buffers.{BUCKETS, BUCKET, COUNT, FIRSTS, LEAST, nodesIn, poolOf, firstIn, bucketIn, countIn}
 use Rattle.terms.specs.Chains.{Holds}
 

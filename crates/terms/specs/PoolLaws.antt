@@ -8,7 +8,7 @@ use native.Mathlib.Omega.{arith}
 use lib.ListN.{length, length-append, List·getD-append}
 use Rattle.spec.specs.Bytes.{Limits, sum}
 use Rattle.spec.specs.Pool.{nodeAt, RUNS}
-use Rattle.lgg.specs.Pool.{getD-last}
+use Rattle.pools.specs.Pool.{getD-last}
 use Rattle.terms.specs.Buffers.{part, nodeIn, nodesIn, poolOf, lengthIn, firstIn, countIn}
 use Rattle.terms.specs.Chains.{Holds, Rooms}
 

@@ -16,10 +16,10 @@ use Rattle.spec.specs.Monomial.{COUNT}
 use Rattle.spec.specs.Round.{Act, Choice, stay, act, turnOf, choiceTerm, actionTerm, planRuns}
 use Rattle.laws.specs.Buffers.{over}
 use Rattle.laws.specs.Valid.{Valid}
-use Rattle.lgg.specs.Lists.{in-nil, in-cons}
-use Rattle.lgg.specs.Pool.{RunsBelow}
+use Rattle.laws.specs.Lists.{in-nil, in-cons}
+use Rattle.pools.specs.Pool.{RunsBelow}
 use Rattle.lgg.specs.TurnPlaces.{choice-joins}
-use Rattle.lgg.specs.ReadingsWithin.{joins-within}
+use Rattle.readings.specs.ReadingsWithin.{joins-within}
 use Rattle.terms.specs.Buffers.{part, unpack, countIn}
 use Rattle.terms.specs.Chains.{Holds}
 use Rattle.action_term.specs.Results.{actionList, ActionResult}

@@ -6,7 +6,7 @@ ghost use Rattle.spec.specs.Bytes.{sum};
 ghost use Rattle.spec.specs.Image.{tablesOf, kindOf, isCommutative};
 ghost use Rattle.spec.specs.Round as round;
 ghost use Rattle.laws.specs.Valid.{Valid};
-ghost use Rattle.lgg.specs.Pool.{RunsBelow};
+ghost use Rattle.pools.specs.Pool.{RunsBelow};
 ghost use Rattle.query.specs.Settings.{limitsOf};
 ghost use Rattle.image.specs.Loaded.{Loaded};
 ghost use Rattle.arrays.specs.Arrays.{Known, TermsBelow, qualityIn, termIn};

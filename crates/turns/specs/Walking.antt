@@ -12,10 +12,10 @@ use Rattle.spec.specs.Action.{TransportAction, transports, cellPairs}
 use Rattle.spec.specs.Meaning.{In, here}
 use Rattle.laws.specs.Tests.{both-true}
 use Rattle.laws.specs.Valid.{Valid}
-use Rattle.lgg.specs.Lists.{in-left, in-right}
+use Rattle.laws.specs.Lists.{in-left, in-right}
 use Rattle.lgg.specs.Cells.{CellsFit}
 use Rattle.lgg.specs.TurnAgree.{transport-joins}
-use Rattle.lgg.specs.ReadingsWithin.{joins-within}
+use Rattle.readings.specs.ReadingsWithin.{joins-within}
 use Rattle.monomial_terms.specs.Terms.{NUMBERS, held}
 use Rattle.ac_repr.specs.Walk.{walks, allWalks, afterOf, leftOf, Within, Stepped}
 use Rattle.ac_monomials.specs.Actions.{actionsAt, Answered}

@@ -11,10 +11,10 @@ use Rattle.spec.specs.Image.{Tables}
 use Rattle.spec.specs.Pool.{Interned, interned}
 use Rattle.spec.specs.Round.{Turn, changes, choiceTerm}
 use Rattle.laws.specs.Valid.{Valid}
-use Rattle.lgg.specs.BestMembers.{IsPair}
-use Rattle.lgg.specs.ReadingsWithin.{joins-within}
+use Rattle.laws.specs.BestMembers.{IsPair}
+use Rattle.readings.specs.ReadingsWithin.{joins-within}
 use Rattle.lgg.specs.TurnPlaces.{choice-joins}
-use Rattle.lgg.specs.Standing.{choice-grows}
+use Rattle.steps.specs.Standing.{choice-grows}
 use Rattle.arrays.specs.Arrays.{given, numberIn, qualityIn, termIn, TermsBelow}
 use Rattle.arrays.specs.ArrayLaws.{place-lt}
 use Rattle.terms.specs.Buffers.{poolOf, countIn}

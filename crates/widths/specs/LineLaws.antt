@@ -11,7 +11,7 @@ use Rattle.spec.specs.Bytes.{pick, each, place, text, decimal}
 use Rattle.spec.specs.Pool.{Node, nodeAt, LIT, VARIANTS}
 use Rattle.spec.specs.Listing.{line, firstLine, runField, headFields, termLine, listingOf, subterms}
 use Rattle.spec.specs.Meaning.{In, here, there}
-use Rattle.lgg.specs.Lists.{in-map}
+use Rattle.laws.specs.Lists.{in-map}
 use Rattle.terms.specs.Buffers.{unpack, headIn, valueIn, partIn, nodeOf, nodeIn, poolOf, countIn}
 use Rattle.terms.specs.Chains.{Holds}
 use Rattle.terms.specs.PoolLaws.{pool-length, pool-at}

@@ -1,5 +1,5 @@
 use Rattle.exact_fixed.specs.FinishLaws.{finish-stopped, finish-cut, all-holds, all-within, all-graphs, all-full, all-cut, all-rounds}
-use Rattle.lgg.specs.BestMembers.{IsPair}
+use Rattle.laws.specs.BestMembers.{IsPair}
 use Rattle.image.specs.Loaded.{classes-many}
 use Rattle.query.specs.Settings.{limitsOf, askedOf}
 use Rattle.spec.specs.Image.{tablesOf}

@@ -1,0 +1,11 @@
+pub mod OrderTerms
+pub mod Pool
+pub mod OrderRuns
+pub mod PoolTrees
+pub mod Order
+pub mod PoolIntern
+pub mod PoolSort
+pub mod OrderPools
+pub mod OrderListing
+pub mod OrderSort
+pub mod PoolLimits

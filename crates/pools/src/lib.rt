@@ -1,0 +1,1 @@
+// pools of terms, and the order of terms: see specs/

@@ -1,0 +1,13 @@
+pub mod Checks
+pub mod Enter
+pub mod Quality
+pub mod Rounds
+pub mod Graph
+pub mod Run
+pub mod Outcomes
+pub mod Refusals
+pub mod Demand3
+pub mod TurnsFrom
+pub mod RoundsFrom
+pub mod Standing
+pub mod RunFrom

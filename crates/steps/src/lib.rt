@@ -1,0 +1,1 @@
+// graph and rounds over nodes of any kind, as theorems: see specs/
