@@ -5,11 +5,9 @@ use Prim.Native.Nat.{ℕ, zero, suc, _+_, _<_}
 use native.Mathlib.Omega.{arith}
 use native.Mathlib.Nat.{suc-inj}
 use lib.ListN.{length}
-use Rattle.spec.specs.Bytes.{Limits, Two, Res, ok, refused, _>>=_, Checked, passed, cutShort}
-use Rattle.spec.specs.Image.{Tables}
-use Rattle.spec.specs.Pool.{Pool, Interned, startingTerm}
-use Rattle.spec.specs.Round.{Terms, prepend, Turn, lookUp, choiceTerm, turnsTerms}
-use Rattle.spec.specs.Run.{State, startingTerms, roundTerms}
+use Rattle.spec.specs.Bytes.{Res, ok, refused, _>>=_, Checked, passed, cutShort}
+use Rattle.spec.specs.Pool.{Pool, Interned}
+use Rattle.spec.specs.System.{System, Making, lookUp, Turn, choiceTerm, Terms, prepend, turnsTerms, startingTerms, State, roundTerms}
 use Rattle.laws.specs.Results.{Later}
 
 -- what takes n checks, with a budget of b: cut short below n, and b - n left from there on
@@ -29,56 +27,56 @@ later-prepend a e (ok cutShort) s h = tt
 later-prepend a e (refused n) s h = ap (λ (z : Res (Checked Terms)). z >>= λ x. ok (prepend a x)) h
 
 -- ---- starting terms
-pub starting-spends : (lim : Limits) (t : Tables) (cs : List Two) (b : ℕ) (p : Pool) → Spent (length cs) b (startingTerms lim t cs b p)
+pub starting-spends : {N : Type 0} (M : Making N) (cs : List N) (b : ℕ) (p : Pool) → Spent (length cs) b (startingTerms M cs b p)
 unfolding startingTerms
-starting-spends lim t [] b p = paid {c = b} (omega arith)
-starting-spends lim t (c ∷ cs) zero p = cut (omega arith)
-starting-spends lim t (c ∷ cs) (suc b) p = go (startingTerm lim t p c) (λ q. starting-spends lim t cs b q)
+starting-spends M [] b p = paid {c = b} (omega arith)
+starting-spends M (c ∷ cs) zero p = cut (omega arith)
+starting-spends M (c ∷ cs) (suc b) p = go (M .startingTerm p c) (λ q. starting-spends M cs b q)
   where
-    go : (r : Res Interned) → ((q : Pool) → Spent (length cs) b (startingTerms lim t cs b q)) → Spent (suc (length cs)) (suc b) (r >>= λ a. startingTerms lim t cs b (a .pool) >>= λ r. ok (prepend (a .term) r))
-    go (ok a) ih = spent-prepend (a .term) (length cs) b (startingTerms lim t cs b (a .pool)) (ih (a .pool))
+    go : (r : Res Interned) → ((q : Pool) → Spent (length cs) b (startingTerms M cs b q)) → Spent (suc (length cs)) (suc b) (r >>= λ a. startingTerms M cs b (a .pool) >>= λ r. ok (prepend (a .term) r))
+    go (ok a) ih = spent-prepend (a .term) (length cs) b (startingTerms M cs b (a .pool)) (ih (a .pool))
     go (refused n) ih = ended
 
-pub starting-later : (lim : Limits) (t : Tables) (cs : List Two) (b c e : ℕ) (p : Pool) → c ≡ b + e → Later e (startingTerms lim t cs b p) (startingTerms lim t cs c p)
+pub starting-later : {N : Type 0} (M : Making N) (cs : List N) (b c e : ℕ) (p : Pool) → c ≡ b + e → Later e (startingTerms M cs b p) (startingTerms M cs c p)
 unfolding startingTerms
-starting-later lim t [] b c e p k = ap (λ (z : ℕ). ok (passed (record { pool = p; terms = [] }) z)) k
-starting-later lim t (x ∷ cs) zero c e p k = tt
-starting-later lim t (x ∷ cs) (suc b) zero e p k = absurd (omega arith)
-starting-later lim t (x ∷ cs) (suc b) (suc c) e p k = go (startingTerm lim t p x) (λ q. starting-later lim t cs b c e q (omega arith))
+starting-later M [] b c e p k = ap (λ (z : ℕ). ok (passed (record { pool = p; terms = [] }) z)) k
+starting-later M (x ∷ cs) zero c e p k = tt
+starting-later M (x ∷ cs) (suc b) zero e p k = absurd (omega arith)
+starting-later M (x ∷ cs) (suc b) (suc c) e p k = go (M .startingTerm p x) (λ q. starting-later M cs b c e q (omega arith))
   where
-    go : (r : Res Interned) → ((q : Pool) → Later e (startingTerms lim t cs b q) (startingTerms lim t cs c q)) → Later e (r >>= λ a. startingTerms lim t cs b (a .pool) >>= λ r. ok (prepend (a .term) r)) (r >>= λ a. startingTerms lim t cs c (a .pool) >>= λ r. ok (prepend (a .term) r))
-    go (ok a) ih = later-prepend (a .term) e (startingTerms lim t cs b (a .pool)) (startingTerms lim t cs c (a .pool)) (ih (a .pool))
+    go : (r : Res Interned) → ((q : Pool) → Later e (startingTerms M cs b q) (startingTerms M cs c q)) → Later e (r >>= λ a. startingTerms M cs b (a .pool) >>= λ r. ok (prepend (a .term) r)) (r >>= λ a. startingTerms M cs c (a .pool) >>= λ r. ok (prepend (a .term) r))
+    go (ok a) ih = later-prepend (a .term) e (startingTerms M cs b (a .pool)) (startingTerms M cs c (a .pool)) (ih (a .pool))
     go (refused n) ih = refl
 
 -- ---- the turns of a round
-turns-spend : (lim : Limits) (t : Tables) (of : Two → ℕ) (ps : List Two) (ws : List Turn) (b : ℕ) (p : Pool) → length ws ≡ length ps → Spent (length ps) b (turnsTerms lim t of ps ws b p)
+turns-spend : {N : Type 0} (M : Making N) (of : N → ℕ) (ps : List N) (ws : List (Turn N)) (b : ℕ) (p : Pool) → length ws ≡ length ps → Spent (length ps) b (turnsTerms M of ps ws b p)
 unfolding turnsTerms
-turns-spend lim t of [] ws b p l = paid {c = b} (omega arith)
-turns-spend lim t of (x ∷ ps) [] b p l = absurd (omega arith)
-turns-spend lim t of (x ∷ ps) (w ∷ ws) zero p l = cut (omega arith)
-turns-spend lim t of (x ∷ ps) (w ∷ ws) (suc b) p l = go (choiceTerm lim t of p (of x) (w .choice)) (λ q. turns-spend lim t of ps ws b q (suc-inj l))
+turns-spend M of [] ws b p l = paid {c = b} (omega arith)
+turns-spend M of (x ∷ ps) [] b p l = absurd (omega arith)
+turns-spend M of (x ∷ ps) (w ∷ ws) zero p l = cut (omega arith)
+turns-spend M of (x ∷ ps) (w ∷ ws) (suc b) p l = go (choiceTerm M of p (of x) (w .choice)) (λ q. turns-spend M of ps ws b q (suc-inj l))
   where
-    go : (r : Res Interned) → ((q : Pool) → Spent (length ps) b (turnsTerms lim t of ps ws b q)) → Spent (suc (length ps)) (suc b) (r >>= λ a. turnsTerms lim t of ps ws b (a .pool) >>= λ r. ok (prepend (a .term) r))
-    go (ok a) ih = spent-prepend (a .term) (length ps) b (turnsTerms lim t of ps ws b (a .pool)) (ih (a .pool))
+    go : (r : Res Interned) → ((q : Pool) → Spent (length ps) b (turnsTerms M of ps ws b q)) → Spent (suc (length ps)) (suc b) (r >>= λ a. turnsTerms M of ps ws b (a .pool) >>= λ r. ok (prepend (a .term) r))
+    go (ok a) ih = spent-prepend (a .term) (length ps) b (turnsTerms M of ps ws b (a .pool)) (ih (a .pool))
     go (refused n) ih = ended
 
-turns-later : (lim : Limits) (t : Tables) (of : Two → ℕ) (ps : List Two) (ws : List Turn) (b c e : ℕ) (p : Pool) → c ≡ b + e → Later e (turnsTerms lim t of ps ws b p) (turnsTerms lim t of ps ws c p)
+turns-later : {N : Type 0} (M : Making N) (of : N → ℕ) (ps : List N) (ws : List (Turn N)) (b c e : ℕ) (p : Pool) → c ≡ b + e → Later e (turnsTerms M of ps ws b p) (turnsTerms M of ps ws c p)
 unfolding turnsTerms
-turns-later lim t of [] ws b c e p k = ap (λ (z : ℕ). ok (passed (record { pool = p; terms = [] }) z)) k
-turns-later lim t of (x ∷ ps) [] b c e p k = ap (λ (z : ℕ). ok (passed (record { pool = p; terms = [] }) z)) k
-turns-later lim t of (x ∷ ps) (w ∷ ws) zero c e p k = tt
-turns-later lim t of (x ∷ ps) (w ∷ ws) (suc b) zero e p k = absurd (omega arith)
-turns-later lim t of (x ∷ ps) (w ∷ ws) (suc b) (suc c) e p k = go (choiceTerm lim t of p (of x) (w .choice)) (λ q. turns-later lim t of ps ws b c e q (omega arith))
+turns-later M of [] ws b c e p k = ap (λ (z : ℕ). ok (passed (record { pool = p; terms = [] }) z)) k
+turns-later M of (x ∷ ps) [] b c e p k = ap (λ (z : ℕ). ok (passed (record { pool = p; terms = [] }) z)) k
+turns-later M of (x ∷ ps) (w ∷ ws) zero c e p k = tt
+turns-later M of (x ∷ ps) (w ∷ ws) (suc b) zero e p k = absurd (omega arith)
+turns-later M of (x ∷ ps) (w ∷ ws) (suc b) (suc c) e p k = go (choiceTerm M of p (of x) (w .choice)) (λ q. turns-later M of ps ws b c e q (omega arith))
   where
-    go : (r : Res Interned) → ((q : Pool) → Later e (turnsTerms lim t of ps ws b q) (turnsTerms lim t of ps ws c q)) → Later e (r >>= λ a. turnsTerms lim t of ps ws b (a .pool) >>= λ r. ok (prepend (a .term) r)) (r >>= λ a. turnsTerms lim t of ps ws c (a .pool) >>= λ r. ok (prepend (a .term) r))
-    go (ok a) ih = later-prepend (a .term) e (turnsTerms lim t of ps ws b (a .pool)) (turnsTerms lim t of ps ws c (a .pool)) (ih (a .pool))
+    go : (r : Res Interned) → ((q : Pool) → Later e (turnsTerms M of ps ws b q) (turnsTerms M of ps ws c q)) → Later e (r >>= λ a. turnsTerms M of ps ws b (a .pool) >>= λ r. ok (prepend (a .term) r)) (r >>= λ a. turnsTerms M of ps ws c (a .pool) >>= λ r. ok (prepend (a .term) r))
+    go (ok a) ih = later-prepend (a .term) e (turnsTerms M of ps ws b (a .pool)) (turnsTerms M of ps ws c (a .pool)) (ih (a .pool))
     go (refused n) ih = refl
 
 -- ---- a round
-pub round-spends : (lim : Limits) (t : Tables) (ps : List Two) (s : State) (ws : List Turn) (b : ℕ) → length ws ≡ length ps → Spent (suc (length ps)) b (roundTerms lim t ps s ws b)
+pub round-spends : {N : Type 0} (S : System N) (M : Making N) (ps : List N) (s : State) (ws : List (Turn N)) (b : ℕ) → length ws ≡ length ps → Spent (suc (length ps)) b (roundTerms S M ps s ws b)
 unfolding roundTerms
-round-spends lim t ps s ws zero l = cut (omega arith)
-round-spends lim t ps s ws (suc b) l = go (turnsTerms lim t (lookUp 0 ps (s .terms)) ps ws b (s .pool)) (turns-spend lim t (lookUp 0 ps (s .terms)) ps ws b (s .pool) l)
+round-spends S M ps s ws zero l = cut (omega arith)
+round-spends S M ps s ws (suc b) l = go (turnsTerms M (lookUp (S .same) 0 ps (s .terms)) ps ws b (s .pool)) (turns-spend M (lookUp (S .same) 0 ps (s .terms)) ps ws b (s .pool) l)
   where
     go : (r : Res (Checked Terms)) → Spent (length ps) b r → Spent (suc (length ps)) (suc b) r
     go r (cut h) = cut (omega arith)
@@ -89,8 +87,8 @@ round-spends lim t ps s ws (suc b) l = go (turnsTerms lim t (lookUp 0 ps (s .ter
 abbrev pub withBudget : State → ℕ → State
 withBudget s b = record { pool = s .pool; qualities = s .qualities; terms = s .terms; rounds = s .rounds; budget = b }
 
-pub round-later : (lim : Limits) (t : Tables) (ps : List Two) (s : State) (ws : List Turn) (b c e d : ℕ) → c ≡ b + e → Later e (roundTerms lim t ps s ws b) (roundTerms lim t ps (withBudget s d) ws c)
+pub round-later : {N : Type 0} (S : System N) (M : Making N) (ps : List N) (s : State) (ws : List (Turn N)) (b c e d : ℕ) → c ≡ b + e → Later e (roundTerms S M ps s ws b) (roundTerms S M ps (withBudget s d) ws c)
 unfolding roundTerms
-round-later lim t ps s ws zero c e d k = tt
-round-later lim t ps s ws (suc b) zero e d k = absurd (omega arith)
-round-later lim t ps s ws (suc b) (suc c) e d k = turns-later lim t (lookUp 0 ps (s .terms)) ps ws b c e (s .pool) (omega arith)
+round-later S M ps s ws zero c e d k = tt
+round-later S M ps s ws (suc b) zero e d k = absurd (omega arith)
+round-later S M ps s ws (suc b) (suc c) e d k = turns-later M (lookUp (S .same) 0 ps (s .terms)) ps ws b c e (s .pool) (omega arith)

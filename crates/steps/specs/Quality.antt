@@ -115,21 +115,3 @@ suc-⊑ S M S′ M′ (inr h) = inr (omega (arith, h .0), h .1)
 
 pub quality-⊑ : (x : List ℕ) (l m : List Two) → Below l m → qualityOver x l ⊑ qualityOver x m
 quality-⊑ x l m b = suc-⊑ _ _ _ _ (total-⊑ x l m b)
-
--- Where f is never above g: the totals are equal, or at a place with a count above 0 f is strictly better, and no larger than the total.
-abbrev pub Strict : (Two → Two) → (Two → Two) → List ℕ → List Two → Type 0
-Strict f g x ps = (p : Two) × In p ps × (f p ⊏ g p) × (f p .0 ≤ Total x (map f ps) .0)
-
-pub differ : (f g : Two → Two) (x : List ℕ) (ps : List Two) → ((p : Two) → In p ps → f p ⊑ g p) → (Total x (map f ps) ≡ Total x (map g ps)) ⊎ Strict f g x ps
-unfolding planSize planMass
-differ f g [] ps h = inl refl
-differ f g (n ∷ x) [] h = inl refl
-differ f g (n ∷ x) (p ∷ ps) h = go n (⊑-or (g p) (f p)) (differ f g x ps (λ q i. h q (there i)))
-  where
-    go : (n : ℕ) → (g p ⊑ f p) ⊎ (f p ⊏ g p) → (Total x (map f ps) ≡ Total x (map g ps)) ⊎ Strict f g x ps → (Total (n ∷ x) (map f (p ∷ ps)) ≡ Total (n ∷ x) (map g (p ∷ ps))) ⊎ Strict f g (n ∷ x) (p ∷ ps)
-    go n o (inr (q, i, l, s)) = inr (q, there i, l, omega arith)
-    go zero o (inl e) = inl (two-eq (omega (arith, ap (λ (z : Two). z .0) e)) (omega (arith, ap (λ (z : Two). z .1) e)))
-    go (suc n) (inl k) (inl e) =
-        let c = ⊑-antisym (f p) (g p) (h p here) k in
-        inl (two-eq (omega (arith, ap (λ (z : Two). z .0) e, ap (λ (z : Two). suc n * z .0) c)) (omega (arith, ap (λ (z : Two). z .1) e, ap (λ (z : Two). suc n * z .1) c)))
-    go (suc n) (inr k) (inl e) = inr (p, here, k, omega arith)

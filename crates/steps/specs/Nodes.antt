@@ -1,0 +1,45 @@
+-- Nodes in lists: entries by the system's test, and what is looked up along a list.
+use mathlib.Core.Path.{_≡_, refl, sym, ap, _∙_}
+use mathlib.Core.Bool.{Bool, true, false}
+use mathlib.Core.List.{List, [], _∷_, _++_, map}
+use Prim.Native.Nat.{ℕ, zero, suc, _<_}
+use native.Mathlib.Omega.{arith}
+use native.Mathlib.Nat.{not-suc-le-zero}
+use lib.ListN.{length, getD}
+use Rattle.spec.specs.Bytes.{any, In, here, there, place}
+use Rattle.spec.specs.System.{System, lookUp}
+use Rattle.laws.specs.Tests.{clash}
+use Rattle.laws.specs.Lists.{any-in, any-none, Distinct, more}
+
+module _ {N : Type 0} (S : System N) where
+  -- a node of the list, or none
+  pub is-in : (p : N) (l : List N) → any (S .same p) l ≡ true → In p l
+  is-in p l e = let r = any-in (S .same p) l e in rw (S .sameEq p (r .0) (r .2)) (r .1)
+
+  pub not-in : (p : N) (l : List N) → any (S .same p) l ≡ false → In p l → ⊥
+  not-in p l e i = clash (sym (S .sameRefl p) ∙ any-none (S .same p) l p e i)
+
+  -- what stands for p along a list that has one entry for each node
+  pub look-up : {A : Type 0} (d : A) (f : N → A) (ps : List N) (p : N) → In p ps → getD (map f ps) (place (S .same p) ps) d ≡ f p
+  unfolding place
+  look-up d f (x ∷ l) p here = rw (S .sameRefl p, place) refl
+  look-up {A} d f (x ∷ l) p (there k) = go (S .same p x) refl (look-up d f l p k)
+    where
+      go : (b : Bool) → S .same p x ≡ b → getD (map f l) (place (S .same p) l) d ≡ f p → getD (map f (x ∷ l)) (place (S .same p) (x ∷ l)) d ≡ f p
+      go true e ih = rw (e, place) (ap f (sym (S .sameEq p x e)))
+      go false e ih = rw (e, place) ih
+
+module _ {A : Type 0} (d : A) where
+  pub get-in : (l : List A) (k : ℕ) → k < length l → In (getD l k d) l
+  get-in [] k h = absurd (not-suc-le-zero h)
+  get-in (x ∷ l) zero h = here
+  get-in (x ∷ l) (suc k) h = there (get-in l k (omega arith))
+
+  pub in-get : (p : A) (l : List A) → In p l → (k : ℕ) × (k < length l) × (getD l k d ≡ p)
+  in-get p (x ∷ l) here = (0, omega arith, refl)
+  in-get p (x ∷ l) (there i) = let r = in-get p l i in (suc (r .0), omega (arith, r .1), r .2)
+
+  pub get-append : (l m : List A) (k : ℕ) → k < length l → getD (l ++ m) k d ≡ getD l k d
+  get-append [] m k h = absurd (not-suc-le-zero h)
+  get-append (x ∷ l) m zero h = refl
+  get-append (x ∷ l) m (suc k) h = get-append l m k (omega arith)

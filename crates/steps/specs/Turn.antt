@@ -1,0 +1,86 @@
+-- A node's turn: it ends with the best of what the node has and of what its actions offer.
+use mathlib.Core.Path.{_≡_, refl}
+use mathlib.Core.Logic.{_⊎_, inl, inr}
+use mathlib.Core.Bool.{Bool, true, false}
+use mathlib.Core.List.{List, [], _∷_, map}
+use Prim.Native.Nat.{ℕ}
+use Rattle.spec.specs.Bytes.{In, here, there, Two}
+use Rattle.spec.specs.System.{System, Act, better, stay, act, Turn, changes, worth, offer, offerAll, turnOf}
+use Rattle.spec.specs.Meaning.{_⊑_}
+use Rattle.steps.specs.Quality.{_⊏_, ⊏-⊑-trans, ⊑-refl, ⊑-trans, ⊏-⊑, better-is, better-not}
+
+-- what the turn chose tells whether the quality is better than z
+abbrev pub Told : {N : Type 0} → Two → Turn N → Type 0
+Told z w = ((changes w ≡ false) × (w .quality ≡ z)) ⊎ ((changes w ≡ true) × (w .quality ⊏ z))
+
+told-⊑ : {N : Type 0} (z : Two) (w : Turn N) → Told z w → w .quality ⊑ z
+told-⊑ z w (inl (n, e)) = rw e (⊑-refl z)
+told-⊑ z w (inr (n, l)) = ⊏-⊑ {a = w .quality} {b = z} l
+
+module _ {N : Type 0} (S : System N) (q : N → Two) where
+  -- ---- one offer
+  offer-old : (a : Act N) (w : Turn N) → offer S q a w .quality ⊑ w .quality
+  offer-old a w = go (better (worth S q a) (w .quality)) refl
+    where
+      go : (b : Bool) → better (worth S q a) (w .quality) ≡ b → offer S q a w .quality ⊑ w .quality
+      go true e = rw e (⊏-⊑ {a = worth S q a} {b = w .quality} (better-is (worth S q a) (w .quality) e))
+      go false e = rw e (⊑-refl (w .quality))
+
+  offer-new : (a : Act N) (w : Turn N) → offer S q a w .quality ⊑ worth S q a
+  offer-new a w = go (better (worth S q a) (w .quality)) refl
+    where
+      go : (b : Bool) → better (worth S q a) (w .quality) ≡ b → offer S q a w .quality ⊑ worth S q a
+      go true e = rw e (⊑-refl (worth S q a))
+      go false e = rw e (better-not (worth S q a) (w .quality) e)
+
+  offer-one : (P : Two → Type 0) (a : Act N) (w : Turn N) → P (worth S q a) → P (w .quality) → P (offer S q a w .quality)
+  offer-one P a w h k = go (better (worth S q a) (w .quality)) refl
+    where
+      go : (x : Bool) → better (worth S q a) (w .quality) ≡ x → P (offer S q a w .quality)
+      go true e = rw e h
+      go false e = rw e k
+
+  offer-told : (z : Two) (a : Act N) (w : Turn N) → Told z w → Told z (offer S q a w)
+  offer-told z a w k = go (better (worth S q a) (w .quality)) refl
+    where
+      go : (b : Bool) → better (worth S q a) (w .quality) ≡ b → Told z (offer S q a w)
+      go true e = rw e (inr (refl, ⊏-⊑-trans (worth S q a) (w .quality) z (better-is (worth S q a) (w .quality) e) (told-⊑ z w k)))
+      go false e = rw e k
+
+  -- ---- all offers: what every offer keeps, never above what it was, never above what was offered, one of them
+  pub all-keep : (I : Turn N → Type 0) → ((a : Act N) (w : Turn N) → I w → I (offer S q a w)) → (l : List (Act N)) (w : Turn N) → I w → I (offerAll S q l w)
+  unfolding offerAll
+  all-keep I keeps [] w k = k
+  all-keep I keeps (a ∷ l) w k = all-keep I keeps l (offer S q a w) (keeps a w k)
+
+  all-old : (l : List (Act N)) (w : Turn N) → offerAll S q l w .quality ⊑ w .quality
+  all-old l w = all-keep (λ u. u .quality ⊑ w .quality) (λ a u k. ⊑-trans (offer S q a u .quality) (u .quality) (w .quality) (offer-old a u) k) l w (⊑-refl (w .quality))
+
+  all-new : (l : List (Act N)) (w : Turn N) (a : Act N) → In a l → offerAll S q l w .quality ⊑ worth S q a
+  unfolding offerAll
+  all-new (b ∷ l) w a here = ⊑-trans (offerAll S q l (offer S q a w) .quality) (offer S q a w .quality) (worth S q a) (all-old l (offer S q a w)) (offer-new a w)
+  all-new (b ∷ l) w a (there i) = all-new l (offer S q b w) a i
+
+  all-one : (P : Two → Type 0) (l : List (Act N)) (w : Turn N) → ((a : Act N) → In a l → P (worth S q a)) → P (w .quality) → P (offerAll S q l w .quality)
+  unfolding offerAll
+  all-one P [] w f b = b
+  all-one P (a ∷ l) w f b = all-one P l (offer S q a w) (λ c i. f c (there i)) (offer-one P a w (f a here) b)
+
+  -- ---- the turn
+  pub turn-told : (p : N) → Told (q p) (turnOf S q p)
+  unfolding turnOf
+  turn-told p = all-keep (Told (q p)) (λ a w k. offer-told (q p) a w k) (S .offers q p) (record { quality = q p; choice = stay }) (inl (refl, refl))
+
+  pub turn-old : (p : N) → turnOf S q p .quality ⊑ q p
+  turn-old p = told-⊑ (q p) (turnOf S q p) (turn-told p)
+
+  pub turn-new : (p : N) (a : Act N) → In a (S .offers q p) → turnOf S q p .quality ⊑ worth S q a
+  unfolding turnOf
+  turn-new p a i = all-new (S .offers q p) (record { quality = q p; choice = stay }) a i
+
+  abbrev pub Won : N → Two → Type 0
+  Won p z = (a : Act N) × In a (S .offers q p) × (z ≡ worth S q a)
+
+  pub turn-from : (p : N) → (turnOf S q p .quality ≡ q p) ⊎ Won p (turnOf S q p .quality)
+  unfolding turnOf
+  turn-from p = all-one (λ z. (z ≡ q p) ⊎ Won p z) (S .offers q p) (record { quality = q p; choice = stay }) (λ a i. inr (a, i, refl)) (inl refl)
