@@ -6,3 +6,5 @@ pub mod Checks
 pub mod Turn
 pub mod Rounds
 pub mod Plain
+pub mod TurnsFrom
+pub mod Run
