@@ -8,3 +8,7 @@ pub mod Rounds
 pub mod Plain
 pub mod TurnsFrom
 pub mod Run
+pub mod RoundsFrom
+pub mod RunFrom
+pub mod Outcomes
+pub mod Demand3
