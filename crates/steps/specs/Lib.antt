@@ -12,3 +12,5 @@ pub mod RoundsFrom
 pub mod RunFrom
 pub mod Outcomes
 pub mod Demand3
+pub mod Refusals
+pub mod Limits
