@@ -28,13 +28,6 @@ use Rattle.laws.specs.BestMembers.{best-in, best-falls, child-within, child-cou
 use Rattle.laws.specs.Lists.{map-map}
 use Rattle.laws.specs.Results.{bind-ok, ok-inj}
 
--- an operation's node means the operation over its children's trees
-abbrev pub OpMeans : Pool → ℕ → List Two → Interned → Type 0
-OpMeans p o l r = (treeAt (r .pool) (r .term) ≡ node o (runsOf (treesAfter [] p) (joinRuns l))) × (expand (runsOf (treesAfter [] p) (joinRuns l)) ≡ map (treeAt p) (written l))
-
-pub op-means : (p : Pool) (o : ℕ) (l : List Two) (r : Interned) → Interns p (opNode o l) r → OpMeans p o l r
-op-means p o l r e = (e .means ∙ tree-operation (treesAfter [] p) (opNode o l) refl, expand-runs (treesAfter [] p) (joinRuns l) ∙ ap (map (treeAt p)) (join-written l))
-
 -- what a step that makes a term for a pair in pool p gives: the pool stays valid, and the term is good for the pair and the quality
 pub record Makes (t : Tables) (p : Pool) (c q : Two) (r : Interned) : Type 0 where
   pub valid : PoolValid (r .pool)
