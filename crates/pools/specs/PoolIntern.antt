@@ -13,9 +13,9 @@ use Rattle.spec.specs.Bytes.{Limits, pick, both, place, Two, sameTwo, sameTwos,
 use Rattle.spec.specs.Pool.{Node, Pool, nodeAt, joinRuns, opNode, sameNode, runCount, Interned, interned, intern}
 use Rattle.spec.specs.Meaning.{node, expand, runsOf, treeOf, treesAfter, treeAt}
 use Rattle.laws.specs.Tests.{both-true, clash}
-use Rattle.laws.specs.BagCount.{written, join-written}
+use Rattle.laws.specs.BagCount.{written}
 use Rattle.pools.specs.Pool.{NodeValid, PoolValid, getD-last, tree-last, tree-grows, tree-operation}
-use Rattle.pools.specs.PoolTrees.{node-ext, tree-is, expand-runs}
+use Rattle.pools.specs.PoolTrees.{node-ext, tree-is, expand-joined}
 use Rattle.laws.specs.Lists.{same-eq, same-refl}
 use Rattle.laws.specs.Results.{ok-inj, refused-ok}
 
@@ -164,4 +164,4 @@ abbrev pub OpMeans : Pool → ℕ → List Two → Interned → Type 0
 OpMeans p o l r = (treeAt (r .pool) (r .term) ≡ node o (runsOf (treesAfter [] p) (joinRuns l))) × (expand (runsOf (treesAfter [] p) (joinRuns l)) ≡ map (treeAt p) (written l))
 
 pub op-means : (p : Pool) (o : ℕ) (l : List Two) (r : Interned) → Interns p (opNode o l) r → OpMeans p o l r
-op-means p o l r e = (e .means ∙ tree-operation (treesAfter [] p) (opNode o l) refl, expand-runs (treesAfter [] p) (joinRuns l) ∙ ap (map (treeAt p)) (join-written l))
+op-means p o l r e = (e .means ∙ tree-operation (treesAfter [] p) (opNode o l) refl, expand-joined (treesAfter [] p) l)

@@ -6,10 +6,10 @@ use native.Mathlib.Nat.{not-suc-le-zero}
 use native.Mathlib.Omega.{arith}
 use lib.ListN.{length, length-append, replicate}
 use Rattle.spec.specs.Bytes.{Two}
-use Rattle.spec.specs.Pool.{Node, Pool, nodeAt}
+use Rattle.spec.specs.Pool.{Node, Pool, nodeAt, joinRuns}
 use Rattle.spec.specs.Meaning.{here, Term, lit, node, variants, Runs, run, expand, runsOf, treeOf, treesAfter, treeAt}
 use Rattle.laws.specs.Bag.{map-append, map-replicate}
-use Rattle.laws.specs.BagCount.{written}
+use Rattle.laws.specs.BagCount.{written, join-written}
 use Rattle.pools.specs.Pool.{RunsBelow, runs-below-tail, Formed, operation, literal, marked, NodeValid, PoolValid, numbered, trees-keep, getD-last, tree-operation, tree-literal, tree-marked}
 
 -- ---- a node's tree depends on its children's alone
@@ -50,6 +50,10 @@ pub expand-runs : (ts : List Term) (l : List Two) → expand (runsOf ts l) ≡ m
 unfolding expand runsOf written
 expand-runs ts [] = refl
 expand-runs ts (r ∷ l) = rw (expand-runs ts l, map-append (numbered ts) (replicate (r .1) (r .0)) (written l), map-replicate (numbered ts) (r .1) (r .0)) refl
+
+-- joining changes nothing of what is written out
+pub expand-joined : (ts : List Term) (l : List Two) → expand (runsOf ts (joinRuns l)) ≡ map (numbered ts) (written l)
+expand-joined ts l = expand-runs ts (joinRuns l) ∙ ap (map (numbered ts)) (join-written l)
 
 -- ---- a node can be read off its tree, where the children's trees are apart
 runs-inj : (ts : List Term) (i : ℕ) (l m : List Two) → RunsBelow i l → RunsBelow i m → ((a b : ℕ) → a < i → b < i → numbered ts a ≡ numbered ts b → a ≡ b) → runsOf ts l ≡ runsOf ts m → l ≡ m
