@@ -14,26 +14,18 @@ use Rattle.spec.specs.Monomial.{classes, counts}
 use Rattle.spec.specs.Transport.{planSize, planMass}
 use Rattle.spec.specs.Pool.{Pool, joinRuns, opNode, litNode, variantsNode, Interned, intern, Children, childTerms, bestTermIn, bestTerm, startingTerm}
 use Rattle.spec.specs.Round.{startingQuality, cellsOver, qualityOver}
-use Rattle.spec.specs.Meaning.{In, here, there, Term, lit, node, variants, Runs, termQuality, expand, reading, runsOf, treesAfter, treeAt, member, Belongs, literal}
+use Rattle.spec.specs.Meaning.{In, here, there, Term, lit, node, Runs, termQuality, runsQuality, expand, reading, runsOf, treeOf, treesAfter, treeAt, member, Belongs, literal}
 use Rattle.laws.specs.Tests.{clash}
 use Rattle.laws.specs.Scans.{nil-of-length}
 use Rattle.laws.specs.Valid.{Valid}
 use Rattle.laws.specs.Bag.{perm-of-eq}
-use Rattle.laws.specs.BagCount.{written, spread, map-spread, spread-written, occurs-written, written-ones, join-written}
-use Rattle.pools.specs.Pool.{RunsBelow, runs-below-nil, runs-below-cons, PoolValid, op-valid, lit-valid, variants-valid, tree-operation, tree-literal, tree-marked}
-use Rattle.pools.specs.PoolTrees.{expand-runs}
-use Rattle.pools.specs.PoolIntern.{Extends, extends-refl, extends-trans, extends-within, extends-tree, Interns, intern-enters}
-use Rattle.readings.specs.ReadingsNode.{Covers, inOrder, anyOrder, TermFor, TermsFor, noTerm, andTerm, good-node}
+use Rattle.laws.specs.BagCount.{written, spread, map-spread, spread-written, occurs-written, written-ones}
+use Rattle.pools.specs.Pool.{RunsBelow, runs-below-nil, runs-below-cons, PoolValid, op-valid, lit-valid, variants-valid, numbered, tree-literal, tree-marked}
+use Rattle.pools.specs.PoolIntern.{Extends, extends-refl, extends-trans, extends-within, extends-tree, Interns, intern-enters, op-means}
+use Rattle.readings.specs.ReadingsNode.{size, runs-size, two-branches, read-variants, Covers, inOrder, anyOrder, TermFor, TermsFor, noTerm, andTerm, good-node}
 use Rattle.laws.specs.BestMembers.{best-in, best-falls, child-within, child-counted, child-single, member-arity}
 use Rattle.laws.specs.Lists.{map-map}
 use Rattle.laws.specs.Results.{bind-ok, ok-inj}
-
--- an operation's node means the operation over its children's trees
-abbrev pub OpMeans : Pool → ℕ → List Two → Interned → Type 0
-OpMeans p o l r = (treeAt (r .pool) (r .term) ≡ node o (runsOf (treesAfter [] p) (joinRuns l))) × (expand (runsOf (treesAfter [] p) (joinRuns l)) ≡ map (treeAt p) (written l))
-
-pub op-means : (p : Pool) (o : ℕ) (l : List Two) (r : Interned) → Interns p (opNode o l) r → OpMeans p o l r
-op-means p o l r e = (e .means ∙ tree-operation (treesAfter [] p) (opNode o l) refl, expand-runs (treesAfter [] p) (joinRuns l) ∙ ap (map (treeAt p)) (join-written l))
 
 -- what a step that makes a term for a pair in pool p gives: the pool stays valid, and the term is good for the pair and the quality
 pub record Makes (t : Tables) (p : Pool) (c q : Two) (r : Interned) : Type 0 where
@@ -112,12 +104,12 @@ module _ (lim : Limits) (t : Tables) where
   best-fuel v f p c h a = fuel-same v f (bestSize t c) p c h a (omega arith)
 
   -- ---- best terms
-  best-size : (l : List Two) → planSize (counts l) (cellsOver (map (λ c. (bestSize t (c .0), 0)) l)) ≡ sum (map (λ c. c .1 * bestSize t (c .0)) l)
+  pub best-size : (l : List Two) → planSize (counts l) (cellsOver (map (λ c. (bestSize t (c .0), 0)) l)) ≡ sum (map (λ c. c .1 * bestSize t (c .0)) l)
   unfolding planSize sum
   best-size [] = refl
   best-size (c ∷ l) = omega (arith, best-size l)
 
-  best-mass : (l : List Two) → planMass (counts l) (cellsOver (map (λ c. (bestSize t (c .0), 0)) l)) ≡ 0
+  pub best-mass : (l : List Two) → planMass (counts l) (cellsOver (map (λ c. (bestSize t (c .0), 0)) l)) ≡ 0
   unfolding planMass
   best-mass [] = refl
   best-mass (c ∷ l) = omega (arith, best-mass l)
@@ -219,14 +211,17 @@ module _ (lim : Limits) (t : Tables) where
   same-classes : (p : Pool) (c : Two) (r : Interned) → c .0 ≡ c .1 → Makes t p (c .0, c .0) (bestSize t (c .0), 0) r → Makes t p c (bestSize t (c .0), 0) r
   same-classes p c r e M = record { valid = M .valid; grown = M .grown; within = M .within; good = record { quality = M .good .quality; first = M .good .first; second = rw (← e) (M .good .second) } }
 
-  marked-good : (c : Two) (a b : Term) → TermFor t (c .0, c .0) (bestSize t (c .0), 0) a → TermFor t (c .1, c .1) (bestSize t (c .1), 0) b
-      → TermFor t c (bestSize t (c .0) + bestSize t (c .1), bestSize t (c .0) + bestSize t (c .1)) (variants a b)
-  unfolding termQuality reading
-  marked-good c a b g h = record {
-    quality = ap₂ (λ (x y : Two). (x .0 + y .0, x .0 + y .0)) (g .quality) (h .quality);
-    first = g .first;
-    second = h .second;
-  }
+  marked-good : (c : Two) (ts : List Term) (a b : ℕ) → TermFor t (c .0, c .0) (bestSize t (c .0), 0) (numbered ts a) → TermFor t (c .1, c .1) (bestSize t (c .1), 0) (numbered ts b)
+      → TermFor t c (bestSize t (c .0) + bestSize t (c .1), bestSize t (c .0) + bestSize t (c .1)) (treeOf ts (variantsNode a b))
+  unfolding termQuality sum
+  marked-good c ts a b g h =
+      let r = runsOf ts (joinRuns ((a, 1) ∷ (b, 1) ∷ [])) in
+      let s : runsQuality r .0 ≡ bestSize t (c .0) + bestSize t (c .1) =
+          runs-size r ∙ ap (λ (l : List Term). sum (map size l)) (two-branches ts a b) ∙ omega (arith, ap (λ (z : Two). z .0) (g .quality), ap (λ (z : Two). z .0) (h .quality)) in record {
+        quality = ap termQuality (tree-marked ts (variantsNode a b) refl) ∙ ap₂ (λ (x y : ℕ). (x, y)) s s;
+        first = rw (read-variants ts a b .0) (g .first);
+        second = rw (read-variants ts a b .1) (h .second);
+      }
 
   pub starting-made : Valid t → (p : Pool) (c : Two) (r : Interned) → c .0 < length (t .classes) → c .1 < length (t .classes) → PoolValid p → startingTerm lim t p c ≡ ok r → Makes t p c (startingQuality t c) r
   unfolding startingTerm
@@ -246,6 +241,5 @@ module _ (lim : Limits) (t : Tables) where
             valid = E .valid;
             grown = extends-trans (X .grown) (extends-trans (Y .grown) (E .grown));
             within = E .within;
-            good = rw (E .means ∙ tree-marked (treesAfter [] (y .pool)) (x .term) (y .term))
-                (marked-good c _ _ (rw (extends-tree (Y .grown) (x .term) (X .within)) (X .good)) (Y .good));
+            good = rw (E .means) (marked-good c (treesAfter [] (y .pool)) (x .term) (y .term) (rw (extends-tree (Y .grown) (x .term) (X .within)) (X .good)) (Y .good));
           }
