@@ -14,3 +14,5 @@ pub mod Outcomes
 pub mod Demand3
 pub mod Refusals
 pub mod Limits
+pub mod Standing
+pub mod Readings
