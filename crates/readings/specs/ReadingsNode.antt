@@ -114,50 +114,42 @@ module _ (t : Tables) where
   covers-belongs o c cs ts r (inOrder m i e n z h) p q b = ordered {r = r} m i e n z (rw (← q n, ← h) b)
   covers-belongs o c cs ts r (anyOrder l s n h) p q b = let (ds, d, e) = belong-perm p b in unordered {r = r} l ds s n d (λ k. e k ∙ h k)
 
-  -- ---- a term for pair p with quality q: it has the quality, and belongs to the left class read by the first branches, to the right one read by the second
-  pub record TermFor (p q : Two) (a : Term) : Type 0 where
+-- ---- A term for a node with quality q, read in so many ways: it has the quality, and read by branch k it belongs to the node's class k.
+module _ (t : Tables) {N : Type 0} (ways : ℕ) (class : N → ℕ → ℕ) where
+  pub record TermFor (p : N) (q : Two) (a : Term) : Type 0 where
     pub quality : termQuality a ≡ q
-    pub first : Belongs t (readFirst a) (p .0)
-    pub second : Belongs t (readSecond a) (p .1)
+    pub reads : (k : ℕ) → k < ways → Belongs t (reading k a) (class p k)
 
-  pub data TermsFor : List Two → List Two → List Term → Type 0 where
+  pub data TermsFor : List N → List Two → List Term → Type 0 where
     noTerm : TermsFor [] [] []
-    andTerm : {p q : Two} {a : Term} {ps qs : List Two} {ts : List Term} → TermFor p q a → TermsFor ps qs ts → TermsFor (p ∷ ps) (q ∷ qs) (a ∷ ts)
+    andTerm : {p : N} {q : Two} {a : Term} {ps : List N} {qs : List Two} {ts : List Term} → TermFor p q a → TermsFor ps qs ts → TermsFor (p ∷ ps) (q ∷ qs) (a ∷ ts)
 
-  firsts : {ps qs : List Two} {ts : List Term} (x : List ℕ) → TermsFor ps qs ts → AllBelong t (map readFirst (spread ts x)) (spread (map (λ p. p .0) ps) x)
+  all-read : (k : ℕ) → k < ways → {ps : List N} {qs : List Two} {ts : List Term} (x : List ℕ) → TermsFor ps qs ts → AllBelong t (map (reading k) (spread ts x)) (spread (map (λ p. class p k) ps) x)
   unfolding spread
-  firsts x noTerm = noMore
-  firsts [] (andTerm g gs) = noMore
-  firsts (n ∷ x) (andTerm {a = a} {ts = ts} g gs) = rw (map-append readFirst (replicate n a) (spread ts x), map-replicate readFirst n a) (belong-replicate n (g .first) (firsts x gs))
+  all-read k h x noTerm = noMore
+  all-read k h [] (andTerm g gs) = noMore
+  all-read k h (n ∷ x) (andTerm {a = a} {ts = ts} g gs) = rw (map-append (reading k) (replicate n a) (spread ts x), map-replicate (reading k) n a) (belong-replicate t n (g .reads k h) (all-read k h x gs))
 
-  seconds : {ps qs : List Two} {ts : List Term} (x : List ℕ) → TermsFor ps qs ts → AllBelong t (map readSecond (spread ts x)) (spread (map (λ p. p .1) ps) x)
-  unfolding spread
-  seconds x noTerm = noMore
-  seconds [] (andTerm g gs) = noMore
-  seconds (n ∷ x) (andTerm {a = a} {ts = ts} g gs) = rw (map-append readSecond (replicate n a) (spread ts x), map-replicate readSecond n a) (belong-replicate n (g .second) (seconds x gs))
-
-  sizes : {ps qs : List Two} {ts : List Term} (x : List ℕ) → TermsFor ps qs ts → sum (map size (spread ts x)) ≡ planSize x (cellsOver qs)
+  sizes : {ps : List N} {qs : List Two} {ts : List Term} (x : List ℕ) → TermsFor ps qs ts → sum (map size (spread ts x)) ≡ planSize x (cellsOver qs)
   unfolding spread sum planSize
   sizes [] noTerm = refl
   sizes (n ∷ x) noTerm = refl
   sizes [] (andTerm g gs) = refl
   sizes (n ∷ x) (andTerm {a = a} {ts = ts} g gs) = omega (arith, sum-spread size a n (spread ts x), sizes x gs, ap (λ (z : Two). n * z .0) (g .quality))
 
-  masses : {ps qs : List Two} {ts : List Term} (x : List ℕ) → TermsFor ps qs ts → sum (map mass (spread ts x)) ≡ planMass x (cellsOver qs)
+  masses : {ps : List N} {qs : List Two} {ts : List Term} (x : List ℕ) → TermsFor ps qs ts → sum (map mass (spread ts x)) ≡ planMass x (cellsOver qs)
   unfolding spread sum planMass
   masses [] noTerm = refl
   masses (n ∷ x) noTerm = refl
   masses [] (andTerm g gs) = refl
   masses (n ∷ x) (andTerm {a = a} {ts = ts} g gs) = omega (arith, sum-spread mass a n (spread ts x), masses x gs, ap (λ (z : Two). n * z .1) (g .quality))
 
-  -- An operation over places with counts x: "1 plus the sum of count × size, and the sum of count × mass", and it belongs, read either way.
-  pub good-node : (p : Two) (o : ℕ) (ps qs : List Two) (ts : List Term) (x : List ℕ) (r : Runs) → TermsFor ps qs ts
+  -- An operation over places with counts x: "1 plus the sum of count × size, and the sum of count × mass", and it belongs, read in every way.
+  pub good-node : (p : N) (o : ℕ) (ps : List N) (qs : List Two) (ts : List Term) (x : List ℕ) (r : Runs) → TermsFor ps qs ts
       → Perm (spread ts x) (expand r) → (isCommutative (kindOf t o) ≡ false → spread ts x ≡ expand r)
-      → Covers o (p .0) (spread (map (λ c. c .0) ps) x) → Covers o (p .1) (spread (map (λ c. c .1) ps) x)
-      → TermFor p (qualityOver x qs) (node o r)
+      → ((k : ℕ) → k < ways → Covers t o (class p k) (spread (map (λ c. class c k) ps) x)) → TermFor p (qualityOver x qs) (node o r)
   unfolding termQuality reading
-  good-node p o ps qs ts x r g perm same left right = record {
+  good-node p o ps qs ts x r g perm same covers = record {
     quality = ap₂ (λ (a b : ℕ). (1 + a, b)) (runs-size r ∙ sym (sum-perm (perm-map size perm)) ∙ sizes x g) (runs-mass r ∙ sym (sum-perm (perm-map mass perm)) ∙ masses x g);
-    first = covers-belongs o (p .0) _ _ (readingRuns 0 r) left (rw (expand-reading 0 r) (perm-map readFirst perm)) (λ n. ap (map readFirst) (same n) ∙ sym (expand-reading 0 r)) (firsts x g);
-    second = covers-belongs o (p .1) _ _ (readingRuns 1 r) right (rw (expand-reading 1 r) (perm-map readSecond perm)) (λ n. ap (map readSecond) (same n) ∙ sym (expand-reading 1 r)) (seconds x g);
+    reads = λ k h. covers-belongs t o (class p k) _ _ (readingRuns k r) (covers k h) (rw (expand-reading k r) (perm-map (reading k) perm)) (λ n. ap (map (reading k)) (same n) ∙ sym (expand-reading k r)) (all-read k h x g);
   }
