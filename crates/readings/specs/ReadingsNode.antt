@@ -84,9 +84,10 @@ pub read-variants : (ts : List Term) (a b : ℕ) → (readFirst (treeOf ts (vari
 read-variants ts a b =
     let r = runsOf ts (joinRuns ((a, 1) ∷ (b, 1) ∷ [])) in
     let e = two-branches ts a b in
-    let m = tree-marked ts (variantsNode a b) refl in
-    (ap readFirst m ∙ read-marked 0 r (rw e (omega arith)) ∙ ap (λ (l : List Term). readFirst (getD l 0 (lit 0 0))) e,
-    ap readSecond m ∙ read-marked 1 r (rw e (omega arith)) ∙ ap (λ (l : List Term). readSecond (getD l 1 (lit 0 0))) e)
+    let m = tree-marked ts (variantsNode a b) refl in (
+      ap readFirst m ∙ read-marked 0 r (rw e (omega arith)) ∙ ap (λ (l : List Term). readFirst (getD l 0 (lit 0 0))) e,
+      ap readSecond m ∙ read-marked 1 r (rw e (omega arith)) ∙ ap (λ (l : List Term). readSecond (getD l 1 (lit 0 0))) e,
+    )
 
 module _ (t : Tables) where
   -- the terms may be reordered, if the classes go along
