@@ -1,2 +1,4 @@
 pub mod Offers
 pub mod Moves
+pub mod Repeats
+pub mod Dedup

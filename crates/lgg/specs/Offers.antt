@@ -34,7 +34,7 @@ module _ {N : Type 0} (S : System N) (q : N → Two) where
       go true e = absurd (⊏-not (worth S q a) (w .quality) (better-is (worth S q a) (w .quality) e) h)
       go false e = rw e refl
 
-  all-stay : (l : List (Act N)) (w : Turn N) → ((a : Act N) → In a l → w .quality ⊑ worth S q a) → offerAll S q l w ≡ w
+  pub all-stay : (l : List (Act N)) (w : Turn N) → ((a : Act N) → In a l → w .quality ⊑ worth S q a) → offerAll S q l w ≡ w
   unfolding offerAll
   all-stay [] w h = refl
   all-stay (a ∷ l) w h = ap (offerAll S q l) (offer-stays a w (h a here)) ∙ all-stay l w (λ b i. h b (there i))
