@@ -1,4 +1,12 @@
 pub mod Offers
 pub mod Moves
+pub mod Cells
 pub mod Repeats
 pub mod Dedup
+pub mod Within
+pub mod BagPlan
+pub mod Parts
+pub mod TurnBounds
+pub mod TurnPlaces
+pub mod TurnRead
+pub mod Count
