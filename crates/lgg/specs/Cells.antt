@@ -1,24 +1,25 @@
 -- The cells of a transport are distinct pairs of the graph: so rows × columns are no more than the graph's pairs, and need no limit of their own.
-use mathlib.Core.Path.{_≡_, refl, sym, ap, ap₂, _∙_}
+use mathlib.Core.Path.{_≡_, sym, ap, _∙_}
 use mathlib.Core.Logic.{_⊎_, inl, inr}
 use mathlib.Core.Bool.{Bool, true, false}
 use mathlib.Core.List.{List, [], _∷_, _++_, map}
-use Prim.Native.Nat.{ℕ, zero, suc, _+_, _*_, _≤_, _<_}
+use Prim.Native.Nat.{ℕ, suc, _≤_}
 use native.Mathlib.Omega.{arith}
 use lib.Dec.{eqb}
-use lib.ListN.{length, length-append}
+use lib.ListN.{length}
 use Rattle.spec.specs.Bytes.{pick, both, filter, each, Two, Limits, ok, passed}
-use Rattle.spec.specs.Image.{Tables, Member, identityOf, membersOf, childrenOf, NO-IDENTITY}
-use Rattle.spec.specs.Monomial.{Monomial, MonomialPair, monomial, monomialsOf, classes, itself, bothItself, padPair, pairOf, insertAdd, narrow, narrowPairs, representationPairs}
-use Rattle.spec.specs.Action.{TransportAction, structural, acOps, transports, cellPairs, joins}
+use Rattle.spec.specs.Image.{Tables, identityOf, membersOf, childrenOf, NO-IDENTITY}
+use Rattle.spec.specs.Monomial.{Monomial, MonomialPair, monomial, monomialsOf, classes, itself, bothItself, padPair, narrow, narrowPairs, representationPairs}
+use Rattle.spec.specs.Action.{TransportAction, acOps, transports, cellPairs}
+use Rattle.spec.specs.Pairs.{pairs}
 use Rattle.spec.specs.Graph.{build}
 use Rattle.spec.specs.Meaning.{In, here, there}
 use Rattle.laws.specs.Monomials.{Rising, end, more, rising-insert, monomial-rises, Padded, level, left, right, padded}
 use Rattle.laws.specs.Lists as L
-use Rattle.laws.specs.Lists.{in-nil, in-cons, in-append, in-map, map-in, in-right, in-each, length-map, Distinct, none, pigeon}
+use Rattle.laws.specs.Lists.{in-nil, in-cons, in-append, map-in, Distinct, none, pigeon}
 use Rattle.laws.specs.Bag.{each-in, filter-in}
-use Rattle.steps.specs.Graph.{build-closed, build-few}
-use Rattle.steps.specs.Rounds.{Closed}
+use Rattle.steps.specs.Graph.{Closed, build-closed, build-few}
+use Rattle.lgg.specs.Moves.{transport-joins}
 
 -- ---- rows and columns rise
 pick-in : {A : Type 0} (b : Bool) (x y : A) → In y (pick b [] (x ∷ [])) → y ≡ x
@@ -45,15 +46,15 @@ module _ (t : Tables) where
   sides-rise : (l r o : ℕ) (m : MonomialPair) → In m (representationPairs t l r o) → Rising 0 (m .rows) × Rising 0 (m .cols)
   unfolding representationPairs
   sides-rise l r o m i =
-      let (a, j, h) = each-in (λ a. each (pairs a) (monomialsOf t r o)) (monomialsOf t l o) m i in
-      let (b, k, g) = each-in (pairs a) (monomialsOf t r o) m h in
+      let (a, j, h) = each-in (λ a. each (cell a) (monomialsOf t r o)) (monomialsOf t l o) m i in
+      let (b, k, g) = each-in (cell a) (monomialsOf t r o) m h in
       go a b (bothItself l r a b) (monomials-rise l o a j) (monomials-rise r o b k) g
     where
       by : Bool → Monomial → Monomial → List MonomialPair
       by x a b = elim x [ true ↦ [] | false ↦ padPair (identityOf t o) a b ]
 
-      pairs : Monomial → Monomial → List MonomialPair
-      pairs a b = by (bothItself l r a b) a b
+      cell : Monomial → Monomial → List MonomialPair
+      cell a b = by (bothItself l r a b) a b
 
       go : (a b : Monomial) (x : Bool) → Rising 0 a → Rising 0 b → In m (by x a b) → Rising 0 (m .rows) × Rising 0 (m .cols)
       go a b true A B h = absurd (in-nil h)
@@ -105,13 +106,13 @@ grid-once (x ∷ xs) ys (L.more f d) e =
 abbrev pub CellsFit : Limits → Tables → Two → Type 0
 CellsFit lim t p = (a : TransportAction) → In a (transports t (p .0) (p .1)) → length (cellPairs (a .sides)) ≤ lim .pairs
 
-module _ (t : Tables) (ps : List Two) (closed : Closed t ps) (p : Two) (i : In p ps) (a : TransportAction) (h : In a (transports t (p .0) (p .1))) where
+module _ (t : Tables) (ps : List Two) (closed : Closed (pairs t) ps) (p : Two) (i : In p ps) (a : TransportAction) (h : In a (transports t (p .0) (p .1))) where
   pub cells-within : length (cellPairs (a .sides)) ≤ length ps
-  unfolding joins cellPairs
+  unfolding cellPairs
   cells-within =
       let (x, y) = transports-rise t (p .0) (p .1) a h in
       pigeon (cellPairs (a .sides)) ps (grid-once (classes (a .sides .rows)) (classes (a .sides .cols)) (rising-once 0 (a .sides .rows) x) (rising-once 0 (a .sides .cols) y))
-      (λ q j. closed p q i (in-right (each (λ d. d .pairs) (structural t (p .0) (p .1))) (in-each (λ d. cellPairs (d .sides)) (transports t (p .0) (p .1)) a q h j)))
+      (λ q j. closed p q i (transport-joins t p a h q j))
 
 pub cells-few : (lim : Limits) (t : Tables) (root : Two) (b c : ℕ) (ps : List Two) → build lim t root b ≡ ok (passed ps c) → (p : Two) → In p ps → CellsFit lim t p
-cells-few lim t root b c ps e p i a h = omega (arith, cells-within t ps (build-closed lim t root b c ps e) p i a h, build-few lim t root b c ps e)
+cells-few lim t root b c ps e p i a h = omega (arith, cells-within t ps (build-closed (pairs t) (lim .pairs) root b c ps e) p i a h, build-few (pairs t) (lim .pairs) root b c ps e)

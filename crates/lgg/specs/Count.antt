@@ -9,12 +9,13 @@ use lib.ListN.{length, getD}
 use Rattle.spec.specs.Bytes.{each, Two}
 use Rattle.spec.specs.Image.{Tables, Operation, NO-IDENTITY}
 use Rattle.spec.specs.Action.{joins}
+use Rattle.spec.specs.Pairs.{pairs}
 use Rattle.spec.specs.Meaning.{In, here, there, Reachable}
 use Rattle.laws.specs.Lists.{get-in, in-left, in-right, in-map, in-each, pigeon}
 use Rattle.laws.specs.Bag.{span-in}
 use Rattle.lgg.specs.Within.{reachable-in}
 use Rattle.steps.specs.Enter.{grow}
-use Rattle.steps.specs.Graph.{Some, Good, good-start, good-next, good-reach, PairCount}
+use Rattle.steps.specs.Graph.{Some, Good, good-start, good-next, good-reach, NodeCount}
 
 -- the classes at hand
 universe : Tables → Two → List ℕ
@@ -52,20 +53,20 @@ module _ (t : Tables) (root : Two) where
       identity (inl e) = rw e (there (there (there here)))
       identity (inr i) = there (there (there (there (in-right (map (λ c. c .0) (t .children)) i))))
 
-  few : (ps : List Two) → Some t root ps → length ps ≤ length grid
+  few : (ps : List Two) → Some (pairs t) root ps → length ps ≤ length grid
   few ps s = pigeon ps grid (s .once) (λ x i. reachable-grid x (s .reached x i))
 
   -- the work-list without a limit
-  explore : (f i : ℕ) (ps : List Two) → Good t root ps i → length grid < i + f → (qs : List Two) × Good t root qs (length qs)
+  explore : (f i : ℕ) (ps : List Two) → Good (pairs t) root ps i → length grid < i + f → (qs : List Two) × Good (pairs t) root qs (length qs)
   explore zero i ps g h = absurd (omega (arith, few ps (g .some), g .upTo))
   explore (suc f) i ps g h = go (decLt i (length ps)) (λ qs k. explore f (suc i) qs k (omega arith))
     where
-      go : Dec (i < length ps) → ((qs : List Two) → Good t root qs (suc i) → (rs : List Two) × Good t root rs (length rs)) → (rs : List Two) × Good t root rs (length rs)
-      go (yes l) ih = let (qs, d) = grow (joins t (getD ps i (0, 0))) ps in ih qs (good-next t root ps qs i l g d)
+      go : Dec (i < length ps) → ((qs : List Two) → Good (pairs t) root qs (suc i) → (rs : List Two) × Good (pairs t) root rs (length rs)) → (rs : List Two) × Good (pairs t) root rs (length rs)
+      go (yes l) ih = let (qs, d) = grow (pairs t) (joins t (getD ps i (0, 0))) ps in ih qs (good-next (pairs t) root ps qs i l g d)
       go (no l) ih = let e : i ≡ length ps = omega (arith, g .upTo) in (ps, rw e at g)
 
   -- Every query has its number of pairs.
-  pub pair-count : (n : ℕ) × PairCount t root n
+  pub pair-count : (n : ℕ) × NodeCount (pairs t) root n
   pair-count =
-      let (ps, g) = explore (suc (length grid)) 0 (root ∷ []) (good-start t root) (omega arith) in
-      (length ps, (ps, record { once = g .some .once; exactly = λ q. (g .some .reached q, good-reach t root ps g q) }, refl))
+      let (ps, g) = explore (suc (length grid)) 0 (root ∷ []) (good-start (pairs t) root) (omega arith) in
+      (length ps, (ps, record { once = g .some .once; exactly = λ q. (g .some .reached q, good-reach (pairs t) root ps g q) }, refl))

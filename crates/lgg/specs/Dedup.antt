@@ -3,25 +3,29 @@ use mathlib.Core.Path.{_≡_, refl, sym, ap, _∙_, subst}
 use mathlib.Core.Logic.{_⊎_, inl, inr}
 use mathlib.Core.Bool.{Bool, true, false}
 use mathlib.Core.List.{List, [], _∷_, _++_, map}
-use mathlib.Core.Option.{Option, none, some}
 use Prim.Native.Nat.{ℕ, _+_, _*_}
 use native.Mathlib.Omega.{arith}
 use lib.Dec.{eqb}
 use Rattle.spec.specs.Bytes as S
-use Rattle.spec.specs.Bytes.{Limits, each, Two, Res, ok, refused, _>>=_}
+use Rattle.spec.specs.Bytes.{Limits, any, In, here, there, each, Two, Res, ok, refused, _>>=_}
 use Rattle.spec.specs.Image.{Tables, identityOf}
 use Rattle.spec.specs.Monomial.{Monomial, MonomialPair, monomialsOf, padPair, bothItself, representationPairs, narrow, narrowPairs}
 use Rattle.spec.specs.Transport.{planSize, planMass}
 use Rattle.spec.specs.Action.{Action, TransportAction, structural, acOps, transports, cellPairs, joins}
-use Rattle.spec.specs.Graph.{enter, enterAll}
-use Rattle.spec.specs.Round.{qualityOver, ones, ofAction, ofPlan, stay, Turn, offer, offerActions, offerPlan, offerTransports, turnOf}
-use Rattle.spec.specs.Meaning.{In, here, _⊑_}
-use Rattle.laws.specs.Lists.{in-nil, in-cons, in-any}
-use Rattle.steps.specs.Quality.{⊑-refl, ⊑-of-eq, ⊑-trans, two-eq, Total}
-use Rattle.lgg.specs.Turn.{actionQuality, cellQualities, solved, offer-old, offer-new, offer-stays, plan-stays, actions-new, plan-new, transports-new}
-use Rattle.steps.specs.Enter.{Entered, grown, enter-says, starts-in}
+use Rattle.spec.specs.System as system
+use Rattle.spec.specs.System.{System, better, stay, worth, offer, offerAll}
+use Rattle.spec.specs.Pairs.{solvedPlans, offersOf, pairs}
+use Rattle.spec.specs.Graph.{enterAll}
+use Rattle.spec.specs.Round.{ones, Act, ofAction, Turn, turnOf}
+use Rattle.spec.specs.Meaning.{_⊑_}
+use Rattle.laws.specs.Lists.{in-nil, in-cons, in-map, in-each}
 use Rattle.laws.specs.Bag.{Perm, nil, skip, swap, both, perm-in, perm-sym}
+use Rattle.steps.specs.Quality.{⊑-refl, ⊑-of-eq, ⊑-trans, ⊏-⊑, better-is, better-not, two-eq, Total}
+use Rattle.steps.specs.Nodes.{not-in}
+use Rattle.steps.specs.Enter.{Entered, grown, enter-says, starts-in}
+use Rattle.steps.specs.Turn.{all-keep}
 use Rattle.lgg.specs.Repeats.{Fewer, done, keep, drop, Equal, fewer-all, fewer-seen, fewer-append, fewer-in, fewer-each, fewer-map, fewer-filter, fewer-trans}
+use Rattle.lgg.specs.Offers.{all-append, offer-stays, all-stay}
 
 -- ---- the same action twice: by operation and joined pairs, in whatever order (the signature of `dedup_and_insert`)
 pub record Repeats (a b : Action) : Type 0 where
@@ -35,68 +39,58 @@ perm-total q l m (skip x {l = j} {m = k} d) = ap {B = Two} (λ (z : Two). (1 * q
 perm-total q l m (swap x y k) = two-eq (omega arith) (omega arith)
 perm-total q l m (both {m = k} d e) = perm-total q l k d ∙ perm-total q k m e
 
-repeat-quality : (q : Two → Two) (a b : Action) → Repeats a b → actionQuality q a ≡ actionQuality q b
-repeat-quality q a b r = ap {B = Two} (λ (z : Two). (1 + z .0, z .1)) (perm-total q (a .pairs) (b .pairs) (r .pairs))
+repeat-worth : (t : Tables) (q : Two → Two) (a b : Action) → Repeats a b → worth (pairs t) q (ofAction a) ≡ worth (pairs t) q (ofAction b)
+repeat-worth t q a b r = ap {B = Two} (λ (z : Two). (1 + z .0, z .1)) (perm-total q (a .pairs) (b .pairs) (r .pairs))
 
--- ---- offers
--- structural actions
-actions-fewer : (q : Two → Two) (seen l m : List Action) (w : Turn) → ((a : Action) → In a seen → w .quality ⊑ actionQuality q a) → Fewer Repeats seen l m → offerActions q l w ≡ offerActions q m w
-unfolding offerActions
-actions-fewer q seen l m w h done = refl
-actions-fewer q seen l m w h (keep {x = x} {l = j} {m = k} d) =
-    let v = offer q (ofAction x) w in
-    actions-fewer q (x ∷ seen) j k v (λ a i. elim (in-cons i) [ inl e ↦ rw e (offer-new q (ofAction x) w) | inr n ↦ ⊑-trans (v .quality) (w .quality) (actionQuality q a) (offer-old q (ofAction x) w) (h a n) ]) d
-actions-fewer q seen l m w h (drop {x = x} {l = j} y i r d) =
-    rw (offer-stays q (ofAction x) w (⊑-trans (w .quality) (actionQuality q y) (actionQuality q x) (h y i) (⊑-of-eq (repeat-quality q y x r)))) (actions-fewer q seen j m w h d)
+-- ---- offers, over nodes of any kind: what is worth as much as an earlier offer may go
+module _ {N : Type 0} (S : System N) (q : N → Two) where
+  offer-below : (a : system.Act N) (w : system.Turn N) → (offer S q a w .quality ⊑ w .quality) × (offer S q a w .quality ⊑ worth S q a)
+  offer-below a w = go (better (worth S q a) (w .quality)) refl
+    where
+      go : (b : Bool) → better (worth S q a) (w .quality) ≡ b → (offer S q a w .quality ⊑ w .quality) × (offer S q a w .quality ⊑ worth S q a)
+      go true e = rw e (⊏-⊑ {a = worth S q a} {b = w .quality} (better-is (worth S q a) (w .quality) e), ⊑-refl (worth S q a))
+      go false e = rw e (⊑-refl (w .quality), better-not (worth S q a) (w .quality) e)
 
--- transports
-plan-old : (q : Two → Two) (a : TransportAction) (s : Option (List ℕ)) (w : Turn) → offerPlan q a s w .quality ⊑ w .quality
-unfolding offerPlan
-plan-old q a none w = ⊑-refl (w .quality)
-plan-old q a (some x) w = offer-old q (ofPlan a x) w
+  all-below : (l : List (system.Act N)) (w : system.Turn N) (a : system.Act N) → In a l → offerAll S q l w .quality ⊑ worth S q a
+  unfolding offerAll
+  all-below (b ∷ l) w a here = all-keep S q (λ u. u .quality ⊑ worth S q a) (λ c u k. ⊑-trans (offer S q c u .quality) (u .quality) (worth S q a) (offer-below c u .0) k) l (offer S q a w) (offer-below a w .1)
+  all-below (b ∷ l) w a (there i) = all-below l (offer S q b w) a i
 
--- the plan of a is not strictly better than what the turn has
-abbrev Offered : (Two → Two) → Turn → TransportAction → Type 0
-Offered q w a = (x : List ℕ) → solved q a ≡ some x → w .quality ⊑ qualityOver x (cellQualities q a)
-
-transports-fewer : (q : Two → Two) (seen l m : List TransportAction) (w : Turn) → ((a : TransportAction) → In a seen → Offered q w a) → Fewer Equal seen l m → offerTransports q l w ≡ offerTransports q m w
-unfolding offerTransports
-transports-fewer q seen l m w h done = refl
-transports-fewer q seen l m w h (keep {x = a} {l = j} {m = k} d) = transports-fewer q (a ∷ seen) j k v (λ b i. new b (in-cons i)) d
-  where
-    v : Turn
-    v = offerPlan q a (solved q a) w
-
-    new : (b : TransportAction) → (b ≡ a) ⊎ In b seen → Offered q v b
-    new b (inl e) = subst (λ c. Offered q v c) (sym e) (λ x z. plan-new q a (solved q a) w x z)
-    new b (inr i) = λ x z. ⊑-trans (v .quality) (w .quality) (qualityOver x (cellQualities q b)) (plan-old q a (solved q a) w) (h b i x z)
-transports-fewer q seen l m w h (drop {x = a} {l = j} y i e d) = rw (plan-stays q a (solved q a) w (subst (λ c. Offered q w c) e (h y i))) (transports-fewer q seen j m w h d)
+  module _ {R : system.Act N → system.Act N → Type 0} (alike : (a b : system.Act N) → R a b → worth S q a ≡ worth S q b) where
+    all-fewer : (seen l m : List (system.Act N)) (w : system.Turn N) → ((a : system.Act N) → In a seen → w .quality ⊑ worth S q a) → Fewer R seen l m → offerAll S q l w ≡ offerAll S q m w
+    unfolding offerAll
+    all-fewer seen l m w h done = refl
+    all-fewer seen l m w h (keep {x = x} {l = j} {m = k} d) =
+        let v = offer S q x w in
+        all-fewer (x ∷ seen) j k v (λ a i. elim (in-cons i) [ inl e ↦ rw e (offer-below x w .1) | inr n ↦ ⊑-trans (v .quality) (w .quality) (worth S q a) (offer-below x w .0) (h a n) ]) d
+    all-fewer seen l m w h (drop {x = x} {l = j} y i r d) = rw (offer-stays S q x w (⊑-trans (w .quality) (worth S q y) (worth S q x) (h y i) (⊑-of-eq (alike y x r)))) (all-fewer seen j m w h d)
 
 -- An action offered again, in whatever order of its pairs, leaves the turn as it is; so does a transport.
-pub action-again : (q : Two → Two) (l : List Action) (w : Turn) (a b : Action) → In a l → Repeats a b → offerActions q (b ∷ []) (offerActions q l w) ≡ offerActions q l w
-unfolding offerActions
-action-again q l w a b i r =
-    let v = offerActions q l w in
-    offer-stays q (ofAction b) v (⊑-trans (v .quality) (actionQuality q a) (actionQuality q b) (actions-new q l w a i) (⊑-of-eq (repeat-quality q a b r)))
+pub action-again : (t : Tables) (q : Two → Two) (l : List Action) (w : Turn) (a b : Action) → In a l → Repeats a b → offerAll (pairs t) q (map ofAction (b ∷ [])) (offerAll (pairs t) q (map ofAction l) w) ≡ offerAll (pairs t) q (map ofAction l) w
+unfolding offerAll
+action-again t q l w a b i r =
+    let v = offerAll (pairs t) q (map ofAction l) w in
+    offer-stays (pairs t) q (ofAction b) v (⊑-trans (v .quality) (worth (pairs t) q (ofAction a)) (worth (pairs t) q (ofAction b)) (all-below (pairs t) q (map ofAction l) w (ofAction a) (in-map ofAction i)) (⊑-of-eq (repeat-worth t q a b r)))
 
-pub transport-again : (q : Two → Two) (l : List TransportAction) (w : Turn) (a : TransportAction) → In a l → offerTransports q (a ∷ []) (offerTransports q l w) ≡ offerTransports q l w
-unfolding offerTransports
-transport-again q l w a i = plan-stays q a (solved q a) (offerTransports q l w) (λ x e. transports-new q l w a i x e)
+pub transport-again : (t : Tables) (q : Two → Two) (l : List TransportAction) (w : Turn) (a : TransportAction) → In a l
+    → offerAll (pairs t) q (solvedPlans q a) (offerAll (pairs t) q (each (solvedPlans q) l) w) ≡ offerAll (pairs t) q (each (solvedPlans q) l) w
+transport-again t q l w a i = all-stay (pairs t) q (solvedPlans q a) (offerAll (pairs t) q (each (solvedPlans q) l) w) (λ b j. all-below (pairs t) q (each (solvedPlans q) l) w b (in-each (solvedPlans q) l a b i j))
 
--- ---- entering pairs
-enter-again : (lim : Limits) (ps : List Two) (p : Two) → In p ps → enter lim ps p ≡ ok ps
-unfolding enter
-enter-again lim ps p i = rw (in-any p ps i) refl
-
-enterAll-fewer : (lim : Limits) (seen l m ps : List Two) → ((x : Two) → In x seen → In x ps) → Fewer Equal seen l m → enterAll lim ps l ≡ enterAll lim ps m
-unfolding enterAll
-enterAll-fewer lim seen l m ps h done = refl
-enterAll-fewer lim seen l m ps h (keep {x = x} {l = j} {m = k} d) = go (enter lim ps x) (enter-says lim ps x) (λ qs g. enterAll-fewer lim (x ∷ seen) j k qs g d)
+-- ---- entering nodes of any kind
+enterAll-fewer : {N : Type 0} (S : System N) (lim : ℕ) (seen l m ps : List N) → ((x : N) → In x seen → In x ps) → Fewer Equal seen l m → system.enterAll (S .same) lim ps l ≡ system.enterAll (S .same) lim ps m
+unfolding system.enterAll system.enter
+enterAll-fewer S lim seen l m ps h done = refl
+enterAll-fewer {N = N} S lim seen l m ps h (keep {x = x} {l = j} {m = k} d) = go (system.enter (S .same) lim ps x) (enter-says S lim ps x) (λ qs g. enterAll-fewer S lim (x ∷ seen) j k qs g d)
   where
-    go : (r : Res (List Two)) → Entered lim ps (x ∷ []) r → ((qs : List Two) → ((z : Two) → In z (x ∷ seen) → In z qs) → enterAll lim qs j ≡ enterAll lim qs k) → (r >>= λ qs. enterAll lim qs j) ≡ (r >>= λ qs. enterAll lim qs k)
+    go : (r : Res (List N)) → Entered lim ps (x ∷ []) r → ((qs : List N) → ((z : N) → In z (x ∷ seen) → In z qs) → system.enterAll (S .same) lim qs j ≡ system.enterAll (S .same) lim qs k)
+        → (r >>= λ qs. system.enterAll (S .same) lim qs j) ≡ (r >>= λ qs. system.enterAll (S .same) lim qs k)
     go (ok qs) (grown g f) ih = ih qs (λ z i. elim (in-cons i) [ inl e ↦ rw e (g .all x here) | inr n ↦ starts-in ps qs z (g .starts) (h z n) ])
     go (refused n) e ih = refl
-enterAll-fewer lim seen l m ps h (drop {x = x} {l = j} y i e d) = rw (enter-again lim ps x (rw e at (h y i))) (enterAll-fewer lim seen j m ps h d)
+enterAll-fewer S lim seen l m ps h (drop {x = x} {l = j} y i e d) = rw (again (any (S .same x) ps) refl) (enterAll-fewer S lim seen j m ps h d)
+  where
+    again : (b : Bool) → any (S .same x) ps ≡ b → any (S .same x) ps ≡ true
+    again true f = f
+    again false f = absurd (not-in S x ps f (rw e at (h y i)))
 
 still : {A : Type 0} {z : A} {m : List A} → In z m ⊎ In z [] → In z m
 still (inl i) = i
@@ -106,19 +100,30 @@ still (inr i) = absurd (in-nil i)
 -- A turn without the repeats of actions ends as the turn with them: the same quality by the same choice.
 pub turn-without-repeats : (t : Tables) (q : Two → Two) (p : Two) (l : List Action) (m : List TransportAction)
     → Fewer Repeats [] (structural t (p .0) (p .1)) l → Fewer Equal [] (transports t (p .0) (p .1)) m
-    → offerTransports q m (offerActions q l (record { quality = q p; choice = stay })) ≡ turnOf t q p
-unfolding turnOf
+    → offerAll (pairs t) q (map ofAction l ++ each (solvedPlans q) m) (record { quality = q p; choice = stay }) ≡ turnOf t q p
+unfolding system.turnOf offersOf
 turn-without-repeats t q p l m d e =
-    let w : Turn = record { quality = q p; choice = stay } in
-    ap (λ (z : Turn). offerTransports q m z) (sym (actions-fewer q [] (structural t (p .0) (p .1)) l w (λ a i. absurd (in-nil i)) d))
-    ∙ sym (transports-fewer q [] (transports t (p .0) (p .1)) m (offerActions q (structural t (p .0) (p .1)) w) (λ a i. absurd (in-nil i)) e)
+    all-append S q (map ofAction l) (plans m) w
+    ∙ ap (offerAll S q (plans m)) (sym (all-fewer S q {R = λ a b. worth S q a ≡ worth S q b} (λ a b r. r) [] (map ofAction (structural t (p .0) (p .1))) (map ofAction l) w (λ a i. absurd (in-nil i)) (fewer-map ofAction (repeat-worth t q) [] (structural t (p .0) (p .1)) l d)))
+    ∙ sym (all-append S q (map ofAction (structural t (p .0) (p .1))) (plans (transports t (p .0) (p .1))) w
+    ∙ all-fewer S q {R = Equal} (λ a b r. ap (worth S q) r) [] (plans (transports t (p .0) (p .1))) (plans m) (offerAll S q (map ofAction (structural t (p .0) (p .1))) w) (λ a i. absurd (in-nil i))
+    (fewer-each (solvedPlans q) (solvedPlans q) [] [] (transports t (p .0) (p .1)) m (λ a s. fewer-all (solvedPlans q a) s) (λ y x r z i. subst (λ a. In z (solvedPlans q a)) (sym r) i) (λ y i. absurd (in-nil i)) e))
+  where
+    S : System Two
+    S = pairs t
+
+    w : Turn
+    w = record { quality = q p; choice = stay }
+
+    plans : List TransportAction → List Act
+    plans l = each (solvedPlans q) l
 
 -- And the pairs that they join are entered as before, in the same order.
 pub joins-without-repeats : (lim : Limits) (t : Tables) (p : Two) (ps : List Two) (l : List Action) (m : List TransportAction)
     → Fewer Repeats [] (structural t (p .0) (p .1)) l → Fewer Equal [] (transports t (p .0) (p .1)) m
     → enterAll lim ps (each (λ a. a .pairs) l ++ each (λ a. cellPairs (a .sides)) m) ≡ enterAll lim ps (joins t p)
 unfolding joins
-joins-without-repeats lim t p ps l m d e = sym (enterAll-fewer lim [] (joins t p) (kept ++ each cells m) ps (λ x i. absurd (in-nil i)) (fewer-append [] (each (λ a. a .pairs) (structural t (p .0) (p .1))) kept (each cells (transports t (p .0) (p .1))) (each cells m) first second))
+joins-without-repeats lim t p ps l m d e = sym (enterAll-fewer (pairs t) (lim .pairs) [] (joins t p) (kept ++ each cells m) ps (λ x i. absurd (in-nil i)) (fewer-append [] (each (λ a. a .pairs) (structural t (p .0) (p .1))) kept (each cells (transports t (p .0) (p .1))) (each cells m) first second))
   where
     cells : TransportAction → List Two
     cells a = cellPairs (a .sides)
@@ -161,7 +166,7 @@ transports-without-repeats t l r ls rs ms d e f = go (eqb l r)
     make o l = map (λ m. record { op = o; sides = m }) (narrowPairs l)
 
     made : (o : ℕ) → Fewer Equal [] (make o (representationPairs t l r o)) (make o (ms o))
-    made o = fewer-map (λ m. record { op = o; sides = m }) [] (narrowPairs (representationPairs t l r o)) (narrowPairs (ms o)) (fewer-filter (λ p. S.both (narrow (p .rows)) (narrow (p .cols))) [] [] (representationPairs t l r o) (ms o) (λ x i. absurd (in-nil i)) (sides o))
+    made o = fewer-map (λ m. record { op = o; sides = m }) (λ y x e. ap (λ (m : MonomialPair). record { op = o; sides = m }) e) [] (narrowPairs (representationPairs t l r o)) (narrowPairs (ms o)) (fewer-filter (λ p. S.both (narrow (p .rows)) (narrow (p .cols))) [] [] (representationPairs t l r o) (ms o) (λ x i. absurd (in-nil i)) (sides o))
 
     go : (b : Bool) → Fewer {A = TransportAction} Equal [] (elim b [ true ↦ [] | false ↦ each (λ o. make o (representationPairs t l r o)) (acOps t l r) ]) (elim b [ true ↦ [] | false ↦ each (λ o. make o (ms o)) (acOps t l r) ])
     go true = done

@@ -1,15 +1,12 @@
-pub mod Limits
+pub mod Offers
+pub mod Moves
 pub mod Cells
-pub mod Turn
 pub mod Repeats
 pub mod Dedup
 pub mod Within
 pub mod BagPlan
-pub mod TurnAgree
-pub mod TurnAgain
 pub mod Parts
 pub mod TurnBounds
 pub mod TurnPlaces
 pub mod TurnRead
 pub mod Count
-pub mod Transport

@@ -12,6 +12,7 @@ use Rattle.spec.specs.Bytes.{pick, both, any, each, Two}
 use Rattle.spec.specs.Image.{Tables, Operation, Member, arities, SPair, NO-IDENTITY, kindOf, membersOf, childrenOf}
 use Rattle.spec.specs.Monomial.{classes}
 use Rattle.spec.specs.Action.{joins}
+use Rattle.spec.specs.Pairs.{pairs}
 use Rattle.spec.specs.Round.{stay, turnOf}
 use Rattle.spec.specs.Meaning.{In, here, there}
 use Rattle.laws.specs.Valid.{Valid}
@@ -19,7 +20,8 @@ use Rattle.laws.specs.AcceptedLists.{in-at}
 use Rattle.laws.specs.Lists.{in-nil, in-left, in-right, in-map, in-each, any-none, length-map}
 use Rattle.laws.specs.BestMembers.{member-arity}
 use Rattle.lgg.specs.Within.{Over, joins-in}
-use Rattle.lgg.specs.TurnAgain.{turn-again}
+use Rattle.lgg.specs.Offers.{turn-again}
+use Rattle.lgg.specs.Moves.{pair-reads}
 
 -- the identity of an operation, where it has one
 abbrev pub identityIn : Operation → List ℕ
@@ -91,7 +93,7 @@ pub stays : (t : Tables) → Valid t → (left right : ℕ → Bool) (q q′ : T
     → ((x : Two) → In x (joins t p) → both (left (x .0)) (right (x .1)) ≡ false → q′ x ≡ q x)
     → both (any left (partsOf t (p .0))) (any right (partsOf t (p .1))) ≡ false
     → turnOf t q′ p ≡ record { quality = q′ p; choice = stay }
-stays t v left right q q′ p e h n = turn-again t q p q′ e (λ x i. h x i (unmarked x i))
+stays t v left right q q′ p e h n = turn-again (pairs t) (pair-reads t) q q′ p e (λ x i. h x i (unmarked x i))
   where
     unmarked : (x : Two) → In x (joins t p) → both (left (x .0)) (right (x .1)) ≡ false
     unmarked x i =

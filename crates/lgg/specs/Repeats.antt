@@ -74,10 +74,10 @@ module _ {A B : Type 0} {R : A → A → Type 0} where
       (fewer-each f g (x ∷ seen) (g x ++ old) l′ m′ h k (λ y i z j. elim (in-cons i) [ inl e ↦ in-left old (rw e at j) | inr i′ ↦ in-right (g x) (s y i′ z j) ]) d)
   fewer-each f g seen old l m h k s (drop {x = x} {l = l′} y i r d) = fewer-gone old (f x) (each f l′) (each g m) (λ z j. s y i z (k y x r z j)) (fewer-each f g seen old l′ m h k s d)
 
-pub fewer-map : {A B : Type 0} (f : A → B) (seen l m : List A) → Fewer Equal seen l m → Fewer Equal (map f seen) (map f l) (map f m)
-fewer-map f seen l m done = done
-fewer-map f seen l m (keep {x = x} {l = l′} {m = m′} d) = keep (fewer-map f (x ∷ seen) l′ m′ d)
-fewer-map f seen l m (drop {l = l′} y i e d) = drop (f y) (in-map f i) (ap f e) (fewer-map f seen l′ m d)
+pub fewer-map : {A B : Type 0} {R : A → A → Type 0} {Q : B → B → Type 0} (f : A → B) → ((y x : A) → R y x → Q (f y) (f x)) → (seen l m : List A) → Fewer R seen l m → Fewer Q (map f seen) (map f l) (map f m)
+fewer-map f h seen l m done = done
+fewer-map f h seen l m (keep {x = x} {l = l′} {m = m′} d) = keep (fewer-map f h (x ∷ seen) l′ m′ d)
+fewer-map f h seen l m (drop {x = x} {l = l′} y i r d) = drop (f y) (in-map f i) (h y x r) (fewer-map f h seen l′ m d)
 
 pub fewer-filter : {A : Type 0} (f : A → Bool) (seen old l m : List A) → ((x : A) → In x seen → f x ≡ true → In x old) → Fewer Equal seen l m → Fewer Equal old (filter f l) (filter f m)
 unfolding filter

@@ -1,9 +1,9 @@
--- What a turn's choice names: places that the pair joins, a count for each, an operation of the image; and the choice's term reads the terms of these places alone.
-use mathlib.Core.Path.{_≡_, refl, sym, ap, ap₂, _∙_}
+-- What a turn's choice names: places that the pair joins, a count for each, an operation of the image.
+use mathlib.Core.Path.{_≡_, refl, sym, ap₂, _∙_}
 use mathlib.Core.Logic.{_⊎_, inl, inr}
 use mathlib.Core.Bool.{Bool, true, false}
 use mathlib.Core.List.{List, [], _∷_, map}
-use mathlib.Core.Option.{Option, none, some}
+use mathlib.Core.Option.{some}
 use Prim.Native.Nat.{ℕ, zero, suc, _+_, _*_, _-_, _≤_, _<_, max}
 use native.Mathlib.Nat.{mul-le-mul}
 use native.Mathlib.Decide.{decLt}
@@ -11,14 +11,14 @@ use native.Mathlib.Omega.{arith}
 use lib.Dec.{ltb, leb, eqb}
 use borrow.Author.Tests.{leb-true}
 use lib.ListN.{length, getD, drop, length-take, length-append, List·getD-eq-default}
-use Rattle.spec.specs.Bytes.{Limits, pick, both, either, all, each, filter, upFrom, Two}
+use Rattle.spec.specs.Bytes.{pick, both, either, all, each, filter, upFrom, Two}
 use Rattle.spec.specs.Image.{Tables, Member, SPair, Lit, NO-IDENTITY, isAC, kindOf, identityOf, membersOf, childrenOf, theMember}
 use Rattle.spec.specs.Monomial.{Monomial, MonomialPair, insertAdd, addAll, monomial, classes, counts, itself, monomialsOf, padPair, bothItself, representationPairs, COUNT, narrow, narrowPairs}
 use Rattle.spec.specs.Transport.{solveCells, rowFlow}
 use Rattle.spec.specs.Action.{Action, TransportAction, zip, byPosition, straightAndCrossed, alignments, alignMembers, structural, acOps, transports, cellPairs, joins}
-use Rattle.spec.specs.Pool.{Pool}
-use Rattle.spec.specs.Round.{better, ones, problemOver, Act, ofAction, ofPlan, worth, Choice, stay, act, Turn, offer, offerActions, offerPlan, offerTransports, turnOf, planRuns, actionTerm, choiceTerm}
-use Rattle.spec.specs.Meaning.{In, here, there, Plan}
+use Rattle.spec.specs.Pairs.{pairs}
+use Rattle.spec.specs.Round.{ones, problemOver, Act, ofAction, ofPlan, act, turnOf}
+use Rattle.spec.specs.Meaning.{In, Plan}
 use Rattle.laws.specs.Tests.{both-true, clash}
 use Rattle.laws.specs.Valid.{Valid}
 use Rattle.laws.specs.Monomials.{Padded, level, left, right, padded}
@@ -28,51 +28,20 @@ use Rattle.flow.specs.Theorems.{margins}
 use Rattle.laws.specs.Lists.{in-nil, in-cons, in-append, map-in, length-map}
 use Rattle.laws.specs.Bag.{each-in, filter-in}
 use Rattle.laws.specs.BestMembers.{member-number}
-use Rattle.lgg.specs.TurnAgree.{action-joins, transport-joins}
+use Rattle.lgg.specs.Offers as offers
+use Rattle.lgg.specs.Offers.{turn-chosen}
+use Rattle.lgg.specs.Moves.{each-offer, action-joins, transport-joins, pair-reads}
 
 -- ---- a turn's choice is one of its actions
 module _ (P : Act → Type 0) where
-  -- P holds of what the turn chose, if anything
-  abbrev ChosenAs : Turn → Type 0
-  ChosenAs w = (a : Act) → w .choice ≡ act a → P a
-
-  act-as : (a : Act) → P a → (b : Act) → act a ≡ act b → P b
-  act-as a h b e = let z : a ≡ b = cc in rw (← z) h
-
-  offer-as : (q : Two → Two) (a : Act) (w : Turn) → P a → ChosenAs w → ChosenAs (offer q a w)
-  offer-as q a w h k = go (better (worth q a) (w .quality))
-    where
-      go : (b : Bool) → ChosenAs (pick b (record { quality = worth q a; choice = act a }) w)
-      go true = act-as a h
-      go false = k
-
-  actions-as : (q : Two → Two) (l : List Action) (w : Turn) → ((a : Action) → In a l → P (ofAction a)) → ChosenAs w → ChosenAs (offerActions q l w)
-  unfolding offerActions
-  actions-as q [] w h k = k
-  actions-as q (a ∷ l) w h k = actions-as q l _ (λ b i. h b (there i)) (offer-as q (ofAction a) w (h a here) k)
-
-  plan-as : (q : Two → Two) (a : TransportAction) (s : Option (List ℕ)) (w : Turn) → ((x : List ℕ) → s ≡ some x → P (ofPlan a x)) → ChosenAs w → ChosenAs (offerPlan q a s w)
-  unfolding offerPlan
-  plan-as q a none w h k = k
-  plan-as q a (some x) w h k = offer-as q (ofPlan a x) w (h x refl) k
-
-  transports-as : (q : Two → Two) (l : List TransportAction) (w : Turn)
-      → ((a : TransportAction) → In a l → (x : List ℕ) → solveCells (problemOver a (map q (cellPairs (a .sides)))) ≡ some x → P (ofPlan a x)) → ChosenAs w → ChosenAs (offerTransports q l w)
-  unfolding offerTransports
-  transports-as q [] w h k = k
-  transports-as q (a ∷ l) w h k = transports-as q l _ (λ b i. h b (there i)) (plan-as q a _ w (h a here) k)
-
   pub turn-choice : (t : Tables) (q : Two → Two) (p : Two) → ((a : Action) → In a (structural t (p .0) (p .1)) → P (ofAction a))
       → ((a : TransportAction) → In a (transports t (p .0) (p .1)) → (x : List ℕ) → solveCells (problemOver a (map q (cellPairs (a .sides)))) ≡ some x → P (ofPlan a x))
       → (a : Act) → turnOf t q p .choice ≡ act a → P a
-  unfolding turnOf
-  turn-choice t q p f g =
-      transports-as q (transports t (p .0) (p .1)) _ g
-      (actions-as q (structural t (p .0) (p .1)) (record { quality = q p; choice = stay }) f (λ a e. absurd (let z : _≡_ {A = ℕ} 0 1 = cc in omega arith)))
+  turn-choice t q p f g a e = each-offer P t q p f g a (turn-chosen (pairs t) q p a e)
 
 -- the places that a turn chose are joined
 pub choice-joins : (t : Tables) (q : Two → Two) (p : Two) (a : Act) → turnOf t q p .choice ≡ act a → (c : Two) → In c (a .places) → In c (joins t p)
-choice-joins t q p = turn-choice (λ a. (c : Two) → In c (a .places) → In c (joins t p)) t q p (λ a i. action-joins t p a i) (λ a i x e. transport-joins t p a i)
+choice-joins t = offers.choice-joins (pairs t) (pair-reads t)
 
 -- ---- what the actions of a pair are made of
 zip-length : (xs ys : List ℕ) → length (zip xs ys) ≤ length xs
@@ -295,27 +264,3 @@ module _ (t : Tables) (v : Valid t) where
         operation = M .operation;
         few = omega (arith, cells-length (a .sides), mul-le-mul {n₁ = length (a .sides .rows)} {m₁ = length (a .sides .cols)} {n₂ = 65} {m₂ = 65} (M .fewRows) (M .fewColumns));
       })
-
--- ---- the term of a choice
-runs-agree : (of of′ : Two → ℕ) (ps : List Two) (x : List ℕ) → ((y : Two) → In y ps → of y ≡ of′ y) → planRuns of ps x ≡ planRuns of′ ps x
-unfolding planRuns
-runs-agree of of′ [] x h = refl
-runs-agree of of′ (p ∷ ps) [] h = refl
-runs-agree of of′ (p ∷ ps) (n ∷ x) h =
-    ap₂ (λ (a : ℕ) (l : List Two). elim (eqb n 0) [ true ↦ l | false ↦ (a, n) ∷ l ]) (h p here) (runs-agree of of′ ps x (λ y i. h y (there i)))
-
--- it reads the terms of the places alone
-pub choice-agree : (lim : Limits) (t : Tables) (of of′ : Two → ℕ) (pool : Pool) (old : ℕ) (a : Act) → ((y : Two) → In y (a .places) → of y ≡ of′ y)
-    → choiceTerm lim t of pool old (act a) ≡ choiceTerm lim t of′ pool old (act a)
-unfolding choiceTerm
-choice-agree lim t of of′ pool old a h = ap (λ (l : List Two). actionTerm lim t pool (a .op) l) (runs-agree of of′ (a .places) (a .counts) h)
-
--- so a turn's term reads the terms of its own pair and of the pairs that it joins
-pub turn-term-agree : (lim : Limits) (t : Tables) (q : Two → Two) (of of′ : Two → ℕ) (pool : Pool) (p : Two) → of p ≡ of′ p → ((c : Two) → In c (joins t p) → of c ≡ of′ c)
-    → choiceTerm lim t of pool (of p) (turnOf t q p .choice) ≡ choiceTerm lim t of′ pool (of′ p) (turnOf t q p .choice)
-unfolding choiceTerm
-turn-term-agree lim t q of of′ pool p e h = rw e (go (turnOf t q p .choice) refl)
-  where
-    go : (c : Choice) → turnOf t q p .choice ≡ c → choiceTerm lim t of pool (of′ p) c ≡ choiceTerm lim t of′ pool (of′ p) c
-    go stay z = refl
-    go (act a) z = choice-agree lim t of of′ pool (of′ p) a (λ c i. h c (choice-joins t q p a z c i))
