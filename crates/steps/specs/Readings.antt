@@ -17,7 +17,7 @@ use Rattle.pools.specs.Pool.{PoolValid, empty-valid}
 use Rattle.pools.specs.PoolIntern.{Extends, extends-refl, extends-trans, extends-within, extends-tree}
 use Rattle.steps.specs.Enter.{Starts}
 use Rattle.steps.specs.Graph.{Whole, build-whole, build-first}
-use Rattle.steps.specs.Turn.{Inside, Chosen, stayed, acted, turn-chosen}
+use Rattle.steps.specs.Turn.{Inside, Chosen, stayed, acted, turn-says}
 
 -- ---- a term for each node of a list, with its quality
 module _ {N : Type 0} (Good : N → Two → Term → Type 0) where
@@ -116,7 +116,7 @@ module _ {N : Type 0} (S : System N) (M : Making N) (Okay : N → Type 0) (Good 
   turns-done q of (p ∷ ps) zero pool r left u h e = let z : _≡_ {A = ℕ} 0 1 = cc in absurd (omega arith)
   turns-done q of (p ∷ ps) (suc b) pool r left u h e =
       done-step pool p (turnOf S q p .quality) ps (map (λ w. w .quality) (map (turnOf S q) ps)) (choiceTerm M of pool (of p) (turnOf S q p .choice)) (λ next. turnsTerms M of ps (map (turnOf S q) ps) b next) r left
-      (λ a k. choice-made pool p q of (turnOf S q p) a u (turn-chosen S q p) (h p here .0) (h p here .1) k)
+      (λ a k. choice-made pool p q of (turnOf S q p) a u (turn-says S q p) (h p here .0) (h p here .1) k)
       (λ a s A k. turns-done q of ps b (a .pool) s left (A .valid) (λ c i. (later (A .grown) c (h c (there i) .0), λ d j. later (A .grown) d (h c (there i) .1 d j))) k)
       e
     where
