@@ -5,3 +5,4 @@ pub mod ReadingsActions
 pub mod ReadingsWithin
 pub mod ReadingsMade
 pub mod Readings
+pub mod Stands
