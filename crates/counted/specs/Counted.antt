@@ -9,6 +9,7 @@ use lib.ListN.{length}
 use Rattle.spec.specs.Bytes.{pick, both, sum, Two}
 use Rattle.spec.specs.Image.{Tables, Lit, kindOf, isCommutative, bestSize, bestMember, childrenOf}
 use Rattle.spec.specs.Pool.{Order, isGreater}
+use Rattle.spec.specs.Pairs.{pairs}
 use Rattle.spec.specs.Round.{Choice, stay, act, turnOf}
 use Rattle.spec.specs.Meaning.{In, Term, lit, node, variants, Runs, done, run}
 use Rattle.laws.specs.Lists.{Distinct}
@@ -21,13 +22,13 @@ unfoldable mutual
   pub sameTree : Term → Term → Bool
   sameTree (lit o v) (lit p w) = both (eqb o p) (eqb v w)
   sameTree (lit o v) (node p s) = false
-  sameTree (lit o v) (variants c d) = false
+  sameTree (lit o v) (variants s) = false
   sameTree (node o r) (lit p w) = false
   sameTree (node o r) (node p s) = both (eqb o p) (sameRuns r s)
-  sameTree (node o r) (variants c d) = false
-  sameTree (variants a b) (lit p w) = false
-  sameTree (variants a b) (node p s) = false
-  sameTree (variants a b) (variants c d) = both (sameTree a c) (sameTree b d)
+  sameTree (node o r) (variants s) = false
+  sameTree (variants r) (lit p w) = false
+  sameTree (variants r) (node p s) = false
+  sameTree (variants r) (variants s) = sameRuns r s
 
   pub sameRuns : Runs → Runs → Bool
   sameRuns done done = true
@@ -50,19 +51,19 @@ unfoldable pub runsIn : Runs → ℕ
 runsIn done = 0
 runsIn (run a n r) = suc (runsIn r)
 
--- the runs of a term; a marked place has its two branches, joined where they are the same
+-- the runs of a term
 unfoldable pub treeRuns : Term → ℕ
-unfolding runsIn joinTrees
+unfolding runsIn
 treeRuns (lit o v) = 0
 treeRuns (node o r) = runsIn r
-treeRuns (variants a b) = runsIn (joinTrees (run a 1 (run b 1 done)))
+treeRuns (variants r) = runsIn r
 
 -- ---- "`structural_cmp`", with fuel above the depth: the number of places in the tree
 unfoldable mutual
   pub places : Term → ℕ
   places (lit o v) = 1
   places (node o r) = suc (placesIn r)
-  places (variants a b) = suc (places a + places b)
+  places (variants r) = suc (placesIn r)
 
   pub placesIn : Runs → ℕ
   placesIn done = 0
@@ -99,8 +100,12 @@ abbrev pub bestTree : Tables → ℕ → Term
 bestTree t c = bestTreeIn (bestSize t c) t c
 
 -- ---- "Starting term: the best term of one class; or the marked place Variants of two best terms"
+-- a marked place has its two branches, joined where they are the same
+abbrev pub markedTree : Term → Term → Term
+markedTree a b = variants (joinTrees (run a 1 (run b 1 done)))
+
 abbrev pub startingTree : Tables → Two → Term
-startingTree t p = pick (eqb (p .0) (p .1)) (bestTree t (p .0)) (variants (bestTree t (p .0)) (bestTree t (p .1)))
+startingTree t p = pick (eqb (p .0) (p .1)) (bestTree t (p .0)) (markedTree (bestTree t (p .0)) (bestTree t (p .1)))
 
 -- ---- the term that a turn's choice builds over the terms `of` the pairs that it joins
 unfoldable pub planTrees : (Two → Term) → List Two → List ℕ → Runs
@@ -117,11 +122,11 @@ choiceTree t of old (act a) = let l = planTrees of (a .places) (a .counts) in no
 unfoldable pub termAfter : Tables → List Two → ℕ → Two → Term
 unfolding bestTreeIn choiceTree
 termAfter t ps zero p = startingTree t p
-termAfter t ps (suc r) p = choiceTree t (termAfter t ps r) (termAfter t ps r p) (turnOf t (qualityAfter t ps r) p .choice)
+termAfter t ps (suc r) p = choiceTree t (termAfter t ps r) (termAfter t ps r p) (turnOf t (qualityAfter (pairs t) ps r) p .choice)
 
 -- pair p is improved in the round with index k, counted from 0
 abbrev pub Improved : Tables → List Two → ℕ → Two → Type 0
-Improved t ps k p = qualityAfter t ps (suc k) p ⊏ qualityAfter t ps k p
+Improved t ps k p = qualityAfter (pairs t) ps (suc k) p ⊏ qualityAfter (pairs t) ps k p
 
 -- With n pairs and b checks the round with index k is begun: n checks for building, n for starting terms, n + 1 for each round before it, and one for its start have passed.
 abbrev pub Begun : ℕ → ℕ → ℕ → Type 0

@@ -10,19 +10,20 @@ use lib.Dec.{eqb}
 use lib.ListN.{length, length-append}
 use Rattle.spec.specs.Bytes.{pick, each, upFrom, sum, Two}
 use Rattle.spec.specs.Image.{Tables, Lit, kindOf, bestMember, childrenOf}
+use Rattle.spec.specs.Pairs.{pairs}
 use Rattle.spec.specs.Round.{Act, Choice, stay, act, changes, Turn, turnOf}
-use Rattle.spec.specs.Meaning.{In, here, there, Term, lit, node, variants, Runs}
+use Rattle.spec.specs.Meaning.{In, here, there, Term, lit, node, Runs}
 use Rattle.laws.specs.Tests.{clash}
 use Rattle.laws.specs.Valid.{Valid}
 use Rattle.laws.specs.Buffers.{up-length}
 use Rattle.flow.specs.Queue.{upFrom-in}
 use Rattle.laws.specs.Lists.{in-cons, in-nil, in-map, in-each, length-map, Distinct, none, more, pigeon}
 use Rattle.steps.specs.Quality.{⊏-not, ⊑-of-eq}
-use Rattle.lgg.specs.Turn.{Told, turn-told}
+use Rattle.steps.specs.Turn.{Told, turn-told}
 use Rattle.lgg.specs.TurnPlaces.{children-few}
 use Rattle.steps.specs.Rounds.{qualityAfter, q-next}
 use Rattle.laws.specs.BestMembers.{IsClass, IsPair, best-in}
-use Rattle.counted.specs.Counted.{joinTrees, treeRuns, childTrees, bestTree, startingTree, termAfter, Improved, Begun, Counted, best, starting, final, Beyond}
+use Rattle.counted.specs.Counted.{joinTrees, treeRuns, childTrees, bestTree, markedTree, startingTree, termAfter, Improved, Begun, Counted, best, starting, final, Beyond}
 use Rattle.counted.specs.CountedRuns.{join-runs, child-runs, marked-runs, choice-places}
 use Rattle.counted.specs.CountedPool.{best-tree}
 
@@ -42,27 +43,27 @@ best-runs t v c h = rw (best-tree t v c h) (go (eqb (kindOf t (bestMember t c .o
 pub starting-runs : (t : Tables) → Valid t → (p : Two) → IsPair t p → treeRuns (startingTree t p) ≤ 64
 starting-runs t v p (h, k) = go (eqb (p .0) (p .1))
   where
-    go : (y : Bool) → treeRuns (pick y (bestTree t (p .0)) (variants (bestTree t (p .0)) (bestTree t (p .1)))) ≤ 64
+    go : (y : Bool) → treeRuns (pick y (bestTree t (p .0)) (markedTree (bestTree t (p .0)) (bestTree t (p .1)))) ≤ 64
     go true = best-runs t v (p .0) h
     go false = omega (arith, marked-runs (bestTree t (p .0)) (bestTree t (p .1)))
 
 -- an improved pair's turn chose an action
-improved-acts : (t : Tables) (ps : List Two) (k : ℕ) (p : Two) → In p ps → Improved t ps k p → (a : Act) × (turnOf t (qualityAfter t ps k) p .choice ≡ act a)
-improved-acts t ps k p i m = go (turn-told t (qualityAfter t ps k) p)
+improved-acts : (t : Tables) (ps : List Two) (k : ℕ) (p : Two) → In p ps → Improved t ps k p → (a : Act) × (turnOf t (qualityAfter (pairs t) ps k) p .choice ≡ act a)
+improved-acts t ps k p i m = go (turn-told (pairs t) (qualityAfter (pairs t) ps k) p)
   where
     w : Turn
-    w = turnOf t (qualityAfter t ps k) p
+    w = turnOf t (qualityAfter (pairs t) ps k) p
 
     chose : (c : Choice) → w .choice ≡ c → changes w ≡ true → (a : Act) × (w .choice ≡ act a)
     chose stay e z = absurd (clash (sym z ∙ rw e refl))
     chose (act a) e z = (a, e)
 
-    go : Told (qualityAfter t ps k p) w → (a : Act) × (w .choice ≡ act a)
-    go (inl (n, e)) = absurd (⊏-not (qualityAfter t ps (suc k) p) (qualityAfter t ps k p) m (⊑-of-eq (sym (q-next t ps k p i ∙ e))))
+    go : Told (qualityAfter (pairs t) ps k p) w → (a : Act) × (w .choice ≡ act a)
+    go (inl (n, e)) = absurd (⊏-not (qualityAfter (pairs t) ps (suc k) p) (qualityAfter (pairs t) ps k p) m (⊑-of-eq (sym (q-next (pairs t) ps k p i ∙ e))))
     go (inr (n, l)) = chose (w .choice) refl n
 
 -- a final term has at most as many runs as its action has places
-pub final-runs : (t : Tables) (ps : List Two) (k : ℕ) (p : Two) → In p ps → Improved t ps k p → (w : ℕ) → ((a : Act) → turnOf t (qualityAfter t ps k) p .choice ≡ act a → length (a .places) ≤ w) → treeRuns (termAfter t ps (suc k) p) ≤ w
+pub final-runs : (t : Tables) (ps : List Two) (k : ℕ) (p : Two) → In p ps → Improved t ps k p → (w : ℕ) → ((a : Act) → turnOf t (qualityAfter (pairs t) ps k) p .choice ≡ act a → length (a .places) ≤ w) → treeRuns (termAfter t ps (suc k) p) ≤ w
 unfolding termAfter
 final-runs t ps k p i m w h = let (a, e) = improved-acts t ps k p i m in rw e (omega (arith, h a e, choice-places t (termAfter t ps k) (termAfter t ps k p) a))
 
@@ -146,7 +147,7 @@ module _ (t : Tables) (v : Valid t) (ps : List Two) (within : (p : Two) → In p
       by (best c h e) = inl (inl (c, h, e))
       by (starting p i e) = inl (go (eqb (p .0) (p .1)) e)
         where
-          go : (y : Bool) → x ≡ pick y (bestTree t (p .0)) (variants (bestTree t (p .0)) (bestTree t (p .1))) → Begins x
+          go : (y : Bool) → x ≡ pick y (bestTree t (p .0)) (markedTree (bestTree t (p .0)) (bestTree t (p .1))) → Begins x
           go true z = inl (p .0, within p i .0, z)
           go false z = inr (p, i, e, rw z (marked-runs (bestTree t (p .0)) (bestTree t (p .1))))
       by (final p k i m h e) = inr (p, k, i, ends k p i m h, e, runs x d k p i m h e)

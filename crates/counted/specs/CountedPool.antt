@@ -12,19 +12,20 @@ use lib.ListN.{length, getD, length-append}
 use Rattle.spec.specs.Bytes.{pick, both, sum, place, Two, Res, ok, refused, _>>=_}
 use Rattle.spec.specs.Image.{Tables, Member, Lit, kindOf, bestSize, bestMember, childrenOf}
 use Rattle.spec.specs.Pool.{Node, Pool, TERMS, RUNS, sameNode, runCount, Interned, interned, intern, opNode, litNode, variantsNode, Children, childTerms, bestTermIn, bestTerm, startingTerm}
+use Rattle.spec.specs.System as system
 use Rattle.spec.specs.Round.{Act, Choice, stay, act, planRuns, actionTerm, choiceTerm}
 use Rattle.spec.specs.Run.{documentLimits}
-use Rattle.spec.specs.Meaning.{In, here, there, Term, lit, node, variants, Runs, run, runsOf, treeOf, treesAfter, treeAt}
+use Rattle.spec.specs.Meaning.{In, here, there, Term, lit, node, Runs, run, runsOf, treeOf, treesAfter, treeAt}
 use Rattle.laws.specs.Valid.{Valid}
 use Rattle.laws.specs.Lists.{Distinct, none, more}
 use Rattle.laws.specs.Bag.{map-append, sum-append}
-use Rattle.pools.specs.Pool.{RunsBelow, runs-below-nil, runs-below-cons, NodeValid, PoolValid, op-valid, lit-valid, variants-valid, trees-length, tree-grows, tree-last, tree-literal, tree-marked}
+use Rattle.pools.specs.Pool.{RunsBelow, runs-below-nil, runs-below-cons, NodeValid, PoolValid, op-valid, lit-valid, variants-valid, trees-length, tree-grows, tree-last, tree-literal}
 use Rattle.pools.specs.PoolTrees.{trees-apart}
 use Rattle.pools.specs.PoolIntern.{Extends, extends-refl, extends-trans, extends-within, extends-tree, Interns, intern-enters, added}
 use Rattle.pools.specs.PoolSort.{actionRuns}
 use Rattle.laws.specs.BestMembers.{IsClass, IsPair, best-in, best-falls, child-within, child-counted}
-use Rattle.counted.specs.Counted.{joinTrees, childTrees, bestTreeIn, bestTree, startingTree, choiceTree, Beyond}
-use Rattle.counted.specs.CountedTrees.{op-tree, pool-runs}
+use Rattle.counted.specs.Counted.{joinTrees, childTrees, bestTreeIn, bestTree, markedTree, startingTree, choiceTree, Beyond}
+use Rattle.counted.specs.CountedTrees.{op-tree, marked-tree, pool-runs}
 use Rattle.counted.specs.CountedRuns.{Stands, Acts, choice-valid, choice-tree}
 
 -- a valid pool whose terms are all of the kind C
@@ -183,8 +184,8 @@ module _ (t : Tables) (v : Valid t) where
     unfolding startingTerm
     starting-goes p c (h, k) s K = go (eqb (c .0) (c .1)) s
       where
-        go : (b : Bool) → C (pick b (bestTree t (c .0)) (variants (bestTree t (c .0)) (bestTree t (c .1))))
-            → Goes C (Entered C p (pick b (bestTree t (c .0)) (variants (bestTree t (c .0)) (bestTree t (c .1)))))
+        go : (b : Bool) → C (pick b (bestTree t (c .0)) (markedTree (bestTree t (c .0)) (bestTree t (c .1))))
+            → Goes C (Entered C p (pick b (bestTree t (c .0)) (markedTree (bestTree t (c .0)) (bestTree t (c .1)))))
             (elim b [ true ↦ bestTerm documentLimits t p (c .0) | false ↦ bestTerm documentLimits t p (c .0) >>= (λ x. bestTerm documentLimits t (x .pool) (c .1) >>= (λ y. intern documentLimits (y .pool) (variantsNode (x .term) (y .term)))) ])
         go true s = best-goes (bestSize t (c .0)) p (c .0) h (omega arith) K
         go false s =
@@ -192,16 +193,16 @@ module _ (t : Tables) (v : Valid t) where
             (λ x X. goes-bind (bestTerm documentLimits t (x .pool) (c .1)) _ (best-goes (bestSize t (c .1)) (x .pool) (c .1) k (omega arith) (X .kept)) (λ y Y. last x X y Y))
           where
             last : (x : Interned) → Entered C p (bestTree t (c .0)) x → (y : Interned) → Entered C (x .pool) (bestTree t (c .1)) y
-                → Goes C (Entered C p (variants (bestTree t (c .0)) (bestTree t (c .1)))) (intern documentLimits (y .pool) (variantsNode (x .term) (y .term)))
+                → Goes C (Entered C p (markedTree (bestTree t (c .0)) (bestTree t (c .1)))) (intern documentLimits (y .pool) (variantsNode (x .term) (y .term)))
             last x X y Y =
                 entered-later (extends-trans (X .grown) (Y .grown))
-                (intern-goes (y .pool) (variantsNode (x .term) (y .term)) (variants (bestTree t (c .0)) (bestTree t (c .1))) (Y .kept) (variants-valid (length (y .pool)) (x .term) (y .term) (extends-within (Y .grown) (x .term) (X .within)) (Y .within))
-                (tree-marked (treesAfter [] (y .pool)) (x .term) (y .term) ∙ ap₂ variants (extends-tree (Y .grown) (x .term) (X .within) ∙ X .means) (Y .means)) s)
+                (intern-goes (y .pool) (variantsNode (x .term) (y .term)) (markedTree (bestTree t (c .0)) (bestTree t (c .1))) (Y .kept) (variants-valid (length (y .pool)) (x .term) (y .term) (extends-within (Y .grown) (x .term) (X .within)) (Y .within))
+                (marked-tree (y .pool) (Y .kept .valid) (x .term) (y .term) (extends-within (Y .grown) (x .term) (X .within)) (Y .within) ∙ ap₂ markedTree (extends-tree (Y .grown) (x .term) (X .within) ∙ X .means) (Y .means)) s)
 
 -- ---- the term of a choice
 pub choice-goes : {C : Term → Type 0} (t : Tables) (p : Pool) (of : Two → ℕ) (f : Two → Term) (c : Two) (ch : Choice) → Kept C p → Stands p of f c
     → ((a : Act) → ch ≡ act a → (d : Two) → In d (a .places) → Stands p of f d) → (Acts ch → C (choiceTree t f (f c) ch)) → Goes C (Entered C p (choiceTree t f (f c) ch)) (choiceTerm documentLimits t of p (of c) ch)
-unfolding choiceTerm choiceTree actionTerm
+unfolding system.choiceTerm choiceTree actionTerm
 choice-goes t p of f c stay K (k, e) h g = fine (record { kept = K; grown = extends-refl p; within = k; means = e })
 choice-goes t p of f c (act a) K s h g =
     intern-goes p (opNode (a .op) (actionRuns t p (a .op) (planRuns of (a .places) (a .counts)))) (choiceTree t f (f c) (act a)) K (choice-valid t p (K .valid) of f a (h a refl)) (choice-tree t p (K .valid) of f a (h a refl) (f c)) (g tt)

@@ -10,8 +10,10 @@ use lib.ListN.{length, getD}
 use Rattle.spec.specs.Bytes.{any, place, Two, sameTwo, Res, ok, refused, _>>=_, Checked, passed, cutShort}
 use Rattle.spec.specs.Image.{Tables}
 use Rattle.spec.specs.Action.{joins}
-use Rattle.spec.specs.Graph.{build}
+use Rattle.spec.specs.Graph.{PAIRS, build}
 use Rattle.spec.specs.Pool.{Pool, Interned, startingTerm}
+use Rattle.spec.specs.System as system
+use Rattle.spec.specs.Pairs.{pairs}
 use Rattle.spec.specs.Round.{Terms, prepend, Choice, stay, act, Turn, changes, startingQuality, lookUp, choiceTerm, turnOf, turnsOf, turnsTerms, qualitiesAfter}
 use Rattle.spec.specs.Run.{documentLimits, State, Outcome, outcome, startingTerms, roundTerms, afterRound, roundsFrom, started, afterStarting, afterBuilding, runOf}
 use Rattle.spec.specs.Meaning.{In, here, there, Term, treeAt}
@@ -20,11 +22,11 @@ use Rattle.laws.specs.Valid.{Valid}
 use Rattle.laws.specs.Lists.{in-cons, in-nil, same-eq, same-refl}
 use Rattle.laws.specs.Results.{ok-inj, refused-ok, bind-ok, bind-refused}
 use Rattle.steps.specs.Quality.{_⊏_}
-use Rattle.lgg.specs.Turn.{Told, turn-told}
+use Rattle.steps.specs.Turn.{Told, turn-told}
 use Rattle.lgg.specs.TurnPlaces.{choice-joins}
-use Rattle.steps.specs.Rounds.{Closed, qualityAfter, q-next}
+use Rattle.steps.specs.Rounds.{qualityAfter, q-next}
 use Rattle.steps.specs.Enter.{Starts}
-use Rattle.steps.specs.Graph.{build-whole, build-first, build-closed, build-passed, build-same, build-refused}
+use Rattle.steps.specs.Graph.{Closed, build-whole, build-first, build-closed, build-passed, build-same, build-refused}
 use Rattle.steps.specs.Outcomes.{root-in}
 use Rattle.pools.specs.Pool.{PoolValid, empty-valid}
 use Rattle.pools.specs.PoolIntern.{Extends, extends-refl, extends-trans, extends-within, extends-tree}
@@ -69,7 +71,7 @@ stands-later p q of f g c (a, e) = (extends-within g (of c) a, extends-tree g (o
 -- ---- starting terms
 starting-walks : (t : Tables) → Valid t → (C : Term → Type 0) → ((c : ℕ) → IsClass t c → C (bestTree t c)) → (cs : List Two) (b : ℕ) (p : Pool) → ((c : Two) → In c cs → IsPair t c × C (startingTree t c)) → Kept C p
     → Goes C (Walked C p (startingTree t) cs (length cs) b) (startingTerms documentLimits t cs b p)
-unfolding startingTerms
+unfolding system.startingTerms
 starting-walks t v C bests [] b p h K = fine (whole (record { pool = p; terms = [] }) b K (extends-refl p) noPair (omega arith))
 starting-walks t v C bests (c ∷ cs) zero p h K = fine cut
 starting-walks t v C bests (c ∷ cs) (suc b) p h K =
@@ -84,7 +86,7 @@ module _ (t : Tables) (C : Term → Type 0) (q : Two → Two) (of : Two → ℕ)
   turns-walk : (cs : List Two) (b : ℕ) (p : Pool) → ((c : Two) → In c cs → Stands p of f c × ((d : Two) → In d (joins t c) → Stands p of f d))
       → ((c : Two) → In c cs → (r : Pool) → PoolValid r → ((d : Two) → In d (joins t c) → Stands r of f d) → Acts (turnOf t q c .choice) → C (after c)) → Kept C p
       → Goes C (Walked C p after cs (length cs) b) (turnsTerms documentLimits t of cs (map (turnOf t q) cs) b p)
-  unfolding turnsTerms
+  unfolding system.turnsTerms
   turns-walk [] b p h g K = fine (whole (record { pool = p; terms = [] }) b K (extends-refl p) noPair (omega arith))
   turns-walk (c ∷ cs) zero p h g K = fine cut
   turns-walk (c ∷ cs) (suc b) p h g K =
@@ -96,17 +98,17 @@ module _ (t : Tables) (C : Term → Type 0) (q : Two → Two) (of : Two → ℕ)
 
 -- ---- rounds
 -- a pair whose turn chose an action is improved
-acted-improved : (t : Tables) (ps : List Two) (k : ℕ) (p : Two) → In p ps → Acts (turnOf t (qualityAfter t ps k) p .choice) → Improved t ps k p
-acted-improved t ps k p i a = rw (q-next t ps k p i) (go (turn-told t (qualityAfter t ps k) p))
+acted-improved : (t : Tables) (ps : List Two) (k : ℕ) (p : Two) → In p ps → Acts (turnOf t (qualityAfter (pairs t) ps k) p .choice) → Improved t ps k p
+acted-improved t ps k p i a = rw (q-next (pairs t) ps k p i) (go (turn-told (pairs t) (qualityAfter (pairs t) ps k) p))
   where
     w : Turn
-    w = turnOf t (qualityAfter t ps k) p
+    w = turnOf t (qualityAfter (pairs t) ps k) p
 
     chose : (c : Choice) → w .choice ≡ c → Acts c → changes w ≡ true
     chose stay e z = absurd z
     chose (act b) e z = rw e refl
 
-    go : Told (qualityAfter t ps k p) w → w .quality ⊏ qualityAfter t ps k p
+    go : Told (qualityAfter (pairs t) ps k p) w → w .quality ⊏ qualityAfter (pairs t) ps k p
     go (inl (n, e)) = absurd (clash (sym (chose (w .choice) refl a) ∙ n))
     go (inr (n, l)) = l
 
@@ -114,7 +116,7 @@ acted-improved t ps k p i a = rw (q-next t ps k p i) (go (turn-told t (qualityAf
 abbrev pub Slim : Tables → List Two → ℕ → Term → Type 0
 Slim t ps b x = Counted t ps b x × (treeRuns x ≤ max 64 (length ps))
 
-module _ (t : Tables) (v : Valid t) (ps : List Two) (closed : Closed t ps) (b : ℕ) where
+module _ (t : Tables) (v : Valid t) (ps : List Two) (closed : Closed (pairs t) ps) (b : ℕ) where
   abbrev C : Term → Type 0
   C = Slim t ps b
 
@@ -131,19 +133,19 @@ module _ (t : Tables) (v : Valid t) (ps : List Two) (closed : Closed t ps) (b : 
   round-start p f c r (full x) = full x
 
   round-walks : (s : State) → Between s → (c : ℕ) → s .budget ≡ c → Goes C (Walked C (s .pool) (termAfter t ps (suc (s .rounds))) ps (suc (length ps)) c) (roundTerms documentLimits t ps s (turnsOf t ps (s .qualities)) c)
-  unfolding roundTerms turnsOf termAfter
+  unfolding system.roundTerms system.turnsOf termAfter
   round-walks s B zero e = fine cut
   round-walks s B (suc c) e =
       rw (B .qualities)
       (round-start (s .pool) (termAfter t ps (suc (s .rounds))) c _
-      (turns-walk t C (qualityAfter t ps (s .rounds)) (lookUp 0 ps (s .terms)) (termAfter t ps (s .rounds)) ps c (s .pool)
+      (turns-walk t C (qualityAfter (pairs t) ps (s .rounds)) (lookUp 0 ps (s .terms)) (termAfter t ps (s .rounds)) ps c (s .pool)
       (λ p i. (holds-look (B .holds) p i, λ d j. holds-look (B .holds) d (closed p d i j)))
-      (λ p i r w S a. (final p (s .rounds) i (acted-improved t ps (s .rounds) p i a) (omega (arith, B .spent)) refl, turn-few t v ps closed (qualityAfter t ps (s .rounds)) p i r w (lookUp 0 ps (s .terms)) (termAfter t ps (s .rounds)) S a))
+      (λ p i r w S a. (final p (s .rounds) i (acted-improved t ps (s .rounds) p i a) (omega (arith, B .spent)) refl, turn-few t v ps closed (qualityAfter (pairs t) ps (s .rounds)) p i r w (lookUp 0 ps (s .terms)) (termAfter t ps (s .rounds)) S a))
       (B .kept)))
 
   further : (s : State) → Between s → (r : Terms) (left : ℕ) → Kept C (r .pool) → Holds (r .pool) (termAfter t ps (suc (s .rounds))) ps (r .terms) → s .budget ≡ suc (length ps) + left
       → Between (record { pool = r .pool; qualities = map (λ w. w .quality) (turnsOf t ps (s .qualities)); terms = r .terms; rounds = suc (s .rounds); budget = left })
-  unfolding qualitiesAfter
+  unfolding system.qualitiesAfter
   further s B r left K H e = record { kept = K; holds = H; qualities = ap (λ (l : List Two). map (λ (w : Turn). w .quality) (turnsOf t ps l)) (B .qualities); spent = omega (arith, B .spent) }
 
   -- the rounds of a run are refused only where its terms are beyond the limits; otherwise its root is the first pair's term after the rounds reported
@@ -155,7 +157,7 @@ module _ (t : Tables) (v : Valid t) (ps : List Two) (closed : Closed t ps) (b : 
     ended s B complete = holds-first p (first .0) (B .holds) (first .1)
 
     rounds-go : (f : ℕ) (s : State) → Between s → Goes C Final (roundsFrom documentLimits f t ps s)
-    unfolding roundsFrom afterRound
+    unfolding system.roundsFrom afterRound
     rounds-go zero s B = fine (ended s B false)
     rounds-go (suc f) s B = goes-bind (roundTerms documentLimits t ps s ws (s .budget)) _ (round-walks s B (s .budget) refl) (λ r W. go r W (λ u D. rounds-go f u D))
       where
@@ -204,31 +206,31 @@ module _ (t : Tables) (v : Valid t) (p : Two) (h : IsPair t p) where
           (λ k q i m l. absurd (omega arith)) (Slim t (p ∷ []) 0) (λ x d. d .0) (λ x d k q i m l e. absurd (omega arith)) (omega (arith, v .counts .fewClasses)) (omega (arith, v .counts .fewClasses)) B)
 
   started-term : (ps : List Two) (root : Interned) (n : ℕ) → startingTerm documentLimits t [] p ≡ ok root → treeAt (started t p root n .pool) (started t p root n .root) ≡ termAfter t ps (started t p root n .rounds) p
-  unfolding started termAfter
+  unfolding system.started termAfter
   started-term ps root n er = goes-ok root (root-goes (p ∷ []) 0 here) er .means
 
   built-goes : (b c : ℕ) (ps : List Two) (root : Interned) → build documentLimits t p b ≡ ok (passed ps c) → startingTerm documentLimits t [] p ≡ ok root → Goes (Slim t ps b) (λ o. treeAt (o .pool) (o .root) ≡ termAfter t ps (o .rounds) p) (afterBuilding documentLimits t p root (passed ps c))
-  unfolding afterBuilding afterStarting termAfter qualitiesAfter
+  unfolding system.afterBuilding system.afterStarting termAfter system.qualitiesAfter
   built-goes b c ps root e er =
       goes-bind (startingTerms documentLimits t ps c (root .pool)) _
-      (starting-walks t v C (slim-best ps b) ps c (root .pool) (λ q i. (within q i, slim-start ps b q i (within q i))) (goes-ok root (root-goes ps b (root-in documentLimits t p b c ps e)) er .kept))
+      (starting-walks t v C (slim-best ps b) ps c (root .pool) (λ q i. (within q i, slim-start ps b q i (within q i))) (goes-ok root (root-goes ps b (root-in (pairs t) PAIRS p b c ps e)) er .kept))
       (λ r W. go r W)
     where
       C : Term → Type 0
       C = Slim t ps b
 
       within : (q : Two) → In q ps → IsPair t q
-      within q i = reach-within t v p q h (build-whole documentLimits t p b c ps e .exactly q .0 i)
+      within q i = reach-within t v p q h (build-whole (pairs t) PAIRS p b c ps e .exactly q .0 i)
 
       go : (r : Checked Terms) → Walked C (root .pool) (startingTree t) ps (length ps) c r → Goes C (λ o. treeAt (o .pool) (o .root) ≡ termAfter t ps (o .rounds) p) (afterStarting documentLimits t p root ps r)
       go r cut = fine (started-term ps root (length ps) er)
       go r (whole a left K g H z) =
-          rounds-go t v ps (build-closed documentLimits t p b c ps e) b p (build-first documentLimits t p b c ps e) left (record { pool = a .pool; qualities = map (startingQuality t) ps; terms = a .terms; rounds = 0; budget = left })
-          (record { kept = K; holds = H; qualities = refl; spent = omega (arith, build-passed documentLimits t p (length ps) (ps, build-whole documentLimits t p b c ps e, refl) b c ps e .1) })
+          rounds-go t v ps (build-closed (pairs t) PAIRS p b c ps e) b p (build-first (pairs t) PAIRS p b c ps e) left (record { pool = a .pool; qualities = map (startingQuality t) ps; terms = a .terms; rounds = 0; budget = left })
+          (record { kept = K; holds = H; qualities = refl; spent = omega (arith, build-passed (pairs t) PAIRS p (length ps) (ps, build-whole (pairs t) PAIRS p b c ps e, refl) b c ps e .1) })
 
   -- The term that a run gives is the queried pair's after the rounds reported; ps are the pairs of the full graph.
   pub run-term : (B C : ℕ) (ps : List Two) → build documentLimits t p B ≡ ok (passed ps C) → (b : ℕ) (o : Outcome) → runOf documentLimits t p b ≡ ok o → treeAt (o .pool) (o .root) ≡ termAfter t ps (o .rounds) p
-  unfolding runOf afterBuilding
+  unfolding system.runOf system.afterBuilding
   run-term B C ps e b o z =
       let (root, er, z′) = bind-ok (startingTerm documentLimits t [] p) _ o z in
       let (g, eg, z″) = bind-ok (build documentLimits t p b) _ o z′ in
@@ -236,11 +238,11 @@ module _ (t : Tables) (v : Valid t) (p : Two) (h : IsPair t p) where
     where
       go : (root : Interned) → startingTerm documentLimits t [] p ≡ ok root → (g : Checked (List Two)) → build documentLimits t p b ≡ ok g → afterBuilding documentLimits t p root g ≡ ok o → treeAt (o .pool) (o .root) ≡ termAfter t ps (o .rounds) p
       go root er cutShort eg z = rw (← ok-inj z) (started-term ps root 1 er)
-      go root er (passed qs c) eg z = rw (← build-same documentLimits t p b c B C qs ps eg e) (goes-ok o (built-goes b c qs root eg er) z)
+      go root er (passed qs c) eg z = rw (← build-same (pairs t) PAIRS p b c B C qs ps eg e) (goes-ok o (built-goes b c qs root eg er) z)
 
   -- A run is refused by 13 only where its graph is built, and the terms that are counted for it are more than 16,384 or have more than 65,536 runs.
   pub refused-13-slim : (b : ℕ) → runOf documentLimits t p b ≡ refused 13 → (ps : List Two) × (c : ℕ) × (build documentLimits t p b ≡ ok (passed ps c)) × Beyond (Slim t ps b)
-  unfolding runOf afterBuilding
+  unfolding system.runOf system.afterBuilding
   refused-13-slim b e = starts (bind-refused (startingTerm documentLimits t [] p) (λ root. build documentLimits t p b >>= λ g. afterBuilding documentLimits t p root g) 13 e)
     where
       built : (root : Interned) → startingTerm documentLimits t [] p ≡ ok root → (g : Checked (List Two)) → build documentLimits t p b ≡ ok g → afterBuilding documentLimits t p root g ≡ refused 13 → (ps : List Two) × (c : ℕ) × (build documentLimits t p b ≡ ok (passed ps c)) × Beyond (Slim t ps b)
@@ -249,7 +251,7 @@ module _ (t : Tables) (v : Valid t) (p : Two) (h : IsPair t p) where
 
       starts : (startingTerm documentLimits t [] p ≡ refused 13) ⊎ ((root : Interned) × (startingTerm documentLimits t [] p ≡ ok root) × ((build documentLimits t p b >>= λ g. afterBuilding documentLimits t p root g) ≡ refused 13)) → (ps : List Two) × (c : ℕ) × (build documentLimits t p b ≡ ok (passed ps c)) × Beyond (Slim t ps b)
       starts (inl z) = absurd (refused-ok (sym z ∙ root-starts .1))
-      starts (inr (root, er, z)) = elim (bind-refused (build documentLimits t p b) (λ g. afterBuilding documentLimits t p root g) 13 z) [ inl x ↦ absurd (omega (arith, build-refused documentLimits t p b 13 x .0)) | inr x ↦ built root er (x .0) (x .1) (x .2) ]
+      starts (inr (root, er, z)) = elim (bind-refused (build documentLimits t p b) (λ g. afterBuilding documentLimits t p root g) 13 z) [ inl x ↦ absurd (omega (arith, build-refused (pairs t) PAIRS p b 13 x .0)) | inr x ↦ built root er (x .0) (x .1) (x .2) ]
 
   pub refused-13-beyond : (b : ℕ) → runOf documentLimits t p b ≡ refused 13 → (ps : List Two) × (c : ℕ) × (build documentLimits t p b ≡ ok (passed ps c)) × Beyond (Counted t ps b)
   refused-13-beyond b e =

@@ -12,8 +12,9 @@ use Rattle.spec.specs.Bytes.{pick, Two}
 use Rattle.spec.specs.Image.{Tables, kindOf, isCommutative}
 use Rattle.spec.specs.Action.{joins}
 use Rattle.spec.specs.Pool.{Pool, joinTo, joinRuns, opNode, isGreater, sortRuns}
+use Rattle.spec.specs.Pairs.{pairs}
 use Rattle.spec.specs.Round.{Act, Choice, stay, act, turnOf, planRuns}
-use Rattle.spec.specs.Meaning.{In, here, there, Term, node, variants, Runs, done, run, treeOf, treesAfter, treeAt}
+use Rattle.spec.specs.Meaning.{In, here, there, Term, node, Runs, done, run, treeOf, treesAfter, treeAt}
 use Rattle.laws.specs.Valid.{Valid}
 use Rattle.laws.specs.Lists.{in-nil, in-cons, in-map, length-map, Distinct, none, more, pigeon}
 use Rattle.laws.specs.Bag.{perm-sym, perm-in}
@@ -22,10 +23,10 @@ use Rattle.pools.specs.PoolSort.{sort-perm, perm-below, plan-below, actionRuns,
 use Rattle.pools.specs.Order.{NotAfter, antisymmetric}
 use Rattle.pools.specs.OrderSort.{Sorted, sort-sorted, not-after-self, all-later}
 use Rattle.pools.specs.OrderSort as S
-use Rattle.steps.specs.Rounds.{Closed}
+use Rattle.steps.specs.Graph.{Closed}
 use Rattle.lgg.specs.TurnPlaces.{turn-choice, choice-joins, structural-made, children-few}
 use Rattle.readings.specs.ReadingsActions.{transport-carries}
-use Rattle.counted.specs.Counted.{sameTree, joinTree, joinTrees, runsIn, treeRuns, treeCmp, insertTree, sortTrees, childTrees, planTrees, choiceTree}
+use Rattle.counted.specs.Counted.{sameTree, joinTree, joinTrees, runsIn, treeRuns, treeCmp, insertTree, sortTrees, childTrees, markedTree, planTrees, choiceTree}
 use Rattle.counted.specs.CountedTrees.{action-tree, plan-trees, node-runs}
 
 -- ---- the runs of a term
@@ -71,7 +72,7 @@ plan-runs f (p ∷ ps) (n ∷ x) = go (eqb n 0) (plan-runs f ps x)
     go true ih = omega arith
     go false ih = omega arith
 
-pub marked-runs : (a b : Term) → treeRuns (variants a b) ≤ 2
+pub marked-runs : (a b : Term) → treeRuns (markedTree a b) ≤ 2
 unfolding treeRuns runsIn
 marked-runs a b = join-runs (run a 1 (run b 1 done))
 
@@ -203,7 +204,7 @@ Acts stay = ⊥
 Acts (act a) = Unit
 
 -- The term of a turn that acts has at most 64 runs, or as many as there are pairs; its places stand in some pool.
-pub turn-few : (t : Tables) → Valid t → (ps : List Two) → Closed t ps → (q : Two → Two) (c : Two) → In c ps → (p : Pool) → PoolValid p → (of : Two → ℕ) (f : Two → Term) → ((d : Two) → In d (joins t c) → Stands p of f d)
+pub turn-few : (t : Tables) → Valid t → (ps : List Two) → Closed (pairs t) ps → (q : Two → Two) (c : Two) → In c ps → (p : Pool) → PoolValid p → (of : Two → ℕ) (f : Two → Term) → ((d : Two) → In d (joins t c) → Stands p of f d)
     → Acts (turnOf t q c .choice) → treeRuns (choiceTree t f (f c) (turnOf t q c .choice)) ≤ max 64 (length ps)
 turn-few t v ps closed q c i p w of f h b = go (turnOf t q c .choice) refl b
   where

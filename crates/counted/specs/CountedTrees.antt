@@ -11,18 +11,18 @@ use lib.ListN.{length, getD, replicate, List·getD-map}
 use lib.Seq.{ext-getD}
 use Rattle.spec.specs.Bytes.{pick, both, sum, Two}
 use Rattle.spec.specs.Image.{Tables, kindOf, isCommutative}
-use Rattle.spec.specs.Pool.{Node, Pool, nodeAt, joinTo, joinRuns, opNode, runCount, Order, compareℕ, then, isGreater, structuralCmp, insertRun, sortRuns}
+use Rattle.spec.specs.Pool.{Node, Pool, nodeAt, joinTo, joinRuns, opNode, variantsNode, runCount, Order, compareℕ, then, isGreater, structuralCmp, insertRun, sortRuns}
 use Rattle.spec.specs.Round.{planRuns}
 use Rattle.spec.specs.Meaning.{In, here, there, Term, lit, node, variants, Runs, done, run, expand, runsOf, treeOf, treesAfter, treeAt}
 use Rattle.laws.specs.Tests.{both-true, clash}
-use Rattle.laws.specs.Lists.{length-map, in-append, in-cons, in-nil}
+use Rattle.laws.specs.Lists.{length-map, in-append, in-nil}
 use Rattle.laws.specs.Bag.{replicate-in}
 use Rattle.pools.specs.Pool.{RunsBelow, runs-below-tail, runs-below-cons, runs-below-nil, Formed, operation, literal, marked, NodeValid, PoolValid, numbered, join-below, trees-length, tree-operation, tree-literal, tree-marked}
-use Rattle.pools.specs.PoolTrees.{tree-is, valid-below, trees-apart, branches-below}
+use Rattle.pools.specs.PoolTrees.{tree-is, valid-below, trees-apart}
 use Rattle.pools.specs.PoolSort.{sort-perm, perm-below, actionRuns}
 use Rattle.pools.specs.OrderTerms.{headOf, opOf, valueOf, expandedChildren, lex, termCmp}
 use Rattle.pools.specs.Order.{as-expanded, tree-fuel}
-use Rattle.counted.specs.Counted.{sameTree, sameRuns, joinTree, joinTrees, runsIn, treeRuns, places, placesIn, treeCmp, insertTree, sortTrees, planTrees}
+use Rattle.counted.specs.Counted.{sameTree, sameRuns, joinTree, joinTrees, runsIn, treeRuns, places, placesIn, treeCmp, insertTree, sortTrees, markedTree, planTrees}
 
 -- ---- the same tree
 mutual
@@ -31,13 +31,13 @@ mutual
   pub same-tree : (a b : Term) → sameTree a b ≡ true → a ≡ b
   same-tree (lit o v) (lit p w) e = let (x, y) = both-true (eqb o p) (eqb v w) .0 e in ap₂ lit (eqb-true o p x) (eqb-true v w y)
   same-tree (lit o v) (node p s) e = absurd (clash (sym e))
-  same-tree (lit o v) (variants c d) e = absurd (clash (sym e))
+  same-tree (lit o v) (variants s) e = absurd (clash (sym e))
   same-tree (node o r) (lit p w) e = absurd (clash (sym e))
   same-tree (node o r) (node p s) e = let (x, y) = both-true (eqb o p) (sameRuns r s) .0 e in ap₂ node (eqb-true o p x) (same-runs r s y)
-  same-tree (node o r) (variants c d) e = absurd (clash (sym e))
-  same-tree (variants a b) (lit p w) e = absurd (clash (sym e))
-  same-tree (variants a b) (node p s) e = absurd (clash (sym e))
-  same-tree (variants a b) (variants c d) e = let (x, y) = both-true (sameTree a c) (sameTree b d) .0 e in ap₂ variants (same-tree a c x) (same-tree b d y)
+  same-tree (node o r) (variants s) e = absurd (clash (sym e))
+  same-tree (variants r) (lit p w) e = absurd (clash (sym e))
+  same-tree (variants r) (node p s) e = absurd (clash (sym e))
+  same-tree (variants r) (variants s) e = ap variants (same-runs r s e)
 
   same-runs : (r s : Runs) → sameRuns r s ≡ true → r ≡ s
   same-runs done done e = refl
@@ -55,7 +55,7 @@ mutual
   tree-same : (a : Term) → sameTree a a ≡ true
   tree-same (lit o v) = rw (eq-eqb o o refl, eq-eqb v v refl) refl
   tree-same (node o r) = rw (eq-eqb o o refl) (runs-same r)
-  tree-same (variants a b) = ap₂ both (tree-same a) (tree-same b)
+  tree-same (variants r) = runs-same r
 
   runs-same : (r : Runs) → sameRuns r r ≡ true
   runs-same done = refl
@@ -75,13 +75,13 @@ kid-places : (a x : Term) → In x (expandedChildren a) → places x < places a
 unfolding expandedChildren places
 kid-places (lit o v) x i = absurd (in-nil i)
 kid-places (node o r) x i = omega (arith, child-places r x i)
-kid-places (variants a b) x i = elim (in-cons i) [ inl e ↦ omega (arith, ap places e) | inr j ↦ elim (in-cons j) [ inl e ↦ omega (arith, ap places e) | inr k ↦ absurd (in-nil k) ] ]
+kid-places (variants r) x i = omega (arith, child-places r x i)
 
 some-place : (a : Term) → 1 ≤ places a
 unfolding places
 some-place (lit o v) = omega arith
 some-place (node o r) = omega arith
-some-place (variants a b) = omega arith
+some-place (variants r) = omega arith
 
 lex-agrees : (f g : Term → Term → Order) (l m : List Term) → ((x y : Term) → In x l → f x y ≡ g x y) → lex f l m ≡ lex g l m
 unfolding lex
@@ -154,6 +154,12 @@ module _ (p : Pool) (v : PoolValid p) where
   pub op-tree : (o : ℕ) (l : List Two) → RunsBelow (length p) l → treeOf T (opNode o l) ≡ node o (joinTrees (runsOf T l))
   op-tree o l b = tree-operation T (opNode o l) refl ∙ ap (node o) (join-trees l b)
 
+  -- .. and a marked place's
+  pub marked-tree : (a b : ℕ) → a < length p → b < length p → treeOf T (variantsNode a b) ≡ markedTree (numbered T a) (numbered T b)
+  unfolding runsOf
+  marked-tree a b h k =
+      tree-marked T (variantsNode a b) refl ∙ ap variants (join-trees ((a, 1) ∷ (b, 1) ∷ []) (runs-below-cons h (omega arith) (runs-below-cons k (omega arith) (runs-below-nil (length p)))))
+
   pub action-tree : (t : Tables) (o : ℕ) (l : List Two) → RunsBelow (length p) l
       → treeOf T (opNode o (actionRuns t p o l)) ≡ node o (joinTrees (pick (isCommutative (kindOf t o)) (sortTrees (runsOf T l)) (runsOf T l)))
   action-tree t o l b = go (isCommutative (kindOf t o))
@@ -186,10 +192,7 @@ module _ (p : Pool) (v : PoolValid p) where
       go : Formed n → treeRuns (treeOf T n) ≡ length (n .runs)
       go (operation e z) = ap treeRuns (tree-operation T n e) ∙ runs-length (n .runs)
       go (literal e z) = ap treeRuns (tree-literal T n e) ∙ sym (ap (λ (l : List Two). length l) z)
-      go (marked a b e) =
-          let (x, y) = branches-below (length p) a b (rw e at (w .below)) in
-          let l : List Two = (a, 1) ∷ (b, 1) ∷ [] in
-          rw e (ap treeRuns (tree-marked T a b) ∙ sym (ap runsIn (join-trees l (runs-below-cons x (omega arith) (runs-below-cons y (omega arith) (runs-below-nil (length p)))))) ∙ runs-length (joinRuns l))
+      go (marked e z u) = ap treeRuns (tree-marked T n e) ∙ runs-length (n .runs)
 
   -- a pool has as many runs as its trees
   pub pool-runs : sum (map treeRuns T) ≡ runCount p

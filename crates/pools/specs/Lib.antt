@@ -9,3 +9,4 @@ pub mod OrderPools
 pub mod OrderListing
 pub mod OrderSort
 pub mod PoolLimits
+pub mod Refused

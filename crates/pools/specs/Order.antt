@@ -2,7 +2,7 @@
 use mathlib.Core.Path.{_≡_, refl, sym, ap, ap₂, _∙_}
 use mathlib.Core.Logic.{_⊎_, inl, inr}
 use mathlib.Core.Bool.{Bool, true, false}
-use mathlib.Core.List.{List, [], _∷_, map}
+use mathlib.Core.List.{List, [], map}
 use Prim.Native.Nat.{ℕ, zero, suc, _+_, _<_}
 use native.Mathlib.Nat.{not-suc-le-zero}
 use native.Mathlib.Omega.{arith}
@@ -12,7 +12,7 @@ use lib.ListN.{length, length-map}
 use Rattle.spec.specs.Pool.{Node, Pool, nodeAt, Order, less, equal, greater, compareℕ, then, expandedLength, runsCmp, structuralCmp, isGreater}
 use Rattle.spec.specs.Meaning.{In, Term, treeOf, treesAfter, treeAt}
 use Rattle.laws.specs.Tests.{clash}
-use Rattle.laws.specs.BagCount.{written, written-length, in-written, join-written}
+use Rattle.laws.specs.BagCount.{written, written-length, in-written}
 use Rattle.pools.specs.Pool.{Formed, operation, literal, marked, PoolValid, tree-operation, tree-literal, tree-marked}
 use Rattle.pools.specs.PoolTrees.{tree-is, expand-runs, node-ext}
 use Rattle.pools.specs.OrderTerms.{headOf, opOf, valueOf, expandedChildren, lex, termCmp, flip, Tri, compare-same, then-equal, lex-map, lex-agree, lex-same, term-flip, term-tri, term-refl}
@@ -29,7 +29,7 @@ node-parts : (p : Pool) (n : Node) → Formed n → Parts p n (treeOf (treesAfte
 unfolding expandedChildren written
 node-parts p n (operation e z) = rw (tree-operation (treesAfter [] p) n e) (record { head = sym e; op = refl; value = sym z; children = expand-runs (treesAfter [] p) (n .runs) })
 node-parts p n (literal e z) = rw (tree-literal (treesAfter [] p) n e) (record { head = sym e; op = refl; value = refl; children = rw z refl })
-node-parts p n (marked a b e) = rw (e, tree-marked (treesAfter [] p) a b) (record { head = refl; op = refl; value = refl; children = sym (ap (map (treeAt p)) (join-written ((a, 1) ∷ (b, 1) ∷ []))) })
+node-parts p n (marked e z u) = rw (tree-marked (treesAfter [] p) n e) (record { head = sym e; op = sym z; value = sym u; children = expand-runs (treesAfter [] p) (n .runs) })
 
 pub tree-parts : (p : Pool) → PoolValid p → (a : ℕ) → a < length p → Parts p (nodeAt p a) (treeAt p a)
 tree-parts p v a h = rw (tree-is p v a h) (node-parts p (nodeAt p a) (v .nodes a h .formed))

@@ -154,6 +154,6 @@ listing-anywhere o u v w e S =
 
 -- A larger pool gives the same listing.
 pub listing-larger : (o : Outcome) (q : Pool) → PoolValid (o .pool) → PoolValid q → Extends (o .pool) q → o .root < length (o .pool)
-    → listingOf o ≡ listingOf (record { complete = o .complete; pairs = o .pairs; rounds = o .rounds; quality = o .quality; pool = q; root = o .root })
+    → listingOf o ≡ listingOf (record { complete = o .complete; nodes = o .nodes; rounds = o .rounds; quality = o .quality; pool = q; root = o .root })
 unfolding firstLine
-listing-larger o q v w g h = listing-anywhere o (record { complete = o .complete; pairs = o .pairs; rounds = o .rounds; quality = o .quality; pool = q; root = o .root }) v w refl (same-extends g (o .root) h)
+listing-larger o q v w g h = listing-anywhere o (record { complete = o .complete; nodes = o .nodes; rounds = o .rounds; quality = o .quality; pool = q; root = o .root }) v w refl (same-extends g (o .root) h)

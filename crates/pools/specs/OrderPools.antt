@@ -10,13 +10,14 @@ use lib.ListN.{length}
 use Rattle.spec.specs.Bytes.{Limits, Two, pick, ok}
 use Rattle.spec.specs.Image.{Tables, kindOf, isCommutative}
 use Rattle.spec.specs.Pool.{Pool, joinTo, joinRuns, Interned, isGreater, structuralCmp, insertRun, sortRuns}
-use Rattle.spec.specs.Round.{Choice, stay, act, planRuns, actionTerm, choiceTerm}
+use Rattle.spec.specs.System as system
+use Rattle.spec.specs.System.{Choice, stay, act, planRuns}
+use Rattle.spec.specs.Round.{actionTerm, choiceTerm}
 use Rattle.spec.specs.Meaning.{In, here, there, node, runsOf, treesAfter, treeAt}
 use Rattle.pools.specs.Pool.{PoolValid}
 use Rattle.pools.specs.PoolTrees.{trees-apart}
-use Rattle.pools.specs.PoolIntern.{Extends, extends-within, extends-tree}
+use Rattle.pools.specs.PoolIntern.{Extends, extends-within, extends-tree, op-means}
 use Rattle.pools.specs.PoolSort.{plan-below, actionRuns, action-enters}
-use Rattle.readings.specs.Best.{op-means}
 use Rattle.pools.specs.OrderTerms.{termCmp}
 use Rattle.pools.specs.Order.{as-expanded, tree-fuel}
 use Rattle.laws.specs.Results.{ok-inj}
@@ -89,7 +90,7 @@ module _ (p q : Pool) (v : PoolValid p) (w : PoolValid q) where
   runs-same none = refl
   runs-same (next {r = r} {s = s} {l = l} {m = m} h e i) = rw (h .tree, e, runs-same i) refl
 
-  plan-alike : (of of′ : Two → ℕ) (ps : List Two) (x : List ℕ) → ((c : Two) → In c ps → Same p q (of c) (of′ c)) → Alike (planRuns of ps x) (planRuns of′ ps x)
+  plan-alike : {N : Type 0} (of of′ : N → ℕ) (ps : List N) (x : List ℕ) → ((c : N) → In c ps → Same p q (of c) (of′ c)) → Alike (planRuns of ps x) (planRuns of′ ps x)
   unfolding planRuns
   plan-alike of of′ [] x h = none
   plan-alike of of′ (c ∷ ps) [] h = none
@@ -104,18 +105,18 @@ module _ (p q : Pool) (v : PoolValid p) (w : PoolValid q) where
   picked false i = i
 
 -- the places that a choice uses mean the same trees in both pools
-abbrev pub SamePlaces : Pool → Pool → (Two → ℕ) → (Two → ℕ) → Choice → Type 0
+abbrev pub SamePlaces : {N : Type 0} → Pool → Pool → (N → ℕ) → (N → ℕ) → Choice N → Type 0
 SamePlaces p q of of′ stay = Unit
-SamePlaces p q of of′ (act a) = (c : Two) → In c (a .places) → Same p q (of c) (of′ c)
+SamePlaces {N} p q of of′ (act a) = (c : N) → In c (a .places) → Same p q (of c) (of′ c)
 
-action-tree : (lim : Limits) (t : Tables) (p : Pool) → PoolValid p → (of : Two → ℕ) (o : ℕ) (ps : List Two) (x : List ℕ) (r : Interned) → ((c : Two) → In c ps → of c < length p) → actionTerm lim t p o (planRuns of ps x) ≡ ok r
+action-tree : {N : Type 0} (lim : Limits) (t : Tables) (p : Pool) → PoolValid p → (of : N → ℕ) (o : ℕ) (ps : List N) (x : List ℕ) (r : Interned) → ((c : N) → In c ps → of c < length p) → actionTerm lim t p o (planRuns of ps x) ≡ ok r
     → treeAt (r .pool) (r .term) ≡ node o (runsOf (treesAfter [] p) (joinRuns (actionRuns t p o (planRuns of ps x))))
 action-tree lim t p v of o ps x r h e = op-means p o (actionRuns t p o (planRuns of ps x)) r (action-enters lim t p v o (planRuns of ps x) r (plan-below of (length p) ps x h) e) .0
 
 -- A choice gives the same tree over any two valid pools in which its places mean the same trees.
-pub choice-anywhere : (lim : Limits) (t : Tables) (p q : Pool) → PoolValid p → PoolValid q → (of of′ : Two → ℕ) (old old′ : ℕ) (ch : Choice) → Same p q old old′ → SamePlaces p q of of′ ch
+pub choice-anywhere : (lim : Limits) (t : Tables) (p q : Pool) → PoolValid p → PoolValid q → (of of′ : Two → ℕ) (old old′ : ℕ) (ch : Choice Two) → Same p q old old′ → SamePlaces p q of of′ ch
     → (r s : Interned) → choiceTerm lim t of p old ch ≡ ok r → choiceTerm lim t of′ q old′ ch ≡ ok s → treeAt (r .pool) (r .term) ≡ treeAt (s .pool) (s .term)
-unfolding choiceTerm
+unfolding system.choiceTerm
 choice-anywhere lim t p q v w of of′ old old′ stay S P r s e f = rw (← ok-inj e, ← ok-inj f) (S .tree)
 choice-anywhere lim t p q v w of of′ old old′ (act a) S P r s e f =
     action-tree lim t p v of (a .op) (a .places) (a .counts) r (λ c i. P c i .left) e
@@ -123,12 +124,12 @@ choice-anywhere lim t p q v w of of′ old old′ (act a) S P r s e f =
     ∙ sym (action-tree lim t q w of′ (a .op) (a .places) (a .counts) s (λ c i. P c i .right) f)
 
 -- the places that a choice uses stand in the pool
-abbrev pub PlacesWithin : Pool → (Two → ℕ) → Choice → Type 0
+abbrev pub PlacesWithin : {N : Type 0} → Pool → (N → ℕ) → Choice N → Type 0
 PlacesWithin p of stay = Unit
-PlacesWithin p of (act a) = (c : Two) → In c (a .places) → of c < length p
+PlacesWithin {N} p of (act a) = (c : N) → In c (a .places) → of c < length p
 
 -- So over a pool and over a larger one: what else has been interned changes nothing.
-pub choice-larger : (lim : Limits) (t : Tables) (p q : Pool) → PoolValid p → PoolValid q → Extends p q → (of : Two → ℕ) (old : ℕ) (ch : Choice) → old < length p → PlacesWithin p of ch
+pub choice-larger : (lim : Limits) (t : Tables) (p q : Pool) → PoolValid p → PoolValid q → Extends p q → (of : Two → ℕ) (old : ℕ) (ch : Choice Two) → old < length p → PlacesWithin p of ch
     → (r s : Interned) → choiceTerm lim t of p old ch ≡ ok r → choiceTerm lim t of q old ch ≡ ok s → treeAt (r .pool) (r .term) ≡ treeAt (s .pool) (s .term)
 choice-larger lim t p q v w g of old stay h k = choice-anywhere lim t p q v w of of old old stay (same-extends g old h) tt
 choice-larger lim t p q v w g of old (act a) h k = choice-anywhere lim t p q v w of of old old (act a) (same-extends g old h) (λ c i. same-extends g (of c) (k c i))

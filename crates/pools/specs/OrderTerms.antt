@@ -15,24 +15,24 @@ use Rattle.spec.specs.Meaning.{In, here, there, Term, lit, node, variants, expa
 abbrev pub headOf : Term → ℕ
 headOf (lit o v) = LIT
 headOf (node o r) = OP
-headOf (variants a b) = VARIANTS
+headOf (variants r) = VARIANTS
 
 abbrev pub opOf : Term → ℕ
 opOf (lit o v) = o
 opOf (node o r) = o
-opOf (variants a b) = 0
+opOf (variants r) = 0
 
 abbrev pub valueOf : Term → ℕ
 valueOf (lit o v) = v
 valueOf (node o r) = 0
-valueOf (variants a b) = 0
+valueOf (variants r) = 0
 
 -- the child list, every run written out
 unfoldable pub expandedChildren : Term → List Term
 unfolding expand
 expandedChildren (lit o v) = []
 expandedChildren (node o r) = expand r
-expandedChildren (variants a b) = a ∷ b ∷ []
+expandedChildren (variants r) = expand r
 
 -- from the left; a list before a longer one that it begins
 unfoldable pub lex : {A : Type 0} → (A → A → Order) → List A → List A → Order

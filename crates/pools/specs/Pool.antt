@@ -10,8 +10,8 @@ use lib.Dec.{eqb}
 use borrow.Author.Tests.{eqb-true, eqb-false}
 use lib.ListN.{length, getD, length-append, List·getD-append}
 use Rattle.spec.specs.Bytes.{pick, Two}
-use Rattle.spec.specs.Pool.{Node, Pool, nodeAt, OP, LIT, joinTo, joinRuns, opNode, litNode, variantsNode}
-use Rattle.spec.specs.Meaning.{In, here, there, Term, lit, node, variants, runsOf, firstBranch, secondBranch, treeOf, treesAfter, treeAt}
+use Rattle.spec.specs.Pool.{Node, Pool, nodeAt, OP, LIT, VARIANTS, joinTo, joinRuns, opNode, litNode, variantsNode}
+use Rattle.spec.specs.Meaning.{In, here, there, Term, lit, node, variants, runsOf, treeOf, treesAfter, treeAt}
 use Rattle.laws.specs.Lists.{in-cons, in-nil}
 
 -- ---- "runs of (child, count), neighbours with the same child joined"
@@ -29,7 +29,7 @@ pub record RunsBelow (i : ℕ) (l : List Two) : Type 0 where
 pub data Formed (n : Node) : Type 0 where
   operation : n .head ≡ OP → n .value ≡ 0 → Formed n
   literal : n .head ≡ LIT → n .runs ≡ [] → Formed n
-  marked : (a b : ℕ) → n ≡ variantsNode a b → Formed n
+  marked : n .head ≡ VARIANTS → n .op ≡ 0 → n .value ≡ 0 → Formed n
 
 -- an entry over entries before number i
 pub record NodeValid (i : ℕ) (n : Node) : Type 0 where
@@ -108,7 +108,7 @@ lit-valid i o v = record { formed = literal refl refl; below = runs-below-nil i;
 
 pub variants-valid : (i a b : ℕ) → a < i → b < i → NodeValid i (variantsNode a b)
 variants-valid i a b h k = record {
-  formed = marked a b refl;
+  formed = marked refl refl refl;
   below = join-below i ((a, 1) ∷ (b, 1) ∷ []) (runs-below-cons h (omega arith) (runs-below-cons k (omega arith) (runs-below-nil i)));
   joined = join-joined ((a, 1) ∷ (b, 1) ∷ []);
 }
@@ -144,23 +144,6 @@ pub tree-last : (p : Pool) (n : Node) → treeAt (p ++ (n ∷ [])) (length p) �
 unfolding treesAfter
 tree-last p n = let e : length p ≡ length (treesAfter [] p) = omega (arith, trees-length [] p) in rw (trees-append [] p (n ∷ []), e) (getD-last (treesAfter [] p) (treeOf (treesAfter [] p) n) (lit 0 0))
 
--- the two branches of a marked place
-pub first-branch : (a b : ℕ) → firstBranch (joinRuns ((a, 1) ∷ (b, 1) ∷ [])) ≡ a
-unfolding joinRuns
-first-branch a b = go (eqb a b)
-  where
-    go : (t : Bool) → firstBranch (pick t ((a, 1 + 1) ∷ []) ((a, 1) ∷ (b, 1) ∷ [])) ≡ a
-    go true = refl
-    go false = refl
-
-pub second-branch : (a b : ℕ) → secondBranch (joinRuns ((a, 1) ∷ (b, 1) ∷ [])) ≡ b
-unfolding joinRuns
-second-branch a b = go (eqb a b) refl
-  where
-    go : (t : Bool) → eqb a b ≡ t → secondBranch (pick t ((a, 1 + 1) ∷ []) ((a, 1) ∷ (b, 1) ∷ [])) ≡ b
-    go true e = eqb-true a b e
-    go false e = refl
-
 -- a node's tree, by its form
 abbrev pub numbered : List Term → ℕ → Term
 numbered ts a = getD ts a (lit 0 0)
@@ -173,6 +156,6 @@ pub tree-literal : (ts : List Term) (n : Node) → n .head ≡ LIT → treeOf ts
 unfolding treeOf
 tree-literal ts n e = rw e refl
 
-pub tree-marked : (ts : List Term) (a b : ℕ) → treeOf ts (variantsNode a b) ≡ variants (numbered ts a) (numbered ts b)
+pub tree-marked : (ts : List Term) (n : Node) → n .head ≡ VARIANTS → treeOf ts n ≡ variants (runsOf ts (n .runs))
 unfolding treeOf
-tree-marked ts a b = rw (first-branch a b, second-branch a b) refl
+tree-marked ts n e = rw e refl

@@ -2,7 +2,7 @@
 use mathlib.Core.Path.{_≡_, refl, sym, ap, ap₂, _∙_}
 use mathlib.Core.Logic.{_⊎_, inl, inr}
 use mathlib.Core.Bool.{Bool, true, false}
-use mathlib.Core.List.{List, [], _∷_, _++_, append-nil, append-assoc}
+use mathlib.Core.List.{List, [], _∷_, _++_, map, append-nil, append-assoc}
 use Prim.Native.Nat.{ℕ, zero, suc, _+_, _≤_, _<_}
 use native.Mathlib.Nat.{not-suc-le-zero, eq-or-lt-of-le}
 use native.Mathlib.Omega.{arith}
@@ -10,11 +10,12 @@ use lib.Dec.{ltb, leb, eqb}
 use borrow.Author.Tests.{eqb-true, eq-eqb, ltb-true, ltb-false, lt-ltb}
 use lib.ListN.{length, getD, length-append, List·getD-append}
 use Rattle.spec.specs.Bytes.{Limits, pick, both, place, Two, sameTwo, sameTwos, ok, refused}
-use Rattle.spec.specs.Pool.{Node, Pool, nodeAt, sameNode, runCount, Interned, interned, intern}
-use Rattle.spec.specs.Meaning.{treeOf, treesAfter, treeAt}
+use Rattle.spec.specs.Pool.{Node, Pool, nodeAt, joinRuns, opNode, sameNode, runCount, Interned, interned, intern}
+use Rattle.spec.specs.Meaning.{node, expand, runsOf, treeOf, treesAfter, treeAt}
 use Rattle.laws.specs.Tests.{both-true, clash}
-use Rattle.pools.specs.Pool.{NodeValid, PoolValid, getD-last, tree-last, tree-grows}
-use Rattle.pools.specs.PoolTrees.{node-ext, tree-is}
+use Rattle.laws.specs.BagCount.{written}
+use Rattle.pools.specs.Pool.{NodeValid, PoolValid, getD-last, tree-last, tree-grows, tree-operation}
+use Rattle.pools.specs.PoolTrees.{node-ext, tree-is, expand-joined}
 use Rattle.laws.specs.Lists.{same-eq, same-refl}
 use Rattle.laws.specs.Results.{ok-inj, refused-ok}
 
@@ -157,3 +158,10 @@ intern-there lim p n a v h e =
     let l : place (sameNode n) p < length p = omega arith in
     let same : place (sameNode n) p ≡ a = v .apart (place (sameNode n) p) a l h (sym (same-node n _ (place-passes (sameNode n) noNode p l)) ∙ sym e) in
     rw (lt-ltb _ _ l, same) refl
+
+-- an operation's node means the operation over its children's trees
+abbrev pub OpMeans : Pool → ℕ → List Two → Interned → Type 0
+OpMeans p o l r = (treeAt (r .pool) (r .term) ≡ node o (runsOf (treesAfter [] p) (joinRuns l))) × (expand (runsOf (treesAfter [] p) (joinRuns l)) ≡ map (treeAt p) (written l))
+
+pub op-means : (p : Pool) (o : ℕ) (l : List Two) (r : Interned) → Interns p (opNode o l) r → OpMeans p o l r
+op-means p o l r e = (e .means ∙ tree-operation (treesAfter [] p) (opNode o l) refl, expand-joined (treesAfter [] p) l)

@@ -9,6 +9,7 @@ use lib.ListN.{length, length-append}
 use borrow.Author.Tests.{ltb-true}
 use Rattle.spec.specs.Bytes.{pick, both, place, Two, Limits, Res, ok, refused, _>>=_}
 use Rattle.spec.specs.Image.{Tables, Member, Lit, kindOf, isCommutative, bestSize, bestMember, childrenOf}
+use Rattle.spec.specs.System as system
 use Rattle.spec.specs.Round.{Choice, stay, act, choiceTerm, actionTerm, planRuns}
 use Rattle.spec.specs.Pool.{Pool, Node, Interned, interned, sameNode, runCount, intern, opNode, litNode, variantsNode, sortRuns, Children, childTerms, bestTermIn, bestTerm, startingTerm}
 
@@ -76,7 +77,7 @@ starting-fits lim t p c h = go (eqb (c .0) (c .1))
         (λ a l. fits-then lim (bestTerm lim t (a .pool) (c .1)) _ (best-fits lim (bestSize t (c .1)) t (a .pool) (c .1) l) (λ b k. intern-fits lim (b .pool) (variantsNode (a .term) (b .term)) k))
 
 choice-fits : (lim : Limits) (t : Tables) (of : Two → ℕ) (p : Pool) (old : ℕ) (c : Choice) → length p ≤ lim .terms → Fits lim (choiceTerm lim t of p old c)
-unfolding choiceTerm actionTerm
+unfolding system.choiceTerm actionTerm
 choice-fits lim t of p old stay h = h
 choice-fits lim t of p old (act a) h = let l = planRuns of (a .places) (a .counts) in intern-fits lim p (opNode (a .op) (pick (isCommutative (kindOf t (a .op))) (sortRuns p l) l)) h
 

@@ -36,7 +36,7 @@ pub perm-below : {i : ℕ} {l m : List Two} → Perm l m → RunsBelow i l → R
 perm-below q b = record { earlier = λ r j. b .earlier r (perm-in (perm-sym q) j); counted = λ r j. b .counted r (perm-in (perm-sym q) j) }
 
 -- places that are not used leave no run
-pub plan-written : (of : Two → ℕ) (ps : List Two) (x : List ℕ) → written (planRuns of ps x) ≡ spread (map of ps) x
+pub plan-written : {N : Type 0} (of : N → ℕ) (ps : List N) (x : List ℕ) → written (planRuns of ps x) ≡ spread (map of ps) x
 unfolding planRuns written spread
 plan-written of [] x = refl
 plan-written of (p ∷ ps) [] = refl
@@ -46,7 +46,7 @@ plan-written of (p ∷ ps) (n ∷ x) = go (eqb n 0) refl (plan-written of ps x)
     go true e ih = rw (eqb-true n 0 e) ih
     go false e ih = ap (λ (z : List ℕ). replicate n (of p) ++ z) ih
 
-pub plan-below : (of : Two → ℕ) (i : ℕ) (ps : List Two) (x : List ℕ) → ((c : Two) → In c ps → of c < i) → RunsBelow i (planRuns of ps x)
+pub plan-below : {N : Type 0} (of : N → ℕ) (i : ℕ) (ps : List N) (x : List ℕ) → ((c : N) → In c ps → of c < i) → RunsBelow i (planRuns of ps x)
 unfolding planRuns
 plan-below of i [] x h = runs-below-nil i
 plan-below of i (p ∷ ps) [] h = runs-below-nil i

@@ -1,19 +1,15 @@
 -- The numbers of a valid pool mean trees over the trees of earlier numbers, and different numbers mean different trees.
 use mathlib.Core.Path.{_≡_, refl, sym, ap, ap₂, _∙_}
-use mathlib.Core.Bool.{Bool, true, false}
 use mathlib.Core.List.{List, [], _∷_, _++_, map}
 use Prim.Native.Nat.{ℕ, zero, suc, _+_, _≤_, _<_}
 use native.Mathlib.Nat.{not-suc-le-zero}
 use native.Mathlib.Omega.{arith}
-use lib.Dec.{eqb}
-use borrow.Author.Tests.{eqb-true}
 use lib.ListN.{length, length-append, replicate}
-use Rattle.spec.specs.Bytes.{pick, Two}
-use Rattle.spec.specs.Pool.{Node, Pool, nodeAt, joinRuns, variantsNode}
-use Rattle.spec.specs.Meaning.{here, there, Term, lit, node, variants, Runs, run, expand, runsOf, treeOf, treesAfter, treeAt}
-use Rattle.laws.specs.Tests.{clash}
+use Rattle.spec.specs.Bytes.{Two}
+use Rattle.spec.specs.Pool.{Node, Pool, nodeAt, joinRuns}
+use Rattle.spec.specs.Meaning.{here, Term, lit, node, variants, Runs, run, expand, runsOf, treeOf, treesAfter, treeAt}
 use Rattle.laws.specs.Bag.{map-append, map-replicate}
-use Rattle.laws.specs.BagCount.{written}
+use Rattle.laws.specs.BagCount.{written, join-written}
 use Rattle.pools.specs.Pool.{RunsBelow, runs-below-tail, Formed, operation, literal, marked, NodeValid, PoolValid, numbered, trees-keep, getD-last, tree-operation, tree-literal, tree-marked}
 
 -- ---- a node's tree depends on its children's alone
@@ -22,24 +18,13 @@ unfolding runsOf
 runs-cong ts us i [] b h = refl
 runs-cong ts us i (r ∷ l) b h = ap₂ (λ (t : Term) (s : Runs). run t (r .1) s) (h (r .0) (b .earlier r here)) (runs-cong ts us i l (runs-below-tail b) h)
 
--- the branches of a marked place stand among its runs
-pub branches-below : (i a b : ℕ) → RunsBelow i (variantsNode a b .runs) → (a < i) × (b < i)
-unfolding joinRuns
-branches-below i a b h = go (eqb a b) refl h
-  where
-    go : (t : Bool) → eqb a b ≡ t → RunsBelow i (pick t ((a, 1 + 1) ∷ []) ((a, 1) ∷ (b, 1) ∷ [])) → (a < i) × (b < i)
-    go true e k = (k .earlier (a, 1 + 1) here, omega (arith, k .earlier (a, 1 + 1) here, eqb-true a b e))
-    go false e k = (k .earlier (a, 1) here, k .earlier (b, 1) (there here))
-
 pub tree-cong : (ts us : List Term) (i : ℕ) (n : Node) → NodeValid i n → ((a : ℕ) → a < i → numbered ts a ≡ numbered us a) → treeOf ts n ≡ treeOf us n
 tree-cong ts us i n v h = go (v .formed)
   where
     go : Formed n → treeOf ts n ≡ treeOf us n
     go (operation e z) = tree-operation ts n e ∙ ap (node (n .op)) (runs-cong ts us i (n .runs) (v .below) h) ∙ sym (tree-operation us n e)
     go (literal e z) = tree-literal ts n e ∙ sym (tree-literal us n e)
-    go (marked a b e) =
-        let (x, y) = branches-below i a b (rw e at (v .below)) in
-        rw e (tree-marked ts a b ∙ ap₂ variants (h a x) (h b y) ∙ sym (tree-marked us a b))
+    go (marked e z u) = tree-marked ts n e ∙ ap variants (runs-cong ts us i (n .runs) (v .below) h) ∙ sym (tree-marked us n e)
 
 trees-at : (ts : List Term) (p : Pool) (i k : ℕ) → k ≡ length ts + i → i < length p → ((j : ℕ) → j < length p → NodeValid (length ts + j) (nodeAt p j)) → numbered (treesAfter ts p) k ≡ treeOf (treesAfter ts p) (nodeAt p i)
 unfolding treesAfter
@@ -65,6 +50,10 @@ pub expand-runs : (ts : List Term) (l : List Two) → expand (runsOf ts l) ≡ m
 unfolding expand runsOf written
 expand-runs ts [] = refl
 expand-runs ts (r ∷ l) = rw (expand-runs ts l, map-append (numbered ts) (replicate (r .1) (r .0)) (written l), map-replicate (numbered ts) (r .1) (r .0)) refl
+
+-- joining changes nothing of what is written out
+pub expand-joined : (ts : List Term) (l : List Two) → expand (runsOf ts (joinRuns l)) ≡ map (numbered ts) (written l)
+expand-joined ts l = expand-runs ts (joinRuns l) ∙ ap (map (numbered ts)) (join-written l)
 
 -- ---- a node can be read off its tree, where the children's trees are apart
 runs-inj : (ts : List Term) (i : ℕ) (l m : List Two) → RunsBelow i l → RunsBelow i m → ((a b : ℕ) → a < i → b < i → numbered ts a ≡ numbered ts b → a ≡ b) → runsOf ts l ≡ runsOf ts m → l ≡ m
@@ -93,8 +82,8 @@ node-inj ts i x y v w h e = go (v .formed) (w .formed)
     lits : (o o′ u u′ : ℕ) → lit o u ≡ lit o′ u′ → (o ≡ o′) × (u ≡ u′)
     lits o o′ u u′ e = (cc, cc)
 
-    both : (a b c d : Term) → variants a b ≡ variants c d → (a ≡ c) × (b ≡ d)
-    both a b c d e = (cc, cc)
+    marks : (r r′ : Runs) → variants r ≡ variants r′ → r ≡ r′
+    marks r r′ e = cc
 
     go : Formed x → Formed y → x ≡ y
     go (operation a z) (operation b u) =
@@ -103,11 +92,9 @@ node-inj ts i x y v w h e = go (v .formed) (w .formed)
     go (literal a z) (literal b u) =
         let (o, r) = lits _ _ _ _ (sym (tree-literal ts x a) ∙ e ∙ tree-literal ts y b) in
         node-ext x y (a ∙ sym b) o r (z ∙ sym u)
-    go (marked a b p) (marked c d q) =
-        let (f, g) = branches-below i a b (rw p at (v .below)) in
-        let (f′, g′) = branches-below i c d (rw q at (w .below)) in
-        let (s, t) = both _ _ _ _ (sym (tree-marked ts a b) ∙ ap (treeOf ts) (sym p) ∙ e ∙ ap (treeOf ts) q ∙ tree-marked ts c d) in
-        p ∙ ap₂ variantsNode (h a c f f′ s) (h b d g g′ t) ∙ sym q
+    go (marked a z f) (marked b u g) =
+        let r = marks _ _ (sym (tree-marked ts x a) ∙ e ∙ tree-marked ts y b) in
+        node-ext x y (a ∙ sym b) (z ∙ sym u) (f ∙ sym g) (runs-inj ts i (x .runs) (y .runs) (v .below) (w .below) h r)
     go (operation a z) (literal b u) = clash (sym (tree-operation ts x a) ∙ e ∙ tree-literal ts y b)
       where
         clash : node (x .op) (runsOf ts (x .runs)) ≡ lit (y .op) (y .value) → x ≡ y
@@ -116,21 +103,21 @@ node-inj ts i x y v w h e = go (v .formed) (w .formed)
       where
         clash : lit (x .op) (x .value) ≡ node (y .op) (runsOf ts (y .runs)) → x ≡ y
         clash k = cc
-    go (operation a z) (marked c d q) = clash (sym (tree-operation ts x a) ∙ e ∙ ap (treeOf ts) q ∙ tree-marked ts c d)
+    go (operation a z) (marked c d q) = clash (sym (tree-operation ts x a) ∙ e ∙ tree-marked ts y c)
       where
-        clash : node (x .op) (runsOf ts (x .runs)) ≡ variants (numbered ts c) (numbered ts d) → x ≡ y
+        clash : node (x .op) (runsOf ts (x .runs)) ≡ variants (runsOf ts (y .runs)) → x ≡ y
         clash k = cc
-    go (marked c d q) (operation a z) = clash (sym (tree-marked ts c d) ∙ ap (treeOf ts) (sym q) ∙ e ∙ tree-operation ts y a)
+    go (marked c d q) (operation a z) = clash (sym (tree-marked ts x c) ∙ e ∙ tree-operation ts y a)
       where
-        clash : variants (numbered ts c) (numbered ts d) ≡ node (y .op) (runsOf ts (y .runs)) → x ≡ y
+        clash : variants (runsOf ts (x .runs)) ≡ node (y .op) (runsOf ts (y .runs)) → x ≡ y
         clash k = cc
-    go (literal a z) (marked c d q) = clash (sym (tree-literal ts x a) ∙ e ∙ ap (treeOf ts) q ∙ tree-marked ts c d)
+    go (literal a z) (marked c d q) = clash (sym (tree-literal ts x a) ∙ e ∙ tree-marked ts y c)
       where
-        clash : lit (x .op) (x .value) ≡ variants (numbered ts c) (numbered ts d) → x ≡ y
+        clash : lit (x .op) (x .value) ≡ variants (runsOf ts (y .runs)) → x ≡ y
         clash k = cc
-    go (marked c d q) (literal a z) = clash (sym (tree-marked ts c d) ∙ ap (treeOf ts) (sym q) ∙ e ∙ tree-literal ts y a)
+    go (marked c d q) (literal a z) = clash (sym (tree-marked ts x c) ∙ e ∙ tree-literal ts y a)
       where
-        clash : variants (numbered ts c) (numbered ts d) ≡ lit (y .op) (y .value) → x ≡ y
+        clash : variants (runsOf ts (x .runs)) ≡ lit (y .op) (y .value) → x ≡ y
         clash k = cc
 
 pub valid-below : (i j : ℕ) (n : Node) → i ≤ j → NodeValid i n → NodeValid j n

@@ -1,4 +1,4 @@
--- Best terms and starting terms: the fuel suffices, the pool stays valid, and each term has its quality and belongs, read either way.
+-- Best terms: the fuel suffices, the pool stays valid, and each has its quality and belongs to its class, read in every way.
 use mathlib.Core.Path.{_≡_, refl, sym, ap, ap₂, _∙_}
 use mathlib.Core.Logic.{_≢_}
 use mathlib.Core.Bool.{Bool, true, false}
@@ -12,65 +12,22 @@ use Rattle.spec.specs.Bytes.{Limits, Two, pick, sum, Res, ok, refused, _>>=_}
 use Rattle.spec.specs.Image.{Tables, Member, MSet, Lit, arities, isCommutative, kindOf, bestSize, membersOf, childrenOf, bestMember, sizeOver}
 use Rattle.spec.specs.Monomial.{classes, counts}
 use Rattle.spec.specs.Transport.{planSize, planMass}
-use Rattle.spec.specs.Pool.{Pool, joinRuns, opNode, litNode, variantsNode, Interned, intern, Children, childTerms, bestTermIn, bestTerm, startingTerm}
-use Rattle.spec.specs.Round.{startingQuality, cellsOver, qualityOver}
-use Rattle.spec.specs.Meaning.{In, here, there, Term, lit, node, variants, Runs, termQuality, expand, reading, runsOf, treesAfter, treeAt, member, Belongs, literal}
+use Rattle.spec.specs.Pool.{Pool, joinRuns, opNode, litNode, variantsNode, Interned, intern, Children, childTerms, bestTermIn, bestTerm}
+use Rattle.spec.specs.Round.{cellsOver, qualityOver}
+use Rattle.spec.specs.Meaning.{In, here, there, Term, lit, node, Runs, termQuality, runsQuality, expand, reading, runsOf, treeOf, treesAfter, treeAt, member, Belongs, literal}
 use Rattle.laws.specs.Tests.{clash}
 use Rattle.laws.specs.Scans.{nil-of-length}
 use Rattle.laws.specs.Valid.{Valid}
 use Rattle.laws.specs.Bag.{perm-of-eq}
-use Rattle.laws.specs.BagCount.{written, spread, map-spread, spread-written, occurs-written, written-ones, join-written}
-use Rattle.pools.specs.Pool.{RunsBelow, runs-below-nil, runs-below-cons, PoolValid, op-valid, lit-valid, variants-valid, tree-operation, tree-literal, tree-marked}
-use Rattle.pools.specs.PoolTrees.{expand-runs}
-use Rattle.pools.specs.PoolIntern.{Extends, extends-refl, extends-trans, extends-within, extends-tree, Interns, intern-enters}
-use Rattle.readings.specs.ReadingsNode.{Covers, inOrder, anyOrder, TermFor, TermsFor, noTerm, andTerm, good-node}
+use Rattle.laws.specs.BagCount.{written, spread, map-spread, spread-written, occurs-written, written-ones}
+use Rattle.pools.specs.Pool.{RunsBelow, runs-below-nil, runs-below-cons, PoolValid, op-valid, lit-valid, variants-valid, numbered, tree-literal, tree-marked}
+use Rattle.pools.specs.PoolIntern.{Extends, extends-refl, extends-trans, extends-within, extends-tree, Interns, intern-enters, op-means}
+use Rattle.readings.specs.ReadingsNode.{size, runs-size, two-branches, read-variants, Covers, inOrder, anyOrder, TermFor, TermsFor, noTerm, andTerm, good-node}
 use Rattle.laws.specs.BestMembers.{best-in, best-falls, child-within, child-counted, child-single, member-arity}
 use Rattle.laws.specs.Lists.{map-map}
 use Rattle.laws.specs.Results.{bind-ok, ok-inj}
 
--- an operation's node means the operation over its children's trees
-abbrev pub OpMeans : Pool → ℕ → List Two → Interned → Type 0
-OpMeans p o l r = (treeAt (r .pool) (r .term) ≡ node o (runsOf (treesAfter [] p) (joinRuns l))) × (expand (runsOf (treesAfter [] p) (joinRuns l)) ≡ map (treeAt p) (written l))
-
-pub op-means : (p : Pool) (o : ℕ) (l : List Two) (r : Interned) → Interns p (opNode o l) r → OpMeans p o l r
-op-means p o l r e = (e .means ∙ tree-operation (treesAfter [] p) (opNode o l) refl, expand-runs (treesAfter [] p) (joinRuns l) ∙ ap (map (treeAt p)) (join-written l))
-
--- what a step that makes a term for a pair in pool p gives: the pool stays valid, and the term is good for the pair and the quality
-pub record Makes (t : Tables) (p : Pool) (c q : Two) (r : Interned) : Type 0 where
-  pub valid : PoolValid (r .pool)
-  pub grown : Extends p (r .pool)
-  pub within : r .term < length (r .pool)
-  pub good : TermFor t c q (treeAt (r .pool) (r .term))
-
--- the children of a best term: their pool, their runs along the member's children, their trees
-record MakesChildren (t : Tables) (p : Pool) (l : List Two) (k : Children) : Type 0 where
-  valid : PoolValid (k .pool)
-  grown : Extends p (k .pool)
-  below : RunsBelow (length (k .pool)) (k .runs)
-  same : counts (k .runs) ≡ counts l
-  good : TermsFor t (map (λ c. (c .0, c .0)) l) (map (λ c. (bestSize t (c .0), 0)) l) (map (treeAt (k .pool)) (classes (k .runs)))
-
 module _ (lim : Limits) (t : Tables) where
-  children-made : (best : Pool → ℕ → Res Interned) (l : List Two) → ((c : Two) → In c l → (p : Pool) (r : Interned) → PoolValid p → best p (c .0) ≡ ok r → Makes t p (c .0, c .0) (bestSize t (c .0), 0) r)
-      → ((c : Two) → In c l → 1 ≤ c .1) → (p : Pool) (k : Children) → PoolValid p → childTerms best p l ≡ ok k → MakesChildren t p l k
-  unfolding childTerms
-  children-made best [] h n p k v e = rw (← ok-inj e) (record { valid = v; grown = extends-refl p; below = runs-below-nil (length p); same = refl; good = noTerm })
-  children-made best (c ∷ l) h n p k v e =
-      let (a, ea, e′) = bind-ok (best p (c .0)) _ k e in
-      let (m, em, e″) = bind-ok (childTerms best (a .pool) l) _ k e′ in
-      let A = h c here p a v ea in
-      let M = children-made best l (λ d i. h d (there i)) (λ d i. n d (there i)) (a .pool) m (A .valid) em in
-      let kept : treeAt (m .pool) (a .term) ≡ treeAt (a .pool) (a .term) = extends-tree (M .grown) (a .term) (A .within) in
-      let g : TermFor t (c .0, c .0) (bestSize t (c .0), 0) (treeAt (m .pool) (a .term)) = rw kept (A .good) in
-      rw (← ok-inj e″) (record {
-        valid = M .valid;
-        grown = extends-trans (A .grown) (M .grown);
-        below = runs-below-cons {r = (a .term, c .1)} (extends-within (M .grown) (a .term) (A .within)) (n c here) (M .below);
-        same = ap (λ (z : List ℕ). c .1 ∷ z) (M .same);
-        good = andTerm g (M .good);
-      })
-
-  -- ---- fuel
   children-same : (best other : Pool → ℕ → Res Interned) (l : List Two) → ((c : Two) → In c l → (p : Pool) → best p (c .0) ≡ other p (c .0)) → (p : Pool) → childTerms best p l ≡ childTerms other p l
   unfolding childTerms
   children-same best other [] h p = refl
@@ -111,13 +68,14 @@ module _ (lim : Limits) (t : Tables) where
   pub best-fuel : Valid t → (f : ℕ) (p : Pool) (c : ℕ) → c < length (t .classes) → bestSize t c ≤ f → bestTermIn lim f t p c ≡ bestTerm lim t p c
   best-fuel v f p c h a = fuel-same v f (bestSize t c) p c h a (omega arith)
 
-  -- ---- best terms
-  best-size : (l : List Two) → planSize (counts l) (cellsOver (map (λ c. (bestSize t (c .0), 0)) l)) ≡ sum (map (λ c. c .1 * bestSize t (c .0)) l)
+-- ---- best terms
+module _ (t : Tables) where
+  pub best-size : (l : List Two) → planSize (counts l) (cellsOver (map (λ c. (bestSize t (c .0), 0)) l)) ≡ sum (map (λ c. c .1 * bestSize t (c .0)) l)
   unfolding planSize sum
   best-size [] = refl
   best-size (c ∷ l) = omega (arith, best-size l)
 
-  best-mass : (l : List Two) → planMass (counts l) (cellsOver (map (λ c. (bestSize t (c .0), 0)) l)) ≡ 0
+  pub best-mass : (l : List Two) → planMass (counts l) (cellsOver (map (λ c. (bestSize t (c .0), 0)) l)) ≡ 0
   unfolding planMass
   best-mass [] = refl
   best-mass (c ∷ l) = omega (arith, best-mass l)
@@ -133,9 +91,44 @@ module _ (lim : Limits) (t : Tables) where
       go true e = anyOrder (childrenOf t m) (member m i refl refl) e (λ k. occurs-written k (childrenOf t m))
       go false e = inOrder m i refl e w (written-ones (childrenOf t m) (child-single t v m c i (not-mset (kindOf t (m .op)) e)))
 
-  literal-good : Valid t → (c : ℕ) → c < length (t .classes) → kindOf t (bestMember t c .op) ≡ Lit → TermFor t (c, c) (bestSize t c, 0) (lit (bestMember t c .op) (bestMember t c .value))
+-- a best term belongs to its class however it is read
+abbrev pub Itself : ℕ → ℕ → ℕ
+Itself c k = c
+
+module _ (lim : Limits) (t : Tables) (ways : ℕ) where
+  abbrev pub Good : ℕ → Two → Term → Type 0
+  Good = TermFor t ways Itself
+
+  -- the children of a best term: their pool, their runs along the member's children, their trees
+  record MakesChildren (p : Pool) (l : List Two) (k : Children) : Type 0 where
+    valid : PoolValid (k .pool)
+    grown : Extends p (k .pool)
+    below : RunsBelow (length (k .pool)) (k .runs)
+    same : counts (k .runs) ≡ counts l
+    good : TermsFor t ways Itself (map (λ c. c .0) l) (map (λ c. (bestSize t (c .0), 0)) l) (map (treeAt (k .pool)) (classes (k .runs)))
+
+  children-made : (best : Pool → ℕ → Res Interned) (l : List Two) → ((c : Two) → In c l → (p : Pool) (r : Interned) → PoolValid p → best p (c .0) ≡ ok r → Makes Good p (c .0) (bestSize t (c .0), 0) r)
+      → ((c : Two) → In c l → 1 ≤ c .1) → (p : Pool) (k : Children) → PoolValid p → childTerms best p l ≡ ok k → MakesChildren p l k
+  unfolding childTerms
+  children-made best [] h n p k v e = rw (← ok-inj e) (record { valid = v; grown = extends-refl p; below = runs-below-nil (length p); same = refl; good = noTerm })
+  children-made best (c ∷ l) h n p k v e =
+      let (a, ea, e′) = bind-ok (best p (c .0)) _ k e in
+      let (m, em, e″) = bind-ok (childTerms best (a .pool) l) _ k e′ in
+      let A = h c here p a v ea in
+      let M = children-made best l (λ d i. h d (there i)) (λ d i. n d (there i)) (a .pool) m (A .valid) em in
+      let kept : treeAt (m .pool) (a .term) ≡ treeAt (a .pool) (a .term) = extends-tree (M .grown) (a .term) (A .within) in
+      let g : TermFor t ways Itself (c .0) (bestSize t (c .0), 0) (treeAt (m .pool) (a .term)) = rw kept (A .good) in
+      rw (← ok-inj e″) (record {
+        valid = M .valid;
+        grown = extends-trans (A .grown) (M .grown);
+        below = runs-below-cons {r = (a .term, c .1)} (extends-within (M .grown) (a .term) (A .within)) (n c here) (M .below);
+        same = ap (λ (z : List ℕ). c .1 ∷ z) (M .same);
+        good = andTerm g (M .good);
+      })
+
+  literal-good : Valid t → (c : ℕ) → c < length (t .classes) → kindOf t (bestMember t c .op) ≡ Lit → TermFor t ways Itself c (bestSize t c, 0) (lit (bestMember t c .op) (bestMember t c .value))
   unfolding arities sizeOver sum termQuality reading
-  literal-good v c h k = record { quality = ap (λ (z : ℕ). (z, 0)) (sym one); first = belongs; second = belongs }
+  literal-good v c h k = record { quality = ap (λ (z : ℕ). (z, 0)) (sym one); reads = λ j l. belongs }
     where
       i : In (bestMember t c) (membersOf t c)
       i = best-in t v c h
@@ -151,13 +144,12 @@ module _ (lim : Limits) (t : Tables) where
 
   -- the best member over terms that are best for its children
   node-good : Valid t → (c : ℕ) → c < length (t .classes) → kindOf t (bestMember t c .op) ≢ Lit → (ts : List Term) (r : Runs)
-      → TermsFor t (map (λ d. (d .0, d .0)) (childrenOf t (bestMember t c))) (map (λ d. (bestSize t (d .0), 0)) (childrenOf t (bestMember t c))) ts
-      → expand r ≡ spread ts (counts (childrenOf t (bestMember t c))) → TermFor t (c, c) (bestSize t c, 0) (node (bestMember t c .op) r)
+      → TermsFor t ways Itself (map (λ d. d .0) (childrenOf t (bestMember t c))) (map (λ d. (bestSize t (d .0), 0)) (childrenOf t (bestMember t c))) ts
+      → expand r ≡ spread ts (counts (childrenOf t (bestMember t c))) → TermFor t ways Itself c (bestSize t c, 0) (node (bestMember t c .op) r)
   unfolding sizeOver
   node-good v c h w ts r g e =
-      rw (best-is) (good-node t (c, c) (m .op) (map (λ d. (d .0, d .0)) l) (map (λ d. (bestSize t (d .0), 0)) l) ts (counts l) r g (perm-of-eq (sym e)) (λ n. sym e)
-      (rw (map-map {B = Two} (λ d. (d .0, d .0)) (λ d. d .0) l, spread-written l) (member-covers v m c (best-in t v c h) w))
-      (rw (map-map {B = Two} (λ d. (d .0, d .0)) (λ d. d .1) l, spread-written l) (member-covers v m c (best-in t v c h) w)))
+      rw (best-is) (good-node t ways Itself c (m .op) (map (λ d. d .0) l) (map (λ d. (bestSize t (d .0), 0)) l) ts (counts l) r g (perm-of-eq (sym e)) (λ n. sym e)
+      (λ k j. rw (map-map {B = ℕ} (λ d. d .0) (λ d. d) l, spread-written l) (member-covers t v m c (best-in t v c h) w)))
     where
       m : Member
       m = bestMember t c
@@ -166,9 +158,9 @@ module _ (lim : Limits) (t : Tables) where
       l = childrenOf t m
 
       best-is : (bestSize t c, 0) ≡ qualityOver (counts l) (map (λ d. (bestSize t (d .0), 0)) l)
-      best-is = ap₂ (λ (x y : ℕ). (x, y)) (v .best .bestEquation c h ∙ ap (λ (z : ℕ). 1 + z) (sym (best-size l))) (sym (best-mass l))
+      best-is = ap₂ (λ (x y : ℕ). (x, y)) (v .best .bestEquation c h ∙ ap (λ (z : ℕ). 1 + z) (sym (best-size t l))) (sym (best-mass t l))
 
-  pub best-made : Valid t → (f : ℕ) (p : Pool) (c : ℕ) (r : Interned) → c < length (t .classes) → bestSize t c ≤ f → PoolValid p → bestTermIn lim f t p c ≡ ok r → Makes t p (c, c) (bestSize t c, 0) r
+  best-made : Valid t → (f : ℕ) (p : Pool) (c : ℕ) (r : Interned) → c < length (t .classes) → bestSize t c ≤ f → PoolValid p → bestTermIn lim f t p c ≡ ok r → Makes Good p c (bestSize t c, 0) r
   unfolding bestTermIn
   best-made v zero p c r h a w e = let z = v .best .bestRange c h .0 in absurd (omega arith)
   best-made v (suc f) p c r h a w e = go (eqb (kindOf t (bestMember t c .op)) Lit) refl e (λ d i q s. let z = best-falls t v c h d i in best-made v f q (d .0) s (child-within t v (bestMember t c) c (best-in t v c h) d i) (omega arith))
@@ -179,7 +171,7 @@ module _ (lim : Limits) (t : Tables) where
       l : List Two
       l = childrenOf t m
 
-      asLiteral : kindOf t (m .op) ≡ Lit → Interns p (litNode (m .op) (m .value)) r → Makes t p (c, c) (bestSize t c, 0) r
+      asLiteral : kindOf t (m .op) ≡ Lit → Interns p (litNode (m .op) (m .value)) r → Makes Good p c (bestSize t c, 0) r
       asLiteral k E = record {
         valid = E .valid;
         grown = E .grown;
@@ -188,7 +180,7 @@ module _ (lim : Limits) (t : Tables) where
             (literal-good v c h k);
       }
 
-      asNode : kindOf t (m .op) ≢ Lit → (k : Children) → MakesChildren t p l k → Interns (k .pool) (opNode (m .op) (k .runs)) r → Makes t p (c, c) (bestSize t c, 0) r
+      asNode : kindOf t (m .op) ≢ Lit → (k : Children) → MakesChildren p l k → Interns (k .pool) (opNode (m .op) (k .runs)) r → Makes Good p c (bestSize t c, 0) r
       asNode w k M E =
           let (means, children) = op-means (k .pool) (m .op) (k .runs) r E in record {
             valid = E .valid;
@@ -200,52 +192,14 @@ module _ (lim : Limits) (t : Tables) where
 
       go : (b : Bool) → eqb (kindOf t (m .op)) Lit ≡ b
           → (elim b [ true ↦ intern lim p (litNode (m .op) (m .value)) | false ↦ childTerms (bestTermIn lim f t) p l >>= (λ k. intern lim (k .pool) (opNode (m .op) (k .runs))) ]) ≡ ok r
-          → ((d : Two) → In d l → (q : Pool) (s : Interned) → PoolValid q → bestTermIn lim f t q (d .0) ≡ ok s → Makes t q (d .0, d .0) (bestSize t (d .0), 0) s)
-          → Makes t p (c, c) (bestSize t c, 0) r
+          → ((d : Two) → In d l → (q : Pool) (s : Interned) → PoolValid q → bestTermIn lim f t q (d .0) ≡ ok s → Makes Good q (d .0) (bestSize t (d .0), 0) s)
+          → Makes Good p c (bestSize t c, 0) r
       go true k e ih = asLiteral (eqb-true _ _ k) (intern-enters lim p (litNode (m .op) (m .value)) r w (lit-valid (length p) (m .op) (m .value)) e)
       go false b e ih =
           let (k, ek, e′) = bind-ok (childTerms (bestTermIn lim f t) p l) _ r e in
           let M = children-made (bestTermIn lim f t) l ih (child-counted t v m c (best-in t v c h)) p k w ek in
           asNode (eqb-false _ _ b) k M (intern-enters lim (k .pool) (opNode (m .op) (k .runs)) r (M .valid) (op-valid (length (k .pool)) (m .op) (k .runs) (M .below)) e′)
 
-  -- The best term of a class has the class's best size and mass 0, and belongs to the class, read either way.
-  pub best-term : Valid t → (p : Pool) (c : ℕ) (r : Interned) → c < length (t .classes) → PoolValid p → bestTerm lim t p c ≡ ok r → Makes t p (c, c) (bestSize t c, 0) r
+  -- The best term of a class has the class's best size and mass 0, and belongs to the class, read in every way.
+  pub best-term : Valid t → (p : Pool) (c : ℕ) (r : Interned) → c < length (t .classes) → PoolValid p → bestTerm lim t p c ≡ ok r → Makes Good p c (bestSize t c, 0) r
   best-term v p c r h w e = best-made v (bestSize t c) p c r h (omega arith) w e
-
-  pub best-quality : Valid t → (p : Pool) (c : ℕ) (r : Interned) → c < length (t .classes) → PoolValid p → bestTerm lim t p c ≡ ok r → termQuality (treeAt (r .pool) (r .term)) ≡ (bestSize t c, 0)
-  best-quality v p c r h w e = best-term v p c r h w e .good .quality
-
-  -- ---- "Starting term: the best term of one class, mass 0; or the marked place Variants of two best terms, size and mass both their sum."
-  same-classes : (p : Pool) (c : Two) (r : Interned) → c .0 ≡ c .1 → Makes t p (c .0, c .0) (bestSize t (c .0), 0) r → Makes t p c (bestSize t (c .0), 0) r
-  same-classes p c r e M = record { valid = M .valid; grown = M .grown; within = M .within; good = record { quality = M .good .quality; first = M .good .first; second = rw (← e) (M .good .second) } }
-
-  marked-good : (c : Two) (a b : Term) → TermFor t (c .0, c .0) (bestSize t (c .0), 0) a → TermFor t (c .1, c .1) (bestSize t (c .1), 0) b
-      → TermFor t c (bestSize t (c .0) + bestSize t (c .1), bestSize t (c .0) + bestSize t (c .1)) (variants a b)
-  unfolding termQuality reading
-  marked-good c a b g h = record {
-    quality = ap₂ (λ (x y : Two). (x .0 + y .0, x .0 + y .0)) (g .quality) (h .quality);
-    first = g .first;
-    second = h .second;
-  }
-
-  pub starting-made : Valid t → (p : Pool) (c : Two) (r : Interned) → c .0 < length (t .classes) → c .1 < length (t .classes) → PoolValid p → startingTerm lim t p c ≡ ok r → Makes t p c (startingQuality t c) r
-  unfolding startingTerm
-  starting-made v p c r h k w e = go (eqb (c .0) (c .1)) refl e
-    where
-      go : (b : Bool) → eqb (c .0) (c .1) ≡ b
-          → (elim b [ true ↦ bestTerm lim t p (c .0) | false ↦ bestTerm lim t p (c .0) >>= (λ x. bestTerm lim t (x .pool) (c .1) >>= (λ y. intern lim (y .pool) (variantsNode (x .term) (y .term)))) ]) ≡ ok r
-          → Makes t p c (pick b (bestSize t (c .0), 0) (bestSize t (c .0) + bestSize t (c .1), bestSize t (c .0) + bestSize t (c .1))) r
-      go true z e = same-classes p c r (eqb-true _ _ z) (best-term v p (c .0) r h w e)
-      go false z e =
-          let (x, ex, e′) = bind-ok (bestTerm lim t p (c .0)) _ r e in
-          let (y, ey, e″) = bind-ok (bestTerm lim t (x .pool) (c .1)) _ r e′ in
-          let X = best-term v p (c .0) x h w ex in
-          let Y = best-term v (x .pool) (c .1) y k (X .valid) ey in
-          let l : x .term < length (y .pool) = extends-within (Y .grown) (x .term) (X .within) in
-          let E = intern-enters lim (y .pool) (variantsNode (x .term) (y .term)) r (Y .valid) (variants-valid (length (y .pool)) (x .term) (y .term) l (Y .within)) e″ in record {
-            valid = E .valid;
-            grown = extends-trans (X .grown) (extends-trans (Y .grown) (E .grown));
-            within = E .within;
-            good = rw (E .means ∙ tree-marked (treesAfter [] (y .pool)) (x .term) (y .term))
-                (marked-good c _ _ (rw (extends-tree (Y .grown) (x .term) (X .within)) (X .good)) (Y .good));
-          }

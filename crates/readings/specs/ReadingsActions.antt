@@ -57,16 +57,16 @@ once ps f = spread-ones (map f ps) ps (length-map ps f)
 module _ (t : Tables) (v : Valid t) where
   -- ---- structural actions
   -- "pair children by position"
-  in-place : (m : Member) (o c : ℕ) → In m (membersOf t c) → o ≡ m .op → isCommutative (kindOf t o) ≡ false → kindOf t o ≢ Lit → Covers t o c (classes (childrenOf t m))
+  pub in-place : (m : Member) (o c : ℕ) → In m (membersOf t c) → o ≡ m .op → isCommutative (kindOf t o) ≡ false → kindOf t o ≢ Lit → Covers t o c (classes (childrenOf t m))
   in-place m o c i e n z = inOrder m i e n z refl
 
   -- SPair: two child classes, in either order
-  either-way : (m : Member) (o c : ℕ) → In m (membersOf t c) → o ≡ m .op → kindOf t o ≡ SPair → (a b : ℕ) → ((k : ℕ) → occurs k (a ∷ b ∷ []) ≡ occurs k (classes (childrenOf t m))) → Covers t o c (a ∷ b ∷ [])
+  pub either-way : (m : Member) (o c : ℕ) → In m (membersOf t c) → o ≡ m .op → kindOf t o ≡ SPair → (a b : ℕ) → ((k : ℕ) → occurs k (a ∷ b ∷ []) ≡ occurs k (classes (childrenOf t m))) → Covers t o c (a ∷ b ∷ [])
   either-way m o c i e s a b h =
       anyOrder (childrenOf t m) (member m i (sym e) refl) (rw s refl)
       (λ k. h k ∙ ap (occurs k) (sym (written-ones (childrenOf t m) (child-single t v m c i (rw (← e, s) (λ z. omega arith))))) ∙ occurs-written k (childrenOf t m))
 
-  pair-classes : (m : Member) (c : ℕ) → In m (membersOf t c) → kindOf t (m .op) ≡ SPair → classes (childrenOf t m) ≡ getD (classes (childrenOf t m)) 0 0 ∷ getD (classes (childrenOf t m)) 1 0 ∷ []
+  pub pair-classes : (m : Member) (c : ℕ) → In m (membersOf t c) → kindOf t (m .op) ≡ SPair → classes (childrenOf t m) ≡ getD (classes (childrenOf t m)) 0 0 ∷ getD (classes (childrenOf t m)) 1 0 ∷ []
   unfolding arities
   pair-classes m c i s = two-of (classes (childrenOf t m)) (length-map (childrenOf t m) (λ z. z .0) ∙ member-arity t v m c i (rw s (λ z. omega arith)) ∙ rw s refl)
 
@@ -124,10 +124,10 @@ module _ (t : Tables) (v : Valid t) where
       go : (x : Bool) → In α (record { op = o; pairs = (a, c) ∷ (b, d) ∷ [] } ∷ pick x [] (record { op = o; pairs = (a, d) ∷ (b, c) ∷ [] } ∷ [])) → Aligned l r α
       go x h = elim (in-cons h) [ inl q ↦ rw q (record { left = lefts; right = either-way n o r j f s c d straight }) | inr q ↦ crossed x q ]
 
-  neither : (k : ℕ) → eqb k SPair ≡ false → isAC k ≡ false → isCommutative k ≡ false
+  pub neither : (k : ℕ) → eqb k SPair ≡ false → isAC k ≡ false → isCommutative k ≡ false
   neither k a b = rw (a, b) refl
 
-  either-left : (a b : Bool) → either a b ≡ false → a ≡ false
+  pub either-left : (a b : Bool) → either a b ≡ false → a ≡ false
   either-left false b e = refl
   either-left true b e = e
 

@@ -3,17 +3,23 @@ use mathlib.Core.Path.{_≡_, refl, sym, ap, ap₂, _∙_}
 use mathlib.Core.Logic.{_≢_}
 use mathlib.Core.Bool.{Bool, true, false}
 use mathlib.Core.List.{List, [], _∷_, _++_, map}
-use Prim.Native.Nat.{ℕ, zero, suc, _+_, _*_}
+use Prim.Native.Nat.{ℕ, zero, suc, _+_, _*_, _-_, _≤_, _<_}
+use native.Mathlib.Nat.{not-suc-le-zero}
 use native.Mathlib.Omega.{arith}
-use lib.ListN.{replicate}
+use lib.Dec.{ltb}
+use borrow.Author.Tests.{ltb-true, ltb-false}
+use lib.ListN.{length, getD, replicate, length-append, length-replicate}
 use Rattle.spec.specs.Bytes.{sum, Two}
 use Rattle.spec.specs.Image.{Tables, Member, Lit, kindOf, isCommutative, membersOf, childrenOf}
 use Rattle.spec.specs.Monomial.{classes}
 use Rattle.spec.specs.Transport.{planSize, planMass}
+use Rattle.spec.specs.Pool.{joinRuns, variantsNode}
 use Rattle.spec.specs.Round.{cellsOver, qualityOver}
-use Rattle.spec.specs.Meaning.{In, Term, node, Runs, done, run, termQuality, runsQuality, expand, reading, readingRuns, readFirst, readSecond, occurs, countIn, Side, Belongs, ordered, unordered, AllBelong, noMore, andThen}
+use Rattle.spec.specs.Meaning.{In, Term, lit, node, variants, Runs, done, run, termQuality, runsQuality, expand, reading, readingRuns, branch, readFirst, readSecond, runsOf, treeOf, occurs, countIn, Side, Belongs, ordered, unordered, AllBelong, noMore, andThen}
 use Rattle.laws.specs.Bag.{Perm, nil, skip, swap, both, perm-map, map-append, map-replicate, sum-append, sum-perm, sum-replicate}
-use Rattle.laws.specs.BagCount.{spread}
+use Rattle.laws.specs.BagCount.{written, spread}
+use Rattle.pools.specs.Pool.{numbered, tree-marked}
+use Rattle.pools.specs.PoolTrees.{expand-joined}
 
 -- ---- qualities
 abbrev pub size : Term → ℕ
@@ -23,24 +29,65 @@ abbrev pub mass : Term → ℕ
 mass a = termQuality a .1
 
 -- a weight over a list with counts written out
-sum-spread : {A : Type 0} (w : A → ℕ) (a : A) (n : ℕ) (l : List A) → sum (map w (replicate n a ++ l)) ≡ n * w a + sum (map w l)
+pub sum-spread : {A : Type 0} (w : A → ℕ) (a : A) (n : ℕ) (l : List A) → sum (map w (replicate n a ++ l)) ≡ n * w a + sum (map w l)
 sum-spread w a n l = rw (map-append w (replicate n a) l, map-replicate w n a) (omega (arith, sum-append (replicate n (w a)) (map w l), sum-replicate n (w a)))
 
-runs-size : (r : Runs) → runsQuality r .0 ≡ sum (map size (expand r))
+pub runs-size : (r : Runs) → runsQuality r .0 ≡ sum (map size (expand r))
 unfolding runsQuality expand sum
 runs-size done = refl
 runs-size (run a n r) = omega (arith, sum-spread size a n (expand r), runs-size r)
 
-runs-mass : (r : Runs) → runsQuality r .1 ≡ sum (map mass (expand r))
+pub runs-mass : (r : Runs) → runsQuality r .1 ≡ sum (map mass (expand r))
 unfolding runsQuality expand sum
 runs-mass done = refl
 runs-mass (run a n r) = omega (arith, sum-spread mass a n (expand r), runs-mass r)
 
 -- ---- readings
-expand-reading : (b : Bool) (r : Runs) → expand (readingRuns b r) ≡ map (reading b) (expand r)
+pub expand-reading : (k : ℕ) (r : Runs) → expand (readingRuns k r) ≡ map (reading k) (expand r)
 unfolding expand readingRuns
-expand-reading b done = refl
-expand-reading b (run a n r) = rw (map-append (reading b) (replicate n a) (expand r), map-replicate (reading b) n a, expand-reading b r)
+expand-reading k done = refl
+expand-reading k (run a n r) = rw (map-append (reading k) (replicate n a) (expand r), map-replicate (reading k) n a, expand-reading k r)
+
+-- a branch is what stands at its place where the runs are written out
+pub branch-is : (k i : ℕ) (r : Runs) → i < length (expand r) → branch k i r ≡ reading k (getD (expand r) i (lit 0 0))
+unfolding branch expand
+branch-is k i done h = absurd (not-suc-le-zero h)
+branch-is k i (run a n r) h = go (ltb i n) refl (branch-is k (i - n) r)
+  where
+    front : (n i : ℕ) → i < n → getD (replicate n a ++ expand r) i (lit 0 0) ≡ a
+    front zero i h = absurd (not-suc-le-zero h)
+    front (suc n) zero h = refl
+    front (suc n) (suc i) h = front n i (omega arith)
+
+    back : (n i : ℕ) → n ≤ i → getD (replicate n a ++ expand r) i (lit 0 0) ≡ getD (expand r) (i - n) (lit 0 0)
+    back zero i h = let z : i - 0 ≡ i = omega arith in rw z refl
+    back (suc n) zero h = absurd (not-suc-le-zero h)
+    back (suc n) (suc i) h = let z : suc i - suc n ≡ i - n = omega arith in rw z (back n i (omega arith))
+
+    go : (x : Bool) → ltb i n ≡ x → (i - n < length (expand r) → branch k (i - n) r ≡ reading k (getD (expand r) (i - n) (lit 0 0)))
+        → elim x [ true ↦ reading k a | false ↦ branch k (i - n) r ] ≡ reading k (getD (replicate n a ++ expand r) i (lit 0 0))
+    go true e ih = ap (reading k) (sym (front n i (ltb-true i n e)))
+    go false e ih = let l = ltb-false i n e in ih (omega (arith, length-append (replicate n a) (expand r), length-replicate n a)) ∙ ap (reading k) (sym (back n i l))
+
+-- "read by the first branch": a marked place is read by the branch at place k
+pub read-marked : (k : ℕ) (r : Runs) → k < length (expand r) → reading k (variants r) ≡ reading k (getD (expand r) k (lit 0 0))
+unfolding reading
+read-marked k r h = branch-is k k r h
+
+-- the branches of a marked place of a pool
+pub two-branches : (ts : List Term) (a b : ℕ) → expand (runsOf ts (joinRuns ((a, 1) ∷ (b, 1) ∷ []))) ≡ numbered ts a ∷ numbered ts b ∷ []
+unfolding written
+two-branches ts a b = expand-joined ts ((a, 1) ∷ (b, 1) ∷ [])
+
+-- its first branch is read by the first, its second by the second
+pub read-variants : (ts : List Term) (a b : ℕ) → (readFirst (treeOf ts (variantsNode a b)) ≡ readFirst (numbered ts a)) × (readSecond (treeOf ts (variantsNode a b)) ≡ readSecond (numbered ts b))
+read-variants ts a b =
+    let r = runsOf ts (joinRuns ((a, 1) ∷ (b, 1) ∷ [])) in
+    let e = two-branches ts a b in
+    let m = tree-marked ts (variantsNode a b) refl in (
+      ap readFirst m ∙ read-marked 0 r (rw e (omega arith)) ∙ ap (λ (l : List Term). readFirst (getD l 0 (lit 0 0))) e,
+      ap readSecond m ∙ read-marked 1 r (rw e (omega arith)) ∙ ap (λ (l : List Term). readSecond (getD l 1 (lit 0 0))) e,
+    )
 
 module _ (t : Tables) where
   -- the terms may be reordered, if the classes go along
@@ -54,7 +101,7 @@ module _ (t : Tables) where
       let (ds, d, f) = belong-perm q c in
       (ds, d, λ k. f k ∙ e k)
 
-  belong-replicate : (n : ℕ) {a : Term} {c : ℕ} {ts : List Term} {cs : List ℕ} → Belongs t a c → AllBelong t ts cs → AllBelong t (replicate n a ++ ts) (replicate n c ++ cs)
+  pub belong-replicate : (n : ℕ) {a : Term} {c : ℕ} {ts : List Term} {cs : List ℕ} → Belongs t a c → AllBelong t ts cs → AllBelong t (replicate n a ++ ts) (replicate n c ++ cs)
   belong-replicate zero b bs = bs
   belong-replicate (suc n) b bs = andThen b (belong-replicate n b bs)
 
@@ -68,50 +115,42 @@ module _ (t : Tables) where
   covers-belongs o c cs ts r (inOrder m i e n z h) p q b = ordered {r = r} m i e n z (rw (← q n, ← h) b)
   covers-belongs o c cs ts r (anyOrder l s n h) p q b = let (ds, d, e) = belong-perm p b in unordered {r = r} l ds s n d (λ k. e k ∙ h k)
 
-  -- ---- a term for pair p with quality q: it has the quality, and belongs to the left class read by the first branches, to the right one read by the second
-  pub record TermFor (p q : Two) (a : Term) : Type 0 where
+-- ---- A term for a node with quality q, read in so many ways: it has the quality, and read by branch k it belongs to the node's class k.
+module _ (t : Tables) {N : Type 0} (ways : ℕ) (class : N → ℕ → ℕ) where
+  pub record TermFor (p : N) (q : Two) (a : Term) : Type 0 where
     pub quality : termQuality a ≡ q
-    pub first : Belongs t (readFirst a) (p .0)
-    pub second : Belongs t (readSecond a) (p .1)
+    pub reads : (k : ℕ) → k < ways → Belongs t (reading k a) (class p k)
 
-  pub data TermsFor : List Two → List Two → List Term → Type 0 where
+  pub data TermsFor : List N → List Two → List Term → Type 0 where
     noTerm : TermsFor [] [] []
-    andTerm : {p q : Two} {a : Term} {ps qs : List Two} {ts : List Term} → TermFor p q a → TermsFor ps qs ts → TermsFor (p ∷ ps) (q ∷ qs) (a ∷ ts)
+    andTerm : {p : N} {q : Two} {a : Term} {ps : List N} {qs : List Two} {ts : List Term} → TermFor p q a → TermsFor ps qs ts → TermsFor (p ∷ ps) (q ∷ qs) (a ∷ ts)
 
-  firsts : {ps qs : List Two} {ts : List Term} (x : List ℕ) → TermsFor ps qs ts → AllBelong t (map readFirst (spread ts x)) (spread (map (λ p. p .0) ps) x)
+  all-read : (k : ℕ) → k < ways → {ps : List N} {qs : List Two} {ts : List Term} (x : List ℕ) → TermsFor ps qs ts → AllBelong t (map (reading k) (spread ts x)) (spread (map (λ p. class p k) ps) x)
   unfolding spread
-  firsts x noTerm = noMore
-  firsts [] (andTerm g gs) = noMore
-  firsts (n ∷ x) (andTerm {a = a} {ts = ts} g gs) = rw (map-append readFirst (replicate n a) (spread ts x), map-replicate readFirst n a) (belong-replicate n (g .first) (firsts x gs))
+  all-read k h x noTerm = noMore
+  all-read k h [] (andTerm g gs) = noMore
+  all-read k h (n ∷ x) (andTerm {a = a} {ts = ts} g gs) = rw (map-append (reading k) (replicate n a) (spread ts x), map-replicate (reading k) n a) (belong-replicate t n (g .reads k h) (all-read k h x gs))
 
-  seconds : {ps qs : List Two} {ts : List Term} (x : List ℕ) → TermsFor ps qs ts → AllBelong t (map readSecond (spread ts x)) (spread (map (λ p. p .1) ps) x)
-  unfolding spread
-  seconds x noTerm = noMore
-  seconds [] (andTerm g gs) = noMore
-  seconds (n ∷ x) (andTerm {a = a} {ts = ts} g gs) = rw (map-append readSecond (replicate n a) (spread ts x), map-replicate readSecond n a) (belong-replicate n (g .second) (seconds x gs))
-
-  sizes : {ps qs : List Two} {ts : List Term} (x : List ℕ) → TermsFor ps qs ts → sum (map size (spread ts x)) ≡ planSize x (cellsOver qs)
+  sizes : {ps : List N} {qs : List Two} {ts : List Term} (x : List ℕ) → TermsFor ps qs ts → sum (map size (spread ts x)) ≡ planSize x (cellsOver qs)
   unfolding spread sum planSize
   sizes [] noTerm = refl
   sizes (n ∷ x) noTerm = refl
   sizes [] (andTerm g gs) = refl
   sizes (n ∷ x) (andTerm {a = a} {ts = ts} g gs) = omega (arith, sum-spread size a n (spread ts x), sizes x gs, ap (λ (z : Two). n * z .0) (g .quality))
 
-  masses : {ps qs : List Two} {ts : List Term} (x : List ℕ) → TermsFor ps qs ts → sum (map mass (spread ts x)) ≡ planMass x (cellsOver qs)
+  masses : {ps : List N} {qs : List Two} {ts : List Term} (x : List ℕ) → TermsFor ps qs ts → sum (map mass (spread ts x)) ≡ planMass x (cellsOver qs)
   unfolding spread sum planMass
   masses [] noTerm = refl
   masses (n ∷ x) noTerm = refl
   masses [] (andTerm g gs) = refl
   masses (n ∷ x) (andTerm {a = a} {ts = ts} g gs) = omega (arith, sum-spread mass a n (spread ts x), masses x gs, ap (λ (z : Two). n * z .1) (g .quality))
 
-  -- An operation over places with counts x: "1 plus the sum of count × size, and the sum of count × mass", and it belongs, read either way.
-  pub good-node : (p : Two) (o : ℕ) (ps qs : List Two) (ts : List Term) (x : List ℕ) (r : Runs) → TermsFor ps qs ts
+  -- An operation over places with counts x: "1 plus the sum of count × size, and the sum of count × mass", and it belongs, read in every way.
+  pub good-node : (p : N) (o : ℕ) (ps : List N) (qs : List Two) (ts : List Term) (x : List ℕ) (r : Runs) → TermsFor ps qs ts
       → Perm (spread ts x) (expand r) → (isCommutative (kindOf t o) ≡ false → spread ts x ≡ expand r)
-      → Covers o (p .0) (spread (map (λ c. c .0) ps) x) → Covers o (p .1) (spread (map (λ c. c .1) ps) x)
-      → TermFor p (qualityOver x qs) (node o r)
+      → ((k : ℕ) → k < ways → Covers t o (class p k) (spread (map (λ c. class c k) ps) x)) → TermFor p (qualityOver x qs) (node o r)
   unfolding termQuality reading
-  good-node p o ps qs ts x r g perm same left right = record {
+  good-node p o ps qs ts x r g perm same covers = record {
     quality = ap₂ (λ (a b : ℕ). (1 + a, b)) (runs-size r ∙ sym (sum-perm (perm-map size perm)) ∙ sizes x g) (runs-mass r ∙ sym (sum-perm (perm-map mass perm)) ∙ masses x g);
-    first = covers-belongs o (p .0) _ _ (readingRuns true r) left (rw (expand-reading true r) (perm-map readFirst perm)) (λ n. ap (map readFirst) (same n) ∙ sym (expand-reading true r)) (firsts x g);
-    second = covers-belongs o (p .1) _ _ (readingRuns false r) right (rw (expand-reading false r) (perm-map readSecond perm)) (λ n. ap (map readSecond) (same n) ∙ sym (expand-reading false r)) (seconds x g);
+    reads = λ k h. covers-belongs t o (class p k) _ _ (readingRuns k r) (covers k h) (rw (expand-reading k r) (perm-map (reading k) perm)) (λ n. ap (map (reading k)) (same n) ∙ sym (expand-reading k r)) (all-read k h x g);
   }

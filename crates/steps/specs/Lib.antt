@@ -6,3 +6,13 @@ pub mod Checks
 pub mod Turn
 pub mod Rounds
 pub mod Plain
+pub mod TurnsFrom
+pub mod Run
+pub mod RoundsFrom
+pub mod RunFrom
+pub mod Outcomes
+pub mod Demand3
+pub mod Refusals
+pub mod Limits
+pub mod Standing
+pub mod Readings

@@ -1,11 +1,12 @@
 -- A node's turn: it ends with the best of what the node has and of what its actions offer.
-use mathlib.Core.Path.{_≡_, refl}
+use mathlib.Core.Path.{_≡_, refl, sym, _∙_}
 use mathlib.Core.Logic.{_⊎_, inl, inr}
 use mathlib.Core.Bool.{Bool, true, false}
 use mathlib.Core.List.{List, [], _∷_, map}
 use Prim.Native.Nat.{ℕ}
-use Rattle.spec.specs.Bytes.{In, here, there, Two}
-use Rattle.spec.specs.System.{System, Act, better, stay, act, Turn, changes, worth, offer, offerAll, turnOf}
+use native.Mathlib.Omega.{arith}
+use Rattle.spec.specs.Bytes.{pick, In, here, there, Two}
+use Rattle.spec.specs.System.{System, Act, better, Choice, stay, act, Turn, changes, worth, offer, offerAll, turnOf}
 use Rattle.spec.specs.Meaning.{_⊑_}
 use Rattle.steps.specs.Quality.{_⊏_, ⊏-⊑-trans, ⊑-refl, ⊑-trans, ⊏-⊑, better-is, better-not}
 
@@ -84,3 +85,41 @@ module _ {N : Type 0} (S : System N) (q : N → Two) where
   pub turn-from : (p : N) → (turnOf S q p .quality ≡ q p) ⊎ Won p (turnOf S q p .quality)
   unfolding turnOf
   turn-from p = all-one (λ z. (z ≡ q p) ⊎ Won p z) (S .offers q p) (record { quality = q p; choice = stay }) (λ a i. inr (a, i, refl)) (inl refl)
+
+-- ---- what a turn chooses
+-- every place of an offer is one that the node joins
+abbrev pub Inside : {N : Type 0} → System N → Type 0
+Inside {N} S = (q : N → Two) (p : N) (a : Act N) → In a (S .offers q p) → (c : N) → In c (a .places) → In c (S .joins p)
+
+module _ {N : Type 0} (S : System N) (q : N → Two) where
+  -- the turn stayed, or took an offer
+  pub data Chosen (p : N) (w : Turn N) : Type 0 where
+    stayed : w .choice ≡ stay → w .quality ≡ q p → Chosen p w
+    acted : (a : Act N) → In a (S .offers q p) → w .choice ≡ act a → w .quality ≡ worth S q a → Chosen p w
+
+  all-chosen : (p : N) (l : List (Act N)) → ((a : Act N) → In a l → In a (S .offers q p)) → (w : Turn N) → Chosen p w → Chosen p (offerAll S q l w)
+  unfolding offerAll
+  all-chosen p [] h w W = W
+  all-chosen p (a ∷ l) h w W = all-chosen p l (λ b i. h b (there i)) (offer S q a w) (go (better (worth S q a) (w .quality)))
+    where
+      go : (b : Bool) → Chosen p (pick b (record { quality = worth S q a; choice = act a }) w)
+      go true = acted a (h a here) refl refl
+      go false = W
+
+  pub turn-chosen : (p : N) → Chosen p (turnOf S q p)
+  unfolding turnOf
+  turn-chosen p = all-chosen p (S .offers q p) (λ a i. i) (record { quality = q p; choice = stay }) (stayed refl refl)
+
+-- the places of a turn's choice are such as the node joins
+pub choice-inside : {N : Type 0} (S : System N) → Inside S → (q : N → Two) (p : N) (b : Act N) → turnOf S q p .choice ≡ act b → (c : N) → In c (b .places) → In c (S .joins p)
+choice-inside {N} S I q p b e c i = go (turn-chosen S q p)
+  where
+    act-inj : (a b : Act N) → act a ≡ act b → a ≡ b
+    act-inj a b e = cc
+
+    clash : _≡_ {A = Choice N} stay (act b) → ⊥
+    clash e = let z : _≡_ {A = ℕ} 0 1 = cc in omega arith
+
+    go : Chosen S q p (turnOf S q p) → In c (S .joins p)
+    go (stayed x y) = absurd (clash (sym x ∙ e))
+    go (acted a j x y) = let z = act-inj a b (sym x ∙ e) in I q p a j c (rw z i)

@@ -1,0 +1,114 @@
+-- Larger limits: what is accepted under some limits is accepted, and is the same, under limits that are no less.
+use mathlib.Core.Path.{_≡_, refl}
+use mathlib.Core.Bool.{Bool, true, false}
+use mathlib.Core.List.{List, [], _∷_, _++_}
+use Prim.Native.Nat.{ℕ, zero, suc, _≤_, _<_}
+use native.Mathlib.Omega.{arith}
+use lib.Dec.{ltb}
+use lib.ListN.{length, getD}
+use borrow.Author.Tests.{ltb-true, lt-ltb}
+use Rattle.spec.specs.Bytes.{any, Two, Res, ok, refused, _>>=_, Checked, passed, cutShort}
+use Rattle.spec.specs.Pool.{Pool, Interned}
+use Rattle.spec.specs.System.{System, Making, enter, enterAll, buildFrom, build, lookUp, Choice, stay, act, Turn, changes, turnsOf, planRuns, choiceTerm, Terms, turnsTerms, startingTerms, Outcome, State, outcome, stateAfter, afterRound, roundTerms, roundsFrom, startState, afterStarting, afterBuilding, runOf}
+use Rattle.laws.specs.Results.{Kept, kept-bind, kept-ok, kept-room}
+
+-- a making that refuses no more
+pub record Wider {N : Type 0} (L M : Making N) : Type 0 where
+  pub nodes : L .limit ≤ M .limit
+  pub start : (p : Pool) (c : N) → Kept (L .startingTerm p c) (M .startingTerm p c)
+  pub action : (p : Pool) (o : ℕ) (r : List Two) → Kept (L .actionTerm p o r) (M .actionTerm p o r)
+
+-- ---- building
+module _ {N : Type 0} (S : System N) (l m : ℕ) (h : l ≤ m) where
+  enter-kept : (ps : List N) (p : N) → Kept (enter (S .same) l ps p) (enter (S .same) m ps p)
+  unfolding enter
+  enter-kept ps p =
+      kept-room 12 ps (ps ++ (p ∷ [])) (any (S .same p) ps) (ltb (length ps) (l)) (ltb (length ps) (m))
+      (λ e. lt-ltb (length ps) (m) (omega (arith, ltb-true (length ps) (l) e, h)))
+
+  all-kept : (qs ps : List N) → Kept (enterAll (S .same) l ps qs) (enterAll (S .same) m ps qs)
+  unfolding enterAll
+  all-kept [] ps = refl
+  all-kept (p ∷ qs) ps = kept-bind (enter (S .same) l ps p) (enter (S .same) m ps p) _ _ (enter-kept ps p) (λ rs. all-kept qs rs)
+
+  from-kept : (b : ℕ) (ps : List N) (i : ℕ) → Kept (buildFrom S l b ps i) (buildFrom S m b ps i)
+  unfolding buildFrom
+  from-kept zero ps i = go (ltb i (length ps))
+    where
+      go : (x : Bool) → Kept {A = Checked (List N)} (elim x [ true ↦ ok cutShort | false ↦ ok (passed ps 0) ]) (elim x [ true ↦ ok cutShort | false ↦ ok (passed ps 0) ])
+      go true = refl
+      go false = refl
+  from-kept (suc b) ps i = go (ltb i (length ps)) (λ qs. from-kept b qs (suc i))
+    where
+      go : (x : Bool) → ((qs : List N) → Kept (buildFrom S l b qs (suc i)) (buildFrom S m b qs (suc i))) → Kept {A = Checked (List N)}
+          (elim x [ false ↦ ok (passed ps (suc b)) | true ↦ (enterAll (S .same) l ps (S .joins (getD ps i (S .other))) >>= λ qs. buildFrom S l b qs (suc i)) ])
+          (elim x [ false ↦ ok (passed ps (suc b)) | true ↦ (enterAll (S .same) m ps (S .joins (getD ps i (S .other))) >>= λ qs. buildFrom S m b qs (suc i)) ])
+      go true ih = kept-bind (enterAll (S .same) l ps (S .joins (getD ps i (S .other)))) (enterAll (S .same) m ps (S .joins (getD ps i (S .other)))) _ _ (all-kept (S .joins (getD ps i (S .other))) ps) ih
+      go false ih = refl
+
+  pub build-kept : (p : N) (b : ℕ) → Kept (build S l p b) (build S m p b)
+  unfolding build
+  build-kept p b = kept-bind (enter (S .same) l [] p) (enter (S .same) m [] p) _ _ (enter-kept [] p) (λ ps. from-kept b ps 0)
+
+-- ---- terms
+module _ {N : Type 0} (L M : Making N) (W : Wider L M) where
+  starting-kept : (cs : List N) (b : ℕ) (p : Pool) → Kept (startingTerms L cs b p) (startingTerms M cs b p)
+  unfolding startingTerms
+  starting-kept [] b p = refl
+  starting-kept (c ∷ cs) zero p = refl
+  starting-kept (c ∷ cs) (suc b) p = kept-bind (L .startingTerm p c) (M .startingTerm p c) _ _ (W .start p c) (λ a. kept-bind (startingTerms L cs b (a .pool)) (startingTerms M cs b (a .pool)) _ _ (starting-kept cs b (a .pool)) (λ r. refl))
+
+  choice-kept : (of : N → ℕ) (p : Pool) (old : ℕ) (c : Choice N) → Kept (choiceTerm L of p old c) (choiceTerm M of p old c)
+  unfolding choiceTerm
+  choice-kept of p old stay = refl
+  choice-kept of p old (act a) = W .action p (a .op) (planRuns of (a .places) (a .counts))
+
+  turns-kept : (of : N → ℕ) (ps : List N) (ws : List (Turn N)) (b : ℕ) (p : Pool) → Kept (turnsTerms L of ps ws b p) (turnsTerms M of ps ws b p)
+  unfolding turnsTerms
+  turns-kept of [] ws b p = refl
+  turns-kept of (c ∷ ps) [] b p = refl
+  turns-kept of (c ∷ ps) (w ∷ ws) zero p = refl
+  turns-kept of (c ∷ ps) (w ∷ ws) (suc b) p = kept-bind (choiceTerm L of p (of c) (w .choice)) (choiceTerm M of p (of c) (w .choice)) _ _ (choice-kept of p (of c) (w .choice)) (λ a. kept-bind (turnsTerms L of ps ws b (a .pool)) (turnsTerms M of ps ws b (a .pool)) _ _ (turns-kept of ps ws b (a .pool)) (λ r. refl))
+
+-- ---- the run
+module _ {N : Type 0} (S : System N) (L M : Making N) (W : Wider L M) where
+  round-kept : (ps : List N) (s : State) (ws : List (Turn N)) (b : ℕ) → Kept (roundTerms S L ps s ws b) (roundTerms S M ps s ws b)
+  unfolding roundTerms
+  round-kept ps s ws zero = refl
+  round-kept ps s ws (suc b) = turns-kept L M W (lookUp (S .same) 0 ps (s .terms)) ps ws b (s .pool)
+
+  rounds-kept : (f : ℕ) (ps : List N) (s : State) → Kept (roundsFrom S L f ps s) (roundsFrom S M f ps s)
+  unfolding roundsFrom afterRound
+  rounds-kept zero ps s = refl
+  rounds-kept (suc f) ps s = kept-bind (roundTerms S L ps s ws (s .budget)) (roundTerms S M ps s ws (s .budget)) _ _ (round-kept ps s ws (s .budget)) (λ r. go r (λ u. rounds-kept f ps u))
+    where
+      ws : List (Turn N)
+      ws = turnsOf S ps (s .qualities)
+
+      go : (r : Checked Terms) → ((u : State) → Kept (roundsFrom S L f ps u) (roundsFrom S M f ps u)) → Kept (afterRound (λ u. roundsFrom S L f ps u) ps s ws r) (afterRound (λ u. roundsFrom S M f ps u) ps s ws r)
+      go cutShort ih = refl
+      go (passed r b) ih = by (any changes ws)
+        where
+          u : State
+          u = stateAfter s ws r b
+
+          by : (x : Bool) → Kept {A = Outcome} (elim x [ false ↦ ok (outcome true ps s) | true ↦ roundsFrom S L f ps u ]) (elim x [ false ↦ ok (outcome true ps s) | true ↦ roundsFrom S M f ps u ])
+          by true = ih u
+          by false = refl
+
+  after-kept : (p : N) (root : Interned) (g : Checked (List N)) → Kept (afterBuilding S L p root g) (afterBuilding S M p root g)
+  unfolding afterBuilding afterStarting
+  after-kept p root cutShort = refl
+  after-kept p root (passed ps b) = kept-bind (startingTerms L ps b (root .pool)) (startingTerms M ps b (root .pool)) _ _ (starting-kept L M W ps b (root .pool)) go
+    where
+      go : (r : Checked Terms) → Kept (afterStarting S L p root ps r) (afterStarting S M p root ps r)
+      go cutShort = refl
+      go (passed r c) = rounds-kept c ps (startState S ps r c)
+
+  pub run-kept : (p : N) (b : ℕ) → Kept (runOf S L p b) (runOf S M p b)
+  unfolding runOf
+  run-kept p b = kept-bind (L .startingTerm [] p) (M .startingTerm [] p) _ _ (W .start [] p) (λ root. kept-bind (build S (L .limit) p b) (build S (M .limit) p b) _ _ (build-kept S (L .limit) (M .limit) (W .nodes) p b) (λ g. after-kept p root g))
+
+  -- A run that is not refused has the same outcome under larger limits: status, pairs, rounds, quality, pool and term.
+  pub run-same : (p : N) (b : ℕ) (o : Outcome) → runOf S L p b ≡ ok o → runOf S M p b ≡ ok o
+  run-same p b o e = kept-ok (runOf S L p b) (runOf S M p b) o (run-kept p b) e

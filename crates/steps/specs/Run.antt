@@ -1,0 +1,179 @@
+-- The run as a function of its budget: where it ends, what it reports there, and what a longer run does.
+use mathlib.Core.Path.{_≡_, refl, sym, ap, _∙_}
+use mathlib.Core.Logic.{_⊎_, inl, inr}
+use mathlib.Core.Bool.{Bool, true, false}
+use mathlib.Core.List.{List, [], _∷_, map}
+use Prim.Native.Nat.{ℕ, zero, suc, _+_, _*_, _-_, _≤_, _<_}
+use native.Mathlib.Omega.{arith}
+use native.Mathlib.Nat.{eq-or-lt-of-le, suc-inj}
+use lib.ListN.{length, getD}
+use Rattle.spec.specs.Bytes.{any, Two, Res, ok, refused, _>>=_, Checked, passed, cutShort}
+use Rattle.spec.specs.Pool.{Interned}
+use Rattle.spec.specs.System.{System, Making, build, Turn, changes, turnsOf, next, qualitiesAfter, Terms, startingTerms, Outcome, State, outcome, stateAfter, afterRound, roundTerms, roundsFrom, started, startState, afterStarting, afterBuilding, runOf}
+use Rattle.laws.specs.Tests.{clash}
+use Rattle.laws.specs.Results.{Later, refused-ok, ok-inj, bind-ok}
+use Rattle.steps.specs.Rounds.{changed}
+use Rattle.steps.specs.Checks.{Spent, cut, paid, ended, starting-spends, starting-later, round-spends, round-later, withBudget}
+use Rattle.steps.specs.Graph.{build-later}
+use Rattle.steps.specs.TurnsFrom.{turns-length}
+
+-- complete where the round after those reported was finished too and changed nothing, partial where the checks did not reach
+abbrev pub Status : {N : Type 0} → System N → List N → ℕ → Outcome → Type 0
+Status S ps b o = ((o .complete ≡ true) × (changed S ps (o .rounds) ≡ false) × (suc (o .rounds) * suc (length ps) ≤ b)) ⊎ ((o .complete ≡ false) × (b < suc (o .rounds) * suc (length ps)))
+
+-- What rounds over the pairs ps, begun with b checks, end with: every round reported changed a quality, and its checks passed.
+pub record Ended {N : Type 0} (S : System N) (ps : List N) (b : ℕ) (o : Outcome) : Type 0 where
+  pub nodes : o .nodes ≡ length ps
+  pub quality : o .quality ≡ getD (qualitiesAfter S (o .rounds) ps) 0 (0, 0)
+  pub moved : (r : ℕ) → r < o .rounds → changed S ps r ≡ true
+  pub enough : o .rounds * suc (length ps) ≤ b
+  pub status : Status S ps b o
+
+module _ {N : Type 0} (S : System N) (M : Making N) (ps : List N) where
+  -- a state between two rounds, of a run that began its rounds with b checks
+  record Between (b : ℕ) (s : State) : Type 0 where
+    qualities : s .qualities ≡ qualitiesAfter S (s .rounds) ps
+    moved : (r : ℕ) → r < s .rounds → changed S ps r ≡ true
+    spent : b ≡ s .rounds * suc (length ps) + s .budget
+
+  stop-partial : (b : ℕ) (s : State) → Between b s → s .budget < suc (length ps) → Ended S ps b (outcome false ps s)
+  stop-partial b s i h = record {
+    nodes = refl;
+    quality = ap (λ (l : List Two). getD l 0 (0, 0)) (i .qualities);
+    moved = i .moved;
+    enough = omega (arith, i .spent);
+    status = inr (refl, omega (arith, i .spent));
+  }
+
+  stop-complete : (b c : ℕ) (s : State) → Between b s → changed S ps (s .rounds) ≡ false → s .budget ≡ suc (length ps) + c → Ended S ps b (outcome true ps s)
+  stop-complete b c s i q h = record {
+    nodes = refl;
+    quality = ap (λ (l : List Two). getD l 0 (0, 0)) (i .qualities);
+    moved = i .moved;
+    enough = omega (arith, i .spent);
+    status = inl (refl, q, omega (arith, i .spent));
+  }
+
+  go-on : (b c : ℕ) (s : State) (r : Terms) → Between b s → changed S ps (s .rounds) ≡ true → s .budget ≡ suc (length ps) + c → Between b (stateAfter s (turnsOf S ps (s .qualities)) r c)
+  unfolding qualitiesAfter
+  go-on b c s r i q h = record {
+    qualities = ap (λ (l : List Two). next S ps l) (i .qualities);
+    moved = λ k l. elim (eq-or-lt-of-le l) [ inl e ↦ rw (suc-inj e) q | inr m ↦ i .moved k (omega arith) ];
+    spent = omega (arith, i .spent);
+  }
+
+  rounds-end : (f b : ℕ) (s : State) (o : Outcome) → Between b s → s .budget ≤ f → roundsFrom S M f ps s ≡ ok o → Ended S ps b o
+  unfolding roundsFrom afterRound
+  rounds-end zero b s o i h e = rw (← ok-inj e) (stop-partial b s i (omega arith))
+  rounds-end (suc f) b s o i h e = go (roundTerms S M ps s ws (s .budget)) (round-spends S M ps s ws (s .budget) (turns-length S ps (s .qualities))) e (λ u j k d. rounds-end f b u o j k d)
+    where
+      ws : List (Turn N)
+      ws = turnsOf S ps (s .qualities)
+
+      test : (x : Bool) → any changes ws ≡ x → (r : Terms) (c : ℕ) → s .budget ≡ suc (length ps) + c
+          → elim x [ false ↦ ok (outcome true ps s) | true ↦ roundsFrom S M f ps (stateAfter s ws r c) ] ≡ ok o
+          → ((u : State) → Between b u → u .budget ≤ f → roundsFrom S M f ps u ≡ ok o → Ended S ps b o) → Ended S ps b o
+      test false q r c l d ih = rw (← ok-inj d) (stop-complete b c s i (rw (i .qualities) at q) l)
+      test true q r c l d ih = ih (stateAfter s ws r c) (go-on b c s r i (rw (i .qualities) at q) l) (omega arith) d
+
+      go : (r : Res (Checked Terms)) → Spent (suc (length ps)) (s .budget) r → (r >>= afterRound (λ u. roundsFrom S M f ps u) ps s ws) ≡ ok o
+          → ((u : State) → Between b u → u .budget ≤ f → roundsFrom S M f ps u ≡ ok o → Ended S ps b o) → Ended S ps b o
+      go r (cut l) d ih = rw (← ok-inj d) (stop-partial b s i l)
+      go r (paid {a = a} {c = c} l) d ih = test (any changes ws) refl a c l d ih
+      go r ended d ih = absurd (refused-ok d)
+
+-- ---- the whole run
+-- where a run with budget b ends that is not refused, and what it reports
+pub data Ends {N : Type 0} (S : System N) (M : Making N) (p : N) (b : ℕ) (o : Outcome) : Type 0 where
+  -- "A run cut short in building reports 1 pair"
+  inBuilding : (root : Interned) → build S (M .limit) p b ≡ ok cutShort → o ≡ started S p root 1 → Ends S M p b o
+  -- "any other run n"
+  inStarting : (root : Interned) (ps : List N) (c : ℕ) → build S (M .limit) p b ≡ ok (passed ps c) → c < length ps → o ≡ started S p root (length ps) → Ends S M p b o
+  inRounds : (ps : List N) (c d : ℕ) → build S (M .limit) p b ≡ ok (passed ps c) → c ≡ length ps + d → Ended S ps d o → Ends S M p b o
+
+pub run-ends : {N : Type 0} (S : System N) (M : Making N) (p : N) (b : ℕ) (o : Outcome) → runOf S M p b ≡ ok o → Ends S M p b o
+unfolding runOf afterBuilding afterStarting qualitiesAfter
+run-ends {N = N} S M p b o e =
+    let (root, a, d) = bind-ok (M .startingTerm [] p) (λ root. build S (M .limit) p b >>= λ g. afterBuilding S M p root g) o e in
+    let (g, k, z) = bind-ok (build S (M .limit) p b) (λ g. afterBuilding S M p root g) o d in
+    go root g k z
+  where
+    rounds : (root : Interned) (ps : List N) (c : ℕ) → build S (M .limit) p b ≡ ok (passed ps c) → (r : Res (Checked Terms)) → Spent (length ps) c r → (r >>= afterStarting S M p root ps) ≡ ok o → Ends S M p b o
+    rounds root ps c k r (cut h) z = inStarting root ps c k h (sym (ok-inj z))
+    rounds root ps c k r (paid {a = a} {c = d} h) z =
+        inRounds ps c d k h (rounds-end S M ps d d (record { pool = a .pool; qualities = map (S .startingQuality) ps; terms = a .terms; rounds = 0; budget = d }) o
+        (record { qualities = refl; moved = λ r l. absurd (omega arith); spent = omega arith }) (omega arith) z)
+    rounds root ps c k r ended z = absurd (refused-ok z)
+
+    go : (root : Interned) (g : Checked (List N)) → build S (M .limit) p b ≡ ok g → afterBuilding S M p root g ≡ ok o → Ends S M p b o
+    go root cutShort k z = inBuilding root k (sym (ok-inj z))
+    go root (passed ps c) k z = rounds root ps c k (startingTerms M ps c (root .pool)) (starting-spends M ps c (root .pool)) z
+
+-- ---- a longer run
+-- y is what a run that gave x gives with more checks: a refusal is the same refusal, a complete run the same run; a partial one may go on
+abbrev pub Stays : Res Outcome → Res Outcome → Type 0
+Stays (ok o) y = o .complete ≡ true → y ≡ ok o
+Stays (refused n) y = y ≡ refused n
+
+-- a step that goes on with the same end
+stays-bind : {A : Type 0} (e : ℕ) (r s : Res (Checked A)) → Later e r s → (k l : Checked A → Res Outcome)
+    → ((a : A) (c : ℕ) → Stays (k (passed a c)) (l (passed a (c + e)))) → ((o : Outcome) → k cutShort ≡ ok o → o .complete ≡ false) → ((n : ℕ) → k cutShort ≡ refused n → ⊥)
+    → Stays (r >>= k) (s >>= l)
+stays-bind e (ok (passed a c)) s h k l f g i = rw h (f a c)
+stays-bind e (ok cutShort) s h k l f g i = go (k cutShort) g i
+  where
+    go : (x : Res Outcome) → ((o : Outcome) → x ≡ ok o → o .complete ≡ false) → ((n : ℕ) → x ≡ refused n → ⊥) → Stays x (s >>= l)
+    go (ok o) g i = λ c. absurd (clash (sym c ∙ g o refl))
+    go (refused n) g i = absurd (i n refl)
+stays-bind e (refused n) s h k l f g i = rw h refl
+
+partial-only : {o u : Outcome} → o .complete ≡ false → ok o ≡ ok u → u .complete ≡ false
+partial-only {o} {u} h e = sym (ap (λ (z : Outcome). z .complete) (ok-inj e)) ∙ h
+
+module _ {N : Type 0} (S : System N) (M : Making N) (ps : List N) where
+  rounds-later : (f g e : ℕ) (s : State) → f ≤ g → Stays (roundsFrom S M f ps s) (roundsFrom S M g ps (withBudget s (s .budget + e)))
+  unfolding roundsFrom afterRound
+  rounds-later zero g e s h = λ c. absurd (clash (sym c))
+  rounds-later (suc f) zero e s h = absurd (omega arith)
+  rounds-later (suc f) (suc g) e s h =
+      stays-bind e (roundTerms S M ps s ws (s .budget)) (roundTerms S M ps u ws (s .budget + e)) (round-later S M ps s ws (s .budget) (s .budget + e) e (s .budget + e) refl)
+      (afterRound (λ z. roundsFrom S M f ps z) ps s ws) (afterRound (λ z. roundsFrom S M g ps z) ps u ws)
+      (λ a c. test (any changes ws) a c (rounds-later f g e (stateAfter s ws a c) (omega arith)))
+      (λ o z. partial-only {o = outcome false ps s} {u = o} refl z)
+      (λ n z. refused-ok (sym z))
+    where
+      ws : List (Turn N)
+      ws = turnsOf S ps (s .qualities)
+
+      u : State
+      u = withBudget s (s .budget + e)
+
+      test : (x : Bool) (a : Terms) (c : ℕ) → Stays (roundsFrom S M f ps (stateAfter s ws a c)) (roundsFrom S M g ps (stateAfter s ws a (c + e)))
+          → Stays (elim x [ false ↦ ok (outcome true ps s) | true ↦ roundsFrom S M f ps (stateAfter s ws a c) ]) (elim x [ false ↦ ok (outcome true ps u) | true ↦ roundsFrom S M g ps (stateAfter u ws a (c + e)) ])
+      test false a c ih = λ z. refl
+      test true a c ih = ih
+
+pub run-later : {N : Type 0} (S : System N) (M : Making N) (p : N) (b c : ℕ) → b ≤ c → Stays (runOf S M p b) (runOf S M p c)
+unfolding runOf afterBuilding afterStarting started
+run-later {N = N} S M p b c h = go (M .startingTerm [] p)
+  where
+    e : ℕ
+    e = c - b
+
+    is : c ≡ b + e
+    is = omega arith
+
+    starting : (root : Interned) (ps : List N) (d : ℕ) → Stays (startingTerms M ps d (root .pool) >>= afterStarting S M p root ps) (startingTerms M ps (d + e) (root .pool) >>= afterStarting S M p root ps)
+    starting root ps d =
+        stays-bind e (startingTerms M ps d (root .pool)) (startingTerms M ps (d + e) (root .pool)) (starting-later M ps d (d + e) e (root .pool) refl) (afterStarting S M p root ps) (afterStarting S M p root ps)
+        (λ a k. rounds-later S M ps k (k + e) e (record { pool = a .pool; qualities = map (S .startingQuality) ps; terms = a .terms; rounds = 0; budget = k }) (omega arith))
+        (λ o z. partial-only {o = started S p root (length ps)} {u = o} refl z)
+        (λ n z. refused-ok (sym z))
+
+    go : (r : Res Interned) → Stays (r >>= λ root. build S (M .limit) p b >>= λ g. afterBuilding S M p root g) (r >>= λ root. build S (M .limit) p c >>= λ g. afterBuilding S M p root g)
+    go (ok root) =
+        stays-bind e (build S (M .limit) p b) (build S (M .limit) p c) (build-later S (M .limit) p b c e is) (afterBuilding S M p root) (afterBuilding S M p root)
+        (λ ps d. starting root ps d)
+        (λ o z. partial-only {o = started S p root 1} {u = o} refl z)
+        (λ n z. refused-ok (sym z))
+    go (refused n) = refl
