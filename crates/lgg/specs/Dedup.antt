@@ -25,7 +25,7 @@ use Rattle.steps.specs.Nodes.{not-in}
 use Rattle.steps.specs.Enter.{Entered, grown, enter-says, starts-in}
 use Rattle.steps.specs.Turn.{all-keep}
 use Rattle.lgg.specs.Repeats.{Fewer, done, keep, drop, Equal, fewer-all, fewer-seen, fewer-append, fewer-in, fewer-each, fewer-map, fewer-filter, fewer-trans}
-use Rattle.lgg.specs.Offers.{all-append, offer-stays, all-stay}
+use Rattle.steps.specs.Turn.{all-append, offer-stays, all-stay}
 
 -- ---- the same action twice: by operation and joined pairs, in whatever order (the signature of `dedup_and_insert`)
 pub record Repeats (a b : Action) : Type 0 where

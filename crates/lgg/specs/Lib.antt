@@ -1,4 +1,3 @@
-pub mod Offers
 pub mod Moves
 pub mod Cells
 pub mod Repeats
@@ -10,3 +9,4 @@ pub mod TurnBounds
 pub mod TurnPlaces
 pub mod TurnRead
 pub mod Count
+pub mod Limits

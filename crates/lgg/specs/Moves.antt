@@ -21,7 +21,7 @@ use Rattle.laws.specs.Bag.{each-in}
 use Rattle.steps.specs.Quality.{⊑-refl, suc-⊑, quality-⊑}
 use Rattle.steps.specs.Rounds.{Moves, Backs}
 use Rattle.steps.specs.Plain.{backs}
-use Rattle.lgg.specs.Offers.{Reads}
+use Rattle.steps.specs.Reads.{Reads}
 
 -- a transport's cells, and the solver's plan over them
 abbrev pub cellQualities : (Two → Two) → TransportAction → List Two

@@ -20,7 +20,7 @@ use Rattle.laws.specs.AcceptedLists.{in-at}
 use Rattle.laws.specs.Lists.{in-nil, in-left, in-right, in-map, in-each, any-none, length-map}
 use Rattle.laws.specs.BestMembers.{member-arity}
 use Rattle.lgg.specs.Within.{Over, joins-in}
-use Rattle.lgg.specs.Offers.{turn-again}
+use Rattle.steps.specs.Reads.{turn-again}
 use Rattle.lgg.specs.Moves.{pair-reads}
 
 -- the identity of an operation, where it has one

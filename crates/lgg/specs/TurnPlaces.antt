@@ -28,8 +28,8 @@ use Rattle.flow.specs.Theorems.{margins}
 use Rattle.laws.specs.Lists.{in-nil, in-cons, in-append, map-in, length-map}
 use Rattle.laws.specs.Bag.{each-in, filter-in}
 use Rattle.laws.specs.BestMembers.{member-number}
-use Rattle.lgg.specs.Offers as offers
-use Rattle.lgg.specs.Offers.{turn-chosen}
+use Rattle.steps.specs.Turn as turn
+use Rattle.steps.specs.Turn.{turn-chosen}
 use Rattle.lgg.specs.Moves.{each-offer, action-joins, transport-joins, pair-reads}
 
 -- ---- a turn's choice is one of its actions
@@ -41,7 +41,7 @@ module _ (P : Act → Type 0) where
 
 -- the places that a turn chose are joined
 pub choice-joins : (t : Tables) (q : Two → Two) (p : Two) (a : Act) → turnOf t q p .choice ≡ act a → (c : Two) → In c (a .places) → In c (joins t p)
-choice-joins t = offers.choice-joins (pairs t) (pair-reads t)
+choice-joins t = turn.choice-joins (pairs t) (pair-reads t .joined)
 
 -- ---- what the actions of a pair are made of
 zip-length : (xs ys : List ℕ) → length (zip xs ys) ≤ length xs

@@ -22,7 +22,8 @@ use Rattle.laws.specs.Bag.{perm-of-eq}
 use Rattle.laws.specs.BagCount.{written, spread, map-spread, spread-written, occurs-written, written-ones}
 use Rattle.pools.specs.Pool.{RunsBelow, runs-below-nil, runs-below-cons, PoolValid, op-valid, lit-valid, variants-valid, numbered, tree-literal, tree-marked}
 use Rattle.pools.specs.PoolIntern.{Extends, extends-refl, extends-trans, extends-within, extends-tree, Interns, intern-enters, op-means}
-use Rattle.readings.specs.ReadingsNode.{size, runs-size, two-branches, read-variants, Covers, inOrder, anyOrder, TermFor, TermsFor, noTerm, andTerm, good-node}
+use Rattle.steps.specs.Readings.{Makes}
+use Rattle.readings.specs.ReadingsNode.{Covers, inOrder, anyOrder, TermFor, TermsFor, noTerm, andTerm, good-node}
 use Rattle.laws.specs.BestMembers.{best-in, best-falls, child-within, child-counted, child-single, member-arity}
 use Rattle.laws.specs.Lists.{map-map}
 use Rattle.laws.specs.Results.{bind-ok, ok-inj}

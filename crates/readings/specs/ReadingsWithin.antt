@@ -11,9 +11,11 @@ use Rattle.spec.specs.Bytes.{Two, pick, each}
 use Rattle.spec.specs.Image.{Tables, childrenOf}
 use Rattle.spec.specs.Monomial.{MonomialPair, classes}
 use Rattle.spec.specs.Action.{Action, structural, transports, cellPairs, joins}
-use Rattle.spec.specs.Meaning.{In, here, there, occurs, countIn, Side, member, padded}
+use Rattle.spec.specs.Meaning.{In, here, there, occurs, countIn, Side, member, padded, Reachable}
 use Rattle.spec.specs.Meaning as M
+use Rattle.spec.specs.Pairs.{pairs}
 use Rattle.laws.specs.Valid.{Valid}
+use Rattle.steps.specs.Graph.{reach-all}
 use Rattle.laws.specs.Bag.{each-in}
 use Rattle.readings.specs.ReadingsNode.{Covers, inOrder, anyOrder}
 use Rattle.readings.specs.ReadingsActions.{AllClasses, transport-carries, structural-legal, once}
@@ -68,3 +70,7 @@ module _ (t : Tables) (v : Valid t) where
       go : In c (each (λ a. a .pairs) (structural t (p .0) (p .1))) ⊎ In c (each (λ a. cellPairs (a .sides)) (transports t (p .0) (p .1))) → IsPair t c
       go (inl i) = let (a, j, k) = each-in (λ a. a .pairs) (structural t (p .0) (p .1)) c i in action-within p h a j c k
       go (inr i) = let (a, j, k) = each-in (λ a. cellPairs (a .sides)) (transports t (p .0) (p .1)) c i in let C = transport-carries t v (p .0) (p .1) a j in cells-within (a .sides) (C .rows .within (h .0)) (C .cols .within (h .1)) c k
+
+-- so every reachable pair is one of classes of the image
+pub reach-within : (t : Tables) → Valid t → (p q : Two) → IsPair t p → Reachable t p q → IsPair t q
+reach-within t v p q h r = reach-all (pairs t) (IsPair t) (λ x c k i. joins-within t v x k c i) p h q r

@@ -20,6 +20,11 @@ use Rattle.steps.specs.Enter.{Starts, starts-refl, starts-trans, starts-
 abbrev pub Closed : {N : Type 0} → System N → List N → Type 0
 Closed {N} S ps = (p c : N) → In p ps → In c (S .joins p) → In c ps
 
+-- what a node hands on to those that it joins holds of all that are reachable
+pub reach-all : {N : Type 0} (S : System N) (P : N → Type 0) → ((p c : N) → P p → In c (S .joins p) → P c) → (root : N) → P root → (q : N) → Reachable S root q → P q
+reach-all S P on root h q (queried e) = rw e h
+reach-all S P on root h q (joined {p = r} k i) = on r q (reach-all S P on root h r k) i
+
 -- ---- building
 -- some of the reachable nodes, once each
 pub record Some {N : Type 0} (S : System N) (root : N) (ps : List N) : Type 0 where

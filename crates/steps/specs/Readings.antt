@@ -8,7 +8,7 @@ use native.Mathlib.Omega.{arith}
 use lib.ListN.{length, getD}
 use Rattle.spec.specs.Bytes.{In, here, there, Two, any, place, Res, ok, refused, _>>=_, Checked, passed, cutShort}
 use Rattle.spec.specs.Pool.{Pool, Interned, interned}
-use Rattle.spec.specs.System.{System, Making, Act, build, lookUp, stay, act, Turn, changes, worth, turnOf, turnsOf, planRuns, choiceTerm, Terms, prepend, turnsTerms, startingTerms, Outcome, State, outcome, stateAfter, afterRound, roundTerms, roundsFrom, started, startState, afterStarting, afterBuilding, runOf, Reachable, queried, joined}
+use Rattle.spec.specs.System.{System, Making, Act, build, lookUp, stay, act, Turn, changes, worth, turnOf, turnsOf, planRuns, choiceTerm, Terms, prepend, turnsTerms, startingTerms, Outcome, State, outcome, stateAfter, afterRound, roundTerms, roundsFrom, started, startState, afterStarting, afterBuilding, runOf, joined}
 use Rattle.spec.specs.Meaning.{Term, treeAt}
 use Rattle.laws.specs.Tests.{clash}
 use Rattle.laws.specs.Lists.{in-cons}
@@ -16,8 +16,8 @@ use Rattle.laws.specs.Results.{bind-ok, ok-inj, refused-ok}
 use Rattle.pools.specs.Pool.{PoolValid, empty-valid}
 use Rattle.pools.specs.PoolIntern.{Extends, extends-refl, extends-trans, extends-within, extends-tree}
 use Rattle.steps.specs.Enter.{Starts}
-use Rattle.steps.specs.Graph.{Whole, build-whole, build-first}
-use Rattle.steps.specs.Turn.{Inside, Chosen, stayed, acted, turn-chosen}
+use Rattle.steps.specs.Graph.{reach-all, Whole, build-whole, build-first}
+use Rattle.steps.specs.Turn.{Inside, Chosen, stayed, acted, turn-says}
 
 -- ---- a term for each node of a list, with its quality
 module _ {N : Type 0} (Good : N → Two → Term → Type 0) where
@@ -116,7 +116,7 @@ module _ {N : Type 0} (S : System N) (M : Making N) (Okay : N → Type 0) (Good 
   turns-done q of (p ∷ ps) zero pool r left u h e = let z : _≡_ {A = ℕ} 0 1 = cc in absurd (omega arith)
   turns-done q of (p ∷ ps) (suc b) pool r left u h e =
       done-step pool p (turnOf S q p .quality) ps (map (λ w. w .quality) (map (turnOf S q) ps)) (choiceTerm M of pool (of p) (turnOf S q p .choice)) (λ next. turnsTerms M of ps (map (turnOf S q) ps) b next) r left
-      (λ a k. choice-made pool p q of (turnOf S q p) a u (turn-chosen S q p) (h p here .0) (h p here .1) k)
+      (λ a k. choice-made pool p q of (turnOf S q p) a u (turn-says S q p) (h p here .0) (h p here .1) k)
       (λ a s A k. turns-done q of ps b (a .pool) s left (A .valid) (λ c i. (later (A .grown) c (h c (there i) .0), λ d j. later (A .grown) d (h c (there i) .1 d j))) k)
       e
     where
@@ -129,10 +129,6 @@ module _ {N : Type 0} (S : System N) (M : Making N) (Okay : N → Type 0) (Good 
       pub valid : PoolValid (o .pool)
       pub within : o .root < length (o .pool)
       pub good : Good p (o .quality) (treeAt (o .pool) (o .root))
-
-    reach-okay : (q : N) → Reachable S p q → Okay q
-    reach-okay q (queried e) = rw e h
-    reach-okay q (joined {p = r} k i) = L .onward r q (reach-okay r k) i
 
     record Graphed (ps : List N) : Type 0 where
       whole : Whole S p ps
@@ -200,7 +196,7 @@ module _ {N : Type 0} (S : System N) (M : Making N) (Okay : N → Type 0) (Good 
         starting : (root : Interned) → Makes Good [] p (S .startingQuality p) root → (ps : List N) → Graphed ps → (left : ℕ) (r : Checked Terms) → startingTerms M ps left (root .pool) ≡ ok r
             → afterStarting S M p root ps r ≡ ok o → RunGood o
         starting root R ps B left (passed r c) es e =
-            let D = starting-done ps left (root .pool) r c (R .valid) (λ q i. reach-okay q (B .whole .exactly q .0 i)) es in
+            let D = starting-done ps left (root .pool) r c (R .valid) (λ q i. reach-all S Okay (L .onward) p h q (B .whole .exactly q .0 i)) es in
             rounds-good c ps B (startState S ps r c) (record { valid = D .valid; holds = D .holds }) o e
         starting root R ps B left cutShort es e = rw (← ok-inj e) (root-good root R (length ps))
 

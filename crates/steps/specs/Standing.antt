@@ -19,7 +19,7 @@ use Rattle.pools.specs.PoolSort.{plan-below}
 use Rattle.pools.specs.OrderListing.{listing-larger}
 use Rattle.steps.specs.Nodes.{get-in, place-in}
 use Rattle.steps.specs.Graph.{Closed}
-use Rattle.steps.specs.Turn.{Inside, choice-inside}
+use Rattle.steps.specs.Turn.{Inside, choice-joins}
 use Rattle.steps.specs.TurnsFrom.{get-map, quality-at, turns-length, RoundAt, turnTerm, round-begin, round-cut, round-turn, round-refused, round-end}
 use Rattle.steps.specs.RoundsFrom.{turnsAt, roundAt}
 
@@ -117,7 +117,7 @@ module _ {N : Type 0} (S : System N) (M : Making N) (Okay : N → Type 0) (Fits 
         let p = getD ps k (S .other) in
         let i : In p ps = get-in (S .other) ps k h in
         choice-grows of pool (of p) (turnOf S q p .choice) a (W .valid) (extends-within (W .grown) (of p) (look-within S K p i))
-        (λ b z y j. extends-within (W .grown) (of y) (look-within S K y (closed p y i (choice-inside S (L .inside) q p b z y j)))) e
+        (λ b z y j. extends-within (W .grown) (of y) (look-within S K y (closed p y i (choice-joins S (L .inside) q p b z y j)))) e
 
     -- the pool after one turn more
     pub turn-midway : (k : ℕ) (done : List ℕ) (pool : Pool) (a : Interned) → k < length ps → Midway (s .pool) k done pool → turnTerm S M of ps (s .qualities) k pool ≡ ok a → Midway (s .pool) (k + 1) (done ++ (a .term ∷ [])) (a .pool)

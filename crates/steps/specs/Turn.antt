@@ -1,14 +1,14 @@
 -- A node's turn: it ends with the best of what the node has and of what its actions offer.
-use mathlib.Core.Path.{_≡_, refl, sym, _∙_}
+use mathlib.Core.Path.{_≡_, refl, sym, ap, _∙_}
 use mathlib.Core.Logic.{_⊎_, inl, inr}
 use mathlib.Core.Bool.{Bool, true, false}
-use mathlib.Core.List.{List, [], _∷_, map}
+use mathlib.Core.List.{List, [], _∷_, _++_, map}
 use Prim.Native.Nat.{ℕ}
 use native.Mathlib.Omega.{arith}
 use Rattle.spec.specs.Bytes.{pick, In, here, there, Two}
 use Rattle.spec.specs.System.{System, Act, better, Choice, stay, act, Turn, changes, worth, offer, offerAll, turnOf}
 use Rattle.spec.specs.Meaning.{_⊑_}
-use Rattle.steps.specs.Quality.{_⊏_, ⊏-⊑-trans, ⊑-refl, ⊑-trans, ⊏-⊑, better-is, better-not}
+use Rattle.steps.specs.Quality.{_⊏_, ⊏-⊑-trans, ⊑-refl, ⊑-trans, ⊏-⊑, ⊏-not, better-is, better-not}
 
 -- what the turn chose tells whether the quality is better than z
 abbrev pub Told : {N : Type 0} → Two → Turn N → Type 0
@@ -86,40 +86,64 @@ module _ {N : Type 0} (S : System N) (q : N → Two) where
   unfolding turnOf
   turn-from p = all-one (λ z. (z ≡ q p) ⊎ Won p z) (S .offers q p) (record { quality = q p; choice = stay }) (λ a i. inr (a, i, refl)) (inl refl)
 
--- ---- what a turn chooses
--- every place of an offer is one that the node joins
-abbrev pub Inside : {N : Type 0} → System N → Type 0
-Inside {N} S = (q : N → Two) (p : N) (a : Act N) → In a (S .offers q p) → (c : N) → In c (a .places) → In c (S .joins p)
+-- ---- offers that are not better
+module _ {N : Type 0} (S : System N) (q : N → Two) where
+  pub all-append : (l m : List (Act N)) (w : Turn N) → offerAll S q (l ++ m) w ≡ offerAll S q m (offerAll S q l w)
+  unfolding offerAll
+  all-append [] m w = refl
+  all-append (a ∷ l) m w = all-append l m (offer S q a w)
 
+  -- what is not better is not taken
+  pub offer-stays : (a : Act N) (w : Turn N) → w .quality ⊑ worth S q a → offer S q a w ≡ w
+  offer-stays a w h = go (better (worth S q a) (w .quality)) refl
+    where
+      go : (b : Bool) → better (worth S q a) (w .quality) ≡ b → offer S q a w ≡ w
+      go true e = absurd (⊏-not (worth S q a) (w .quality) (better-is (worth S q a) (w .quality) e) h)
+      go false e = rw e refl
+
+  pub all-stay : (l : List (Act N)) (w : Turn N) → ((a : Act N) → In a l → w .quality ⊑ worth S q a) → offerAll S q l w ≡ w
+  unfolding offerAll
+  all-stay [] w h = refl
+  all-stay (a ∷ l) w h = ap (offerAll S q l) (offer-stays a w (h a here)) ∙ all-stay l w (λ b i. h b (there i))
+
+-- ---- what a turn chooses
 module _ {N : Type 0} (S : System N) (q : N → Two) where
   -- the turn stayed, or took an offer
   pub data Chosen (p : N) (w : Turn N) : Type 0 where
     stayed : w .choice ≡ stay → w .quality ≡ q p → Chosen p w
     acted : (a : Act N) → In a (S .offers q p) → w .choice ≡ act a → w .quality ≡ worth S q a → Chosen p w
 
-  all-chosen : (p : N) (l : List (Act N)) → ((a : Act N) → In a l → In a (S .offers q p)) → (w : Turn N) → Chosen p w → Chosen p (offerAll S q l w)
+  all-say : (p : N) (l : List (Act N)) → ((a : Act N) → In a l → In a (S .offers q p)) → (w : Turn N) → Chosen p w → Chosen p (offerAll S q l w)
   unfolding offerAll
-  all-chosen p [] h w W = W
-  all-chosen p (a ∷ l) h w W = all-chosen p l (λ b i. h b (there i)) (offer S q a w) (go (better (worth S q a) (w .quality)))
+  all-say p [] h w W = W
+  all-say p (a ∷ l) h w W = all-say p l (λ b i. h b (there i)) (offer S q a w) (go (better (worth S q a) (w .quality)))
     where
       go : (b : Bool) → Chosen p (pick b (record { quality = worth S q a; choice = act a }) w)
       go true = acted a (h a here) refl refl
       go false = W
 
-  pub turn-chosen : (p : N) → Chosen p (turnOf S q p)
+  pub turn-says : (p : N) → Chosen p (turnOf S q p)
   unfolding turnOf
-  turn-chosen p = all-chosen p (S .offers q p) (λ a i. i) (record { quality = q p; choice = stay }) (stayed refl refl)
+  turn-says p = all-say p (S .offers q p) (λ a i. i) (record { quality = q p; choice = stay }) (stayed refl refl)
 
--- the places of a turn's choice are such as the node joins
-pub choice-inside : {N : Type 0} (S : System N) → Inside S → (q : N → Two) (p : N) (b : Act N) → turnOf S q p .choice ≡ act b → (c : N) → In c (b .places) → In c (S .joins p)
-choice-inside {N} S I q p b e c i = go (turn-chosen S q p)
-  where
-    act-inj : (a b : Act N) → act a ≡ act b → a ≡ b
-    act-inj a b e = cc
+  -- what was chosen was offered
+  pub turn-chosen : (p : N) (a : Act N) → turnOf S q p .choice ≡ act a → In a (S .offers q p)
+  turn-chosen p a e = go (turn-says p)
+    where
+      no : _≡_ {A = Choice N} stay (act a) → ⊥
+      no e = let z : _≡_ {A = ℕ} 0 1 = cc in omega arith
 
-    clash : _≡_ {A = Choice N} stay (act b) → ⊥
-    clash e = let z : _≡_ {A = ℕ} 0 1 = cc in omega arith
+      same : (b : Act N) → _≡_ {A = Choice N} (act b) (act a) → a ≡ b
+      same b e = cc
 
-    go : Chosen S q p (turnOf S q p) → In c (S .joins p)
-    go (stayed x y) = absurd (clash (sym x ∙ e))
-    go (acted a j x y) = let z = act-inj a b (sym x ∙ e) in I q p a j c (rw z i)
+      go : Chosen p (turnOf S q p) → In a (S .offers q p)
+      go (stayed x y) = absurd (no (sym x ∙ e))
+      go (acted b j x y) = rw (same b (sym x ∙ e)) j
+
+-- every place of an offer is one that the node joins
+abbrev pub Inside : {N : Type 0} → System N → Type 0
+Inside {N} S = (q : N → Two) (p : N) (a : Act N) → In a (S .offers q p) → (c : N) → In c (a .places) → In c (S .joins p)
+
+-- so the places that a turn chose are joined
+pub choice-joins : {N : Type 0} (S : System N) → Inside S → (q : N → Two) (p : N) (a : Act N) → turnOf S q p .choice ≡ act a → (c : N) → In c (a .places) → In c (S .joins p)
+choice-joins S I q p a e = I q p a (turn-chosen S q p a e)
