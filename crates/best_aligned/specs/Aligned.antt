@@ -1,11 +1,14 @@
 -- "A strictly better action replaces; structural actions come before transport": what a pair has after its structural actions.
 use mathlib.Core.Path.{_≡_}
+use mathlib.Core.List.{List, map}
 use Prim.Native.Nat.{ℕ, zero, suc}
 use lib.ListN.{length}
 use Rattle.spec.specs.Bytes.{Two}
 use Rattle.spec.specs.Image.{Tables}
-use Rattle.spec.specs.Action.{structural}
-use Rattle.spec.specs.Round.{Choice, stay, Turn, offerActions}
+use Rattle.spec.specs.Action.{Action, structural}
+use Rattle.spec.specs.System.{offerAll}
+use Rattle.spec.specs.Pairs.{pairs}
+use Rattle.spec.specs.Round.{Choice, stay, Turn, ofAction}
 use Rattle.actions.specs.Place.{Stands, afterOf}
 use Rattle.enumeration.specs.Seek.{startOf, seekRows, seekOf}
 use Rattle.actions.specs.declared.State.{State}
@@ -44,10 +47,14 @@ StandsAt t Stay = Unit
 StandsAt t (Aligned v) = Stands t v
 StandsAt t (Plan o n) = ⊥
 
+-- structural actions are offered to a turn
+abbrev pub offerActions : Tables → (Two → Two) → List Action → Turn → Turn
+offerActions t q l w = offerAll (pairs t) q (map ofAction l) w
+
 -- the first strictly best of what the pair has and of what its structural actions give
 unfoldable pub afterAligned : Tables → (Two → Two) → Two → Turn
-unfolding offerActions structural
-afterAligned t q p = offerActions q (structural t (p .0) (p .1)) (record { quality = q p; choice = stay })
+unfolding offerAll structural
+afterAligned t q p = offerActions t q (structural t (p .0) (p .1)) (record { quality = q p; choice = stay })
 
 -- b is that
 pub record Aligns (t : Tables) (q : Two → Two) (p : Two) (b : Best) : Type 0 where

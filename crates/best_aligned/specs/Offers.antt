@@ -8,7 +8,8 @@ use lib.ListN.{length}
 use Rattle.spec.specs.Bytes.{Two, pick}
 use Rattle.spec.specs.Image.{Tables, tablesOf}
 use Rattle.spec.specs.Action.{Action, structural}
-use Rattle.spec.specs.Round.{better, Turn, offerActions}
+use Rattle.spec.specs.System.{offerAll}
+use Rattle.spec.specs.Round.{better, Turn}
 use Rattle.laws.specs.Scans.{nil-of-length}
 use Rattle.laws.specs.Valid.{Valid}
 use Rattle.image.specs.Loaded.{Loaded}
@@ -23,7 +24,7 @@ use Rattle.enumeration.specs.declared.Sought.the-variants.{At, End}
 use Rattle.quality.specs.declared.How.the-variants.{Stay, Aligned}
 use Rattle.quality.specs.declared.Best.{Best}
 use Rattle.quality.specs.Offer.{structuralQuality, offerAt}
-use Rattle.best_aligned.specs.Aligned.{atFound, bestFrom, bestAligned, choiceAt, StandsAt, afterAligned, Aligns}
+use Rattle.best_aligned.specs.Aligned.{offerActions, atFound, bestFrom, bestAligned, choiceAt, StandsAt, afterAligned, Aligns}
 
 abbrev turnAt : Tables → Best → Turn
 turnAt t b = record { quality = (b .size, b .mass); choice = choiceAt t (b .how) }
@@ -44,24 +45,24 @@ module _ {s : List ℕ} {im : Image} (L : Loaded s im) (ok : Valid (tablesOf s))
 
   -- x is what the actions left at w make of b
   record Makes (w : State) (b x : Best) : Type 0 where
-    turn : turnAt t x ≡ offerActions q (listFrom t l r w) (turnAt t b)
+    turn : turnAt t x ≡ offerActions t q (listFrom t l r w) (turnAt t b)
     stands : StandsAt t (x .how)
 
   makes-step : (n : ℕ) (w : State) (b : Best) (x : Sought) → listFrom t l r w ≡ foundIn t l r x → StandsFound t x → StandsAt t (b .how) → length (listFrom t l r w) ≡ suc n
       → ((u : State) (c : Best) → length (listFrom t l r u) ≡ n → StandsAt t (c .how) → Makes u c (bestFrom t q (l, r) n u c))
       → Makes w b (atFound x b (λ v. bestFrom t q (l, r) n (afterOf v) (offerAt t q v b)))
-  unfolding offerActions
-  makes-step n w b End e st h m ih = record { turn = ap (λ (z : List Action). offerActions q z (turnAt t b)) (sym e); stands = h }
+  unfolding offerAll
+  makes-step n w b End e st h m ih = record { turn = ap (λ (z : List Action). offerActions t q z (turnAt t b)) (sym e); stands = h }
   makes-step n w b (At v) e st h m ih =
       let y = structuralQuality q (actionAt t v) in
       let x : Best = record { size = y .0; mass = y .1; how = Aligned v } in
       let c = better y (b .size, b .mass) in
       let f = ih (afterOf v) (offerAt t q v b) (omega (arith, ap (λ (z : List Action). length z) e)) (stands-pick t x b c st h) in
-      record { turn = f .turn ∙ ap (offerActions q (listFrom t l r (afterOf v))) (turn-pick t x b c) ∙ ap (λ (z : List Action). offerActions q z (turnAt t b)) (sym e); stands = f .stands }
+      record { turn = f .turn ∙ ap (offerActions t q (listFrom t l r (afterOf v))) (turn-pick t x b c) ∙ ap (λ (z : List Action). offerActions t q z (turnAt t b)) (sym e); stands = f .stands }
 
   makes : (n : ℕ) (w : State) (b : Best) → length (listFrom t l r w) ≡ n → StandsAt t (b .how) → Makes w b (bestFrom t q (l, r) n w b)
-  unfolding bestFrom offerActions
-  makes zero w b m h = record { turn = ap (λ (z : List Action). offerActions q z (turnAt t b)) (sym (nil-of-length (listFrom t l r w) m)); stands = h }
+  unfolding bestFrom offerAll
+  makes zero w b m h = record { turn = ap (λ (z : List Action). offerActions t q z (turnAt t b)) (sym (nil-of-length (listFrom t l r w) m)); stands = h }
   makes (suc n) w b m h = makes-step n w b (seekOf t l r w) (seek-list L ok hl hr w refl) (seek-stands L ok hl hr w refl) h m (makes n)
 
   -- the best is what the specification's turn has after the structural actions
@@ -71,7 +72,7 @@ module _ {s : List ℕ} {im : Image} (L : Loaded s im) (ok : Valid (tablesOf s))
       let f = start-list L ok hl hr refl in
       let b : Best = record { size = q (l, r) .0; mass = q (l, r) .1; how = Stay } in
       let g = makes (length (structural t l r)) (startOf t l r) b (ap (λ (z : List Action). length z) f) tt in
-      let d : turnAt t (bestAligned t q (l, r)) ≡ afterAligned t q (l, r) = g .turn ∙ ap (λ (z : List Action). offerActions q z (turnAt t b)) f in
+      let d : turnAt t (bestAligned t q (l, r)) ≡ afterAligned t q (l, r) = g .turn ∙ ap (λ (z : List Action). offerActions t q z (turnAt t b)) f in
       rw e (record { quality = ap (λ (z : Turn). z .quality) d; choice = ap (λ (z : Turn). z .choice) d; stands = g .stands })
 
   -- ---- a turn of the loop

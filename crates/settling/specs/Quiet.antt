@@ -8,6 +8,8 @@ use lib.Dec.{ltb}
 use lib.ListN.{length, getD, replicate, getD-replicate, length-replicate}
 use Rattle.spec.specs.Bytes.{both, any, place, Two, sameTwo}
 use Rattle.spec.specs.Image.{Tables}
+use Rattle.spec.specs.System as system
+use Rattle.spec.specs.Pairs as P
 use Rattle.spec.specs.Round.{lookUp, stay, Turn, turnOf, turnsOf}
 use Rattle.spec.specs.Meaning.{In}
 use Rattle.laws.specs.Tests.{clash}
@@ -17,8 +19,8 @@ use Rattle.laws.specs.BestMembers.{IsPair}
 use Rattle.laws.specs.Lists.{get-in, same-eq, map-map, look-up}
 use Rattle.lgg.specs.Parts.{partsOf, stays}
 use Rattle.pools.specs.PoolIntern.{place-passes}
-use Rattle.steps.specs.Rounds.{Closed}
-use Rattle.steps.specs.Standing.{place-in}
+use Rattle.steps.specs.Nodes.{place-in}
+use Rattle.steps.specs.Graph.{Closed}
 use Rattle.changes.specs.Marks.{markedIn}
 use Rattle.changes.specs.MarkLaws.{live-at}
 use Rattle.arrays.specs.Arrays.{unkey, pairsIn, NEW, qualitiesIn}
@@ -46,7 +48,7 @@ module _ (t : Tables) (v : Valid t) (ps : List Two) (i : (p : Two) → In p ps �
       absurd (clash (sym z ∙ e))
 
   -- ---- after a round: what joins no pair that changed keeps what it has
-  module _ (closed : Closed t ps) (qs qs′ : List Two) (next : qs′ ≡ map (λ w. w .quality) (turnsOf t ps qs)) (lmarks rmarks : List ℕ)
+  module _ (closed : Closed (P.pairs t) ps) (qs qs′ : List Two) (next : qs′ ≡ map (λ w. w .quality) (turnsOf t ps qs)) (lmarks rmarks : List ℕ)
       (same : (x : Two) → In x ps → liveIn lmarks rmarks x ≡ false → lookUp (0, 0) ps qs′ x ≡ lookUp (0, 0) ps qs x) where
     abbrev q : Two → Two
     q = lookUp (0, 0) ps qs
@@ -55,7 +57,7 @@ module _ (t : Tables) (v : Valid t) (ps : List Two) (i : (p : Two) → In p ps �
     q′ = lookUp (0, 0) ps qs′
 
     turned : (x : Two) → In x ps → q′ x ≡ turnOf t q x .quality
-    unfolding turnsOf
+    unfolding system.turnsOf
     turned x j = rw (next ∙ map-map (turnOf t q) (λ w. w .quality) ps) (look-up (0, 0) (λ y. turnOf t q y .quality) ps x j)
 
     quiet-next : (llive rlive : List ℕ) → ((c : ℕ) → c < length (t .classes) → markedIn llive c ≡ any (markedIn lmarks) (partsOf t c)) → ((c : ℕ) → c < length (t .classes) → markedIn rlive c ≡ any (markedIn rmarks) (partsOf t c)) → Quiet t ps qs′ llive rlive
@@ -93,10 +95,10 @@ module _ (t : Tables) (v : Valid t) (w : ℕ) (graph : List ℕ) (n : ℕ) (i : 
       k = place (sameTwo x) ps
 
       h : k < n
-      h = omega (arith, place-in x ps j, many)
+      h = omega (arith, place-in (P.pairs t) x ps j, many)
 
       is : x ≡ unkey (getD graph (w * w + k) 0)
-      is = same-eq x (getD ps k (0, 0)) (place-passes (sameTwo x) (0, 0) ps (place-in x ps j)) ∙ unkeyed-at graph (w * w) n k h
+      is = same-eq x (getD ps k (0, 0)) (place-passes (sameTwo x) (0, 0) ps (place-in (P.pairs t) x ps j)) ∙ unkeyed-at graph (w * w) n k h
 
       go : (b : Bool) → differsAt pairs k ≡ b → getD (qualitiesIn pairs NEW n) k (0, 0) ≡ getD (qualitiesIn pairs 0 n) k (0, 0)
       go false z = same-quality pairs n k h z
@@ -106,7 +108,7 @@ module _ (t : Tables) (v : Valid t) (w : ℕ) (graph : List ℕ) (n : ℕ) (i : 
           absurd (clash (sym (ap₂ (λ (c d : Bool). both c d) a b) ∙ e))
 
   -- the classes that are live in the next round
-  pub quiet-after : Closed t ps → qualitiesIn pairs NEW n ≡ map (λ w. w .quality) (turnsOf t ps (qualitiesIn pairs 0 n)) → 6 * n ≤ length pairs → (llive rlive pairs′ llive′ rlive′ : List ℕ) → Ends t w graph n pairs llive rlive pairs′ llive′ rlive′
+  pub quiet-after : Closed (P.pairs t) ps → qualitiesIn pairs NEW n ≡ map (λ w. w .quality) (turnsOf t ps (qualitiesIn pairs 0 n)) → 6 * n ≤ length pairs → (llive rlive pairs′ llive′ rlive′ : List ℕ) → Ends t w graph n pairs llive rlive pairs′ llive′ rlive′
       → Quiet t ps (qualitiesIn pairs′ 0 n) llive′ rlive′
   quiet-after closed next room llive rlive pairs′ llive′ rlive′ X =
       let e : qualitiesIn pairs′ 0 n ≡ qualitiesIn pairs NEW n = ap (λ (l : List ℕ). qualitiesIn l 0 n) (X .pairs) ∙ settled-qualities pairs n room in

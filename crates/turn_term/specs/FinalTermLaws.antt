@@ -13,7 +13,8 @@ use Rattle.spec.specs.Image.{Tables, kindOf, isCommutative}
 use Rattle.spec.specs.Meaning.{In, here, there}
 use Rattle.spec.specs.Action.{joins}
 use Rattle.spec.specs.Monomial.{COUNT}
-use Rattle.spec.specs.Round.{Act, Choice, stay, act, turnOf, choiceTerm, actionTerm, planRuns}
+use Rattle.spec.specs.System as system
+use Rattle.spec.specs.Round.{Act, Choice, stay, act, turnOf, actionTerm, planRuns}
 use Rattle.laws.specs.Buffers.{over}
 use Rattle.laws.specs.Valid.{Valid}
 use Rattle.laws.specs.Lists.{in-nil, in-cons}
@@ -98,7 +99,7 @@ over-front list r m e h = sym (take-append-drop m list) ∙ (λ i. e i ++ drop (
 
 module _ (lim : Limits) (t : Tables) (of : Two → ℕ) (terms runs : List ℕ) (hold : Holds terms runs) (old : ℕ) (c : Choice) (list : List ℕ) where
   pub ended-stay : c ≡ stay → (r : ℕ) → r ≡ old → Ended lim t of terms runs old c list terms runs list (E.Term r)
-  unfolding choiceTerm
+  unfolding system.choiceTerm
   ended-stay e r f = rw (e, f) (record { answer = refl; pool = refl; holds = hold; grows = grows-none terms runs hold; listIs = refl })
 
   module _ (a : Act) (e : c ≡ act a) (below : (p : Two) → In p (a .places) → of p < countIn terms)
@@ -129,7 +130,7 @@ module _ (lim : Limits) (t : Tables) (of : Two → ℕ) (terms runs : List ℕ) 
     act-given h f = (act-fits, act-below, act-light h f)
 
     pub ended-act : (terms′ runs′ list′ : List ℕ) (r : Entered) → ActionResult lim terms runs list₁ n (a .op) (isCommutative (kindOf t (a .op))) terms′ runs′ list′ r → Ended lim t of terms runs old c list terms′ runs′ list′ r
-    unfolding choiceTerm actionTerm
+    unfolding system.choiceTerm actionTerm
     ended-act terms′ runs′ list′ r A =
         rw e
         (record {

@@ -9,6 +9,7 @@ use lib.Seq.{set-getD}
 use Rattle.spec.specs.Bytes.{Limits, Two, Res, ok, refused}
 use Rattle.spec.specs.Image.{Tables}
 use Rattle.spec.specs.Pool.{Interned, interned}
+use Rattle.spec.specs.System as system
 use Rattle.spec.specs.Round.{Turn, changes, choiceTerm}
 use Rattle.laws.specs.Valid.{Valid}
 use Rattle.laws.specs.BestMembers.{IsPair}
@@ -123,7 +124,7 @@ idle-given pairs k (a, b, c) =
 
 pub idle-moved : (lim : Limits) (t : Tables) (w : ℕ) (graph pairs : List ℕ) (p : Two) (k : ℕ) (terms runs : List ℕ) → numberIn w graph p ≡ k → turnIn t w graph pairs p ≡ unturned (qualityIn w graph pairs p) → Holds terms runs → Idle pairs k
     → Moved (turnIn t w graph pairs p) (termMade lim t w graph pairs (poolOf terms runs) p) k pairs pairs terms runs false
-unfolding choiceTerm
+unfolding system.choiceTerm
 idle-moved lim t w graph pairs p k terms runs n e h idle = record {
   made = interned (poolOf terms runs) (termIn w graph pairs p);
   is = ap (λ (u : Turn). choiceTerm lim t (termIn w graph pairs) (poolOf terms runs) (termIn w graph pairs p) (u .choice)) e;
