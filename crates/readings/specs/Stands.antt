@@ -13,7 +13,7 @@ use Rattle.laws.specs.Valid.{Valid}
 use Rattle.laws.specs.BestMembers.{IsPair}
 use Rattle.pools.specs.PoolSort.{action-enters}
 use Rattle.steps.specs.Bounds.{Low, over-low, turn-low, turn-small}
-use Rattle.steps.specs.Standing.{Keeps}
+use Rattle.steps.specs.Standing.{Standing, Keeps, Begins}
 use Rattle.lgg.specs.Moves.{pair-reads}
 use Rattle.readings.specs.Starting.{starting-made}
 
@@ -37,11 +37,15 @@ turn-fits t q p (l, s) h = (
   turn-small (pairs t) (pair-reads t .joined) over-low q p (2 ^ 32) s l (λ c i. h c i .0) .0,
 )
 
-pub pair-keeps : (lim : Limits) (t : Tables) → Valid t → Keeps (pairs t) (making lim t) (IsPair t) Fits
-pair-keeps lim t v = record {
-  start = λ pool c a h w e. let M = starting-made lim t v pool c a (h .0) (h .1) w e in record { valid = M .valid; grown = M .grown; within = M .within };
+pub pair-keeps : (lim : Limits) (t : Tables) → Keeps (pairs t) (making lim t) Fits
+pair-keeps lim t = record {
   action = λ pool o l a w b e. let E = action-enters lim t pool w o l a b e in record { valid = E .valid; grown = E .grown; within = E .within };
   inside = pair-reads t .joined;
-  fitsStart = starting-fits t v;
-  fitsTurn = turn-fits t;
+  fits = turn-fits t;
+}
+
+pub pair-begins : (lim : Limits) (t : Tables) → Valid t → Begins (pairs t) (making lim t) (IsPair t) Fits
+pair-begins lim t v = record {
+  start = λ pool c a h w e. let M = starting-made lim t v pool c a (h .0) (h .1) w e in record { valid = M .valid; grown = M .grown; within = M .within };
+  fits = starting-fits t v;
 }

@@ -46,13 +46,16 @@ pub record Grew (pool : Pool) (a : Interned) : Type 0 where
   pub grown : Extends pool (a .pool)
   pub within : a .term < length (a .pool)
 
--- The laws: starting terms and actions enter a term in the pool, of the nodes that a run meets (`Okay`); their qualities fit.
-pub record Keeps {N : Type 0} (S : System N) (M : Making N) (Okay : N → Type 0) (Fits : Two → Type 0) : Type 0 where
-  pub start : (pool : Pool) (c : N) (a : Interned) → Okay c → PoolValid pool → M .startingTerm pool c ≡ ok a → Grew pool a
+-- The laws of a round: an action enters a term in the pool, over places that the node joins, and its quality fits.
+pub record Keeps {N : Type 0} (S : System N) (M : Making N) (Fits : Two → Type 0) : Type 0 where
   pub action : (pool : Pool) (o : ℕ) (l : List Two) (a : Interned) → PoolValid pool → RunsBelow (length pool) l → M .actionTerm pool o l ≡ ok a → Grew pool a
   pub inside : Inside S
-  pub fitsStart : (c : N) → Okay c → Fits (S .startingQuality c)
-  pub fitsTurn : (q : N → Two) (p : N) → Fits (q p) → ((c : N) → In c (S .joins p) → Fits (q c)) → Fits (turnOf S q p .quality)
+  pub fits : (q : N → Two) (p : N) → Fits (q p) → ((c : N) → In c (S .joins p) → Fits (q c)) → Fits (turnOf S q p .quality)
+
+-- The laws of the starting terms, of nodes of some kind.
+pub record Begins {N : Type 0} (S : System N) (M : Making N) (Okay : N → Type 0) (Fits : Two → Type 0) : Type 0 where
+  pub start : (pool : Pool) (c : N) (a : Interned) → Okay c → PoolValid pool → M .startingTerm pool c ≡ ok a → Grew pool a
+  pub fits : (c : N) → Okay c → Fits (S .startingQuality c)
 
 -- ---- in the middle: k nodes have had their turn since the pool was `from`, and gave the terms `done`
 pub record Midway (from : Pool) (k : ℕ) (done : List ℕ) (pool : Pool) : Type 0 where
@@ -96,7 +99,7 @@ module _ (n : ℕ) (from : Pool) (whole : Res (Checked Terms)) (make : ℕ → P
       go (refused m) z ih = absurd (refused-ok (sym (stop k done (suc b) b pool m (omega arith) (omega arith) w z) ∙ e))
 
 -- ---- a round
-module _ {N : Type 0} (S : System N) (M : Making N) (Okay : N → Type 0) (Fits : Two → Type 0) (L : Keeps S M Okay Fits) where
+module _ {N : Type 0} (S : System N) (M : Making N) (Fits : Two → Type 0) (L : Keeps S M Fits) where
   pub choice-grows : (of : N → ℕ) (pool : Pool) (old : ℕ) (c : Choice N) (a : Interned) → PoolValid pool → old < length pool
       → ((b : Act N) → c ≡ act b → (y : N) → In y (b .places) → of y < length pool) → choiceTerm M of pool old c ≡ ok a → Grew pool a
   unfolding choiceTerm
@@ -128,7 +131,7 @@ module _ {N : Type 0} (S : System N) (M : Making N) (Okay : N → Type 0) (Fits 
     turn-fits k h =
         let p = getD ps k (S .other) in
         let i : In p ps = get-in (S .other) ps k h in
-        L .fitsTurn q p (look-fits S K p i) (λ c j. look-fits S K c (closed p c i j))
+        L .fits q p (look-fits S K p i) (λ c j. look-fits S K c (closed p c i j))
 
     -- every turn has passed
     standing-after : (done : List ℕ) (pool : Pool) (b : ℕ) → Midway (s .pool) (length ps) done pool → Standing Fits ps (stateAfter s (turnsAt S ps s) (record { pool = pool; terms = done }) b)
@@ -153,23 +156,23 @@ module _ {N : Type 0} (S : System N) (M : Making N) (Okay : N → Type 0) (Fits 
     pub standing-next : (b c : ℕ) (r : Terms) → roundAt S M ps s b ≡ ok (passed r c) → Standing Fits ps (stateAfter s (turnsAt S ps s) r c)
     standing-next b c r e = standing-after (r .terms) (r .pool) c (round-midway b c r e)
 
-  -- ---- starting terms
-  module _ (ps : List N) (okay : (c : N) → In c ps → Okay c) where
-    starts : (from : Pool) (k : ℕ) (done : List ℕ) (pool : Pool) (a : Interned) → k < length ps → Midway from k done pool → M .startingTerm pool (getD ps k (S .other)) ≡ ok a → Grew pool a
-    starts from k done pool a h W e = L .start pool (getD ps k (S .other)) a (okay (getD ps k (S .other)) (get-in (S .other) ps k h)) (W .valid) e
+-- ---- starting terms
+module _ {N : Type 0} (S : System N) (M : Making N) (Okay : N → Type 0) (Fits : Two → Type 0) (L : Begins S M Okay Fits) (ps : List N) (okay : (c : N) → In c ps → Okay c) where
+  starts : (from : Pool) (k : ℕ) (done : List ℕ) (pool : Pool) (a : Interned) → k < length ps → Midway from k done pool → M .startingTerm pool (getD ps k (S .other)) ≡ ok a → Grew pool a
+  starts from k done pool a h W e = L .start pool (getD ps k (S .other)) a (okay (getD ps k (S .other)) (get-in (S .other) ps k h)) (W .valid) e
 
-    pub starting-midway : (from : Pool) (k : ℕ) (done : List ℕ) (pool : Pool) (a : Interned) → k < length ps → Midway from k done pool → M .startingTerm pool (getD ps k (S .other)) ≡ ok a → Midway from (k + 1) (done ++ (a .term ∷ [])) (a .pool)
-    starting-midway from k done pool a h W e = midway-turn a W (starts from k done pool a h W e)
+  pub starting-midway : (from : Pool) (k : ℕ) (done : List ℕ) (pool : Pool) (a : Interned) → k < length ps → Midway from k done pool → M .startingTerm pool (getD ps k (S .other)) ≡ ok a → Midway from (k + 1) (done ++ (a .term ∷ [])) (a .pool)
+  starting-midway from k done pool a h W e = midway-turn a W (starts from k done pool a h W e)
 
-    -- every node has its starting term
-    pub standing-started : (from : Pool) (done : List ℕ) (pool : Pool) (b : ℕ) → Midway from (length ps) done pool → Standing Fits ps (startState S ps (record { pool = pool; terms = done }) b)
-    standing-started from done pool b W = record {
-      many = length-map (S .startingQuality) ps;
-      named = W .many;
-      valid = W .valid;
-      within = W .within;
-      fits = λ k h. rw (get-map (S .startingQuality) ps k (S .other) (0, 0) h) (L .fitsStart (getD ps k (S .other)) (okay (getD ps k (S .other)) (get-in (S .other) ps k h)));
-    }
+  -- every node has its starting term
+  pub standing-started : (from : Pool) (done : List ℕ) (pool : Pool) (b : ℕ) → Midway from (length ps) done pool → Standing Fits ps (startState S ps (record { pool = pool; terms = done }) b)
+  standing-started from done pool b W = record {
+    many = length-map (S .startingQuality) ps;
+    named = W .many;
+    valid = W .valid;
+    within = W .within;
+    fits = λ k h. rw (get-map (S .startingQuality) ps k (S .other) (0, 0) h) (L .fits (getD ps k (S .other)) (okay (getD ps k (S .other)) (get-in (S .other) ps k h)));
+  }
 
 -- ---- listings over a larger pool
 -- a round cut short leaves a larger pool, and the listing stays
