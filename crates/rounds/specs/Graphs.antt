@@ -6,19 +6,20 @@ use native.Mathlib.Omega.{arith}
 use lib.ListN.{length, getD}
 use Rattle.spec.specs.Bytes.{Limits, place, Two, sameTwo}
 use Rattle.spec.specs.Image.{Tables}
-use Rattle.spec.specs.Pairs.{pairs}
+use Rattle.spec.specs.Pairs as P
 use Rattle.spec.specs.Round.{lookUp, turnOf, choiceTerm}
 use Rattle.spec.specs.Run.{State}
 use Rattle.spec.specs.Pool.{Pool}
 use Rattle.spec.specs.Meaning.{In}
 use Rattle.laws.specs.Valid.{Valid}
 use Rattle.laws.specs.BestMembers.{IsPair}
-use Rattle.steps.specs.Graph.{Closed}
+use Rattle.lgg.specs.Pairs.{Closed, turnTerm}
+use Rattle.readings.specs.Stands.{Fits}
 use Rattle.laws.specs.Lists.{get-in, Distinct}
-use Rattle.steps.specs.Standing.{Standing, place-in, Midway}
+use Rattle.steps.specs.Standing.{Standing, Midway}
+use Rattle.steps.specs.Nodes.{place-in, place-at}
 use Rattle.pools.specs.PoolIntern.{extends-within}
-use Rattle.steps.specs.TurnsFrom.{turnTerm}
-use Rattle.lgg.specs.TurnRead.{turn-read, term-read, place-at}
+use Rattle.lgg.specs.TurnRead.{turn-read, term-read}
 use Rattle.lgg.specs.Cells.{CellsFit, cells-within}
 use Rattle.arrays.specs.Arrays.{unkey, pairsIn, numberIn, qualitiesIn, termsIn, qualityIn, termIn, Known, TermsBelow}
 use Rattle.arrays.specs.ArrayLaws.{quality-at, term-at, unkeyed-length, unkeyed-at}
@@ -42,7 +43,7 @@ pub record Graphs (lim : Limits) (t : Tables) (w : ℕ) (ps : List Two) (n : ℕ
   pub classes : w ≡ length (t .classes)
   pub below : (i : ℕ) → i < w * w → getD graph i 0 < n
   pub numbers : (p : Two) → In p ps → numberIn w graph p ≡ place (sameTwo p) ps
-  pub closed : Closed (pairs t) ps
+  pub closed : Closed t ps
   pub once : Distinct ps
   pub pairs : InRange t ps
 
@@ -66,7 +67,7 @@ module _ (lim : Limits) (t : Tables) (w : ℕ) (ps : List Two) (n : ℕ) (graph 
 
     -- pair k has number k
     pub number-here : numberIn w graph p ≡ k
-    number-here = G .numbers p among ∙ ap (λ (x : Two). place (sameTwo x) ps) is ∙ place-at ps k (G .once) (omega (arith, G .many))
+    number-here = G .numbers p among ∙ ap (λ (x : Two). place (sameTwo x) ps) is ∙ place-at (P.pairs t) ps k (G .once) (omega (arith, G .many))
 
   module _ (s : State) (pairs : List ℕ) (R : Reads s pairs n) where
     -- an entry of the state, in the arrays
@@ -84,10 +85,10 @@ module _ (lim : Limits) (t : Tables) (w : ℕ) (ps : List Two) (n : ℕ) (graph 
     pub agree-quality : (c : Two) → In c ps → qualityIn w graph pairs c ≡ lookUp (0, 0) ps (s .qualities) c
     agree-quality c i =
         ap (λ (k : ℕ). (getD pairs (6 * k) 0, getD pairs (6 * k + 1) 0)) (G .numbers c i)
-        ∙ quality-here (place (sameTwo c) ps) (omega (arith, place-in c ps i, G .many))
+        ∙ quality-here (place (sameTwo c) ps) (omega (arith, place-in (P.pairs t) c ps i, G .many))
 
     agree-term : (c : Two) → In c ps → termIn w graph pairs c ≡ lookUp 0 ps (s .terms) c
-    agree-term c i = ap (λ (k : ℕ). getD pairs (6 * k + 2) 0) (G .numbers c i) ∙ term-here (place (sameTwo c) ps) (omega (arith, place-in c ps i, G .many))
+    agree-term c i = ap (λ (k : ℕ). getD pairs (6 * k + 2) 0) (G .numbers c i) ∙ term-here (place (sameTwo c) ps) (omega (arith, place-in (P.pairs t) c ps i, G .many))
 
     -- pair k's turn
     pub turn-here : (k : ℕ) → k < n → turnOf t (qualityIn w graph pairs) (getD ps k (0, 0)) ≡ turnOf t (lookUp (0, 0) ps (s .qualities)) (getD ps k (0, 0))
@@ -97,7 +98,7 @@ module _ (lim : Limits) (t : Tables) (w : ℕ) (ps : List Two) (n : ℕ) (graph 
         → choiceTerm lim t (termIn w graph pairs) pool (termIn w graph pairs (getD ps k (0, 0))) (turnOf t (qualityIn w graph pairs) (getD ps k (0, 0)) .choice) ≡ turnTerm lim t (lookUp 0 ps (s .terms)) ps (s .qualities) k pool
     choice-here k pool h = term-read lim t ps (G .closed) (qualityIn w graph pairs) (s .qualities) (termIn w graph pairs) (s .terms) agree-quality agree-term k pool (omega (arith, G .many))
 
-    module _ (S : Standing t ps s) where
+    module _ (S : Standing Fits ps s) where
       pub known-here : Valid t → Known w graph pairs
       known-here v = record {
         few = omega (arith, G .classes, v .counts .fewClasses);
@@ -107,7 +108,7 @@ module _ (lim : Limits) (t : Tables) (w : ℕ) (ps : List Two) (n : ℕ) (graph 
       }
         where
           low : (k : ℕ) → k < n → getD pairs (6 * k + 1) 0 ≤ getD pairs (6 * k) 0
-          low k h = let e = quality-here k h in let z = S .low k (omega (arith, G .many)) in omega (arith, ap (λ (q : Two). q .0) e, ap (λ (q : Two). q .1) e)
+          low k h = let e = quality-here k h in let z = S .fits k (omega (arith, G .many)) .0 in omega (arith, ap (λ (q : Two). q .0) e, ap (λ (q : Two). q .1) e)
 
       pub terms-here : (from : Pool) (j : ℕ) (done : List ℕ) (terms runs : List ℕ) → from ≡ s .pool → Midway from j done (poolOf terms runs) → TermsBelow w graph pairs (countIn terms)
       terms-here from j done terms runs e M i h = within (getD graph i 0) (G .below i h)

@@ -12,6 +12,7 @@ use Rattle.spec.specs.Round.{Terms}
 use Rattle.spec.specs.Run.{State}
 use Rattle.laws.specs.Firsts.{first-within, first-skips}
 use Rattle.steps.specs.Standing.{Standing}
+use Rattle.readings.specs.Stands.{Fits}
 use Rattle.live_pairs.specs.Live.{liveIn, nextLive, dueOf}
 use Rattle.live_pairs.specs.LiveLaws.{due-idle, due-live}
 use Rattle.settling.specs.Quiet.{Quiet}
@@ -34,7 +35,7 @@ either-false : (c : Bool) → c ≡ either c false
 either-false true = refl
 either-false false = refl
 
-module _ (lim : Limits) (t : Tables) (ps : List Two) (s : State) (whole : Res (Checked Terms)) (pairs terms runs : List ℕ) (changed : Bool) (w : ℕ) (graph : List ℕ) (G : Graphs lim t w ps (length ps) graph) (S : Standing t ps s) (llive rlive : List ℕ) (Q : Quiet t ps (s .qualities) llive rlive) where
+module _ (lim : Limits) (t : Tables) (ps : List Two) (s : State) (whole : Res (Checked Terms)) (pairs terms runs : List ℕ) (changed : Bool) (w : ℕ) (graph : List ℕ) (G : Graphs lim t w ps (length ps) graph) (S : Standing Fits ps s) (llive rlive : List ℕ) (Q : Quiet t ps (s .qualities) llive rlive) where
   -- pair k is not live
   pass-one : (k b c : ℕ) → k < length ps → b ≡ c + 1 → Idles ps pairs llive rlive k → liveIn llive rlive (getD ps k (0, 0)) ≡ false → Turning lim t ps s whole pairs terms runs k b changed → Turning lim t ps s whole pairs terms runs (k + 1) c changed
   pass-one k b c h e I q X =

@@ -9,15 +9,16 @@ use lib.ListN.{length, getD}
 use Rattle.spec.specs.Bytes.{Limits, any, Two, Res, ok, refused, passed}
 use Rattle.spec.specs.Image.{Tables}
 use Rattle.spec.specs.Pool.{Pool}
-use Rattle.spec.specs.Pairs.{pairs}
+use Rattle.spec.specs.Pairs as P
 use Rattle.spec.specs.Round.{changes, turnsOf, Terms}
 use Rattle.spec.specs.Run as run
-use Rattle.spec.specs.Run.{State, outcome}
+use Rattle.spec.specs.Run.{State, outcome, stateAfter}
 use Rattle.spec.specs.Listing.{listingOf}
 use Rattle.laws.specs.Valid.{Valid}
 use Rattle.pools.specs.PoolIntern.{Extends, extends-refl, extends-within}
-use Rattle.steps.specs.Graph.{Closed}
-use Rattle.steps.specs.RoundsFrom.{turnsAt, roundAt, stateAfter, roundsOf, rounds-expired, rounds-refused, rounds-cut, rounds-quiet, rounds-next, round-left as rounds-left}
+use Rattle.lgg.specs.Pairs.{Closed, turnsAt, roundAt, roundsOf}
+use Rattle.readings.specs.Stands.{Fits, pair-keeps}
+use Rattle.steps.specs.RoundsFrom.{rounds-expired, rounds-refused, rounds-cut, rounds-quiet, rounds-next, round-left as rounds-left}
 use Rattle.steps.specs.Standing.{Standing, standing-next, listing-cut}
 use Rattle.arrays.specs.Arrays.{NEW, pairsIn, qualitiesIn, termsIn}
 use Rattle.arrays.specs.ArrayLaws.{quality-at, term-at}
@@ -43,14 +44,14 @@ use Rattle.round_outcome.specs.declared.Round.the-variants as U
 -- between two rounds over n pairs: b checks are left, and the rounds come to m
 pub record Running (lim : Limits) (t : Tables) (ps : List Two) (n : ℕ) (m : Res run.Outcome) (pairs terms runs : List ℕ) (rounds b : ℕ) : Type 0 where
   pub rest : m ≡ roundsOf lim t ps (stateIn pairs terms runs n rounds b)
-  pub standing : Standing t ps (stateIn pairs terms runs n rounds b)
+  pub standing : Standing Fits ps (stateIn pairs terms runs n rounds b)
   pub long : 6 * n ≤ length pairs
   pub holds : Holds terms runs
   pub within : countIn terms ≤ lim .terms
 
 -- what stands does not depend on what is counted
-pub standing-any : (t : Tables) (ps : List Two) (pairs terms runs : List ℕ) (n r b c d : ℕ) → Standing t ps (stateIn pairs terms runs n r b) → Standing t ps (stateIn pairs terms runs n c d)
-standing-any t ps pairs terms runs n r b c d S = record { many = S .many; named = S .named; valid = S .valid; within = S .within; low = S .low; small = S .small }
+pub standing-any : (ps : List Two) (pairs terms runs : List ℕ) (n r b c d : ℕ) → Standing Fits ps (stateIn pairs terms runs n r b) → Standing Fits ps (stateIn pairs terms runs n c d)
+standing-any ps pairs terms runs n r b c d S = record { many = S .many; named = S .named; valid = S .valid; within = S .within; fits = S .fits }
 
 module _ (lim : Limits) (t : Tables) (ps : List Two) (n : ℕ) (many : length ps ≡ n) (some : 0 < n) (marks : List ℕ) (room : 2 * lim .terms ≤ length marks) (m : Res run.Outcome) (pairs terms runs : List ℕ) (rounds b : ℕ) (X : Running lim t ps n m pairs terms runs rounds b) where
   abbrev Here : State
@@ -65,12 +66,12 @@ module _ (lim : Limits) (t : Tables) (ps : List Two) (n : ℕ) (many : length ps
 
   -- the first pair's numbers, where the arrays still read the state
   report : (pairs′ : List ℕ) → Reads Read pairs′ (length ps) → (complete : Bool) (pool : Pool)
-      → _≡_ {A = run.Outcome} (record { complete = complete; pairs = length ps; rounds = rounds; quality = getD (Here .qualities) 0 (0, 0); pool = pool; root = getD (Here .terms) 0 0 })
-      (record { complete = complete; pairs = n; rounds = rounds; quality = (getD pairs′ 0 0, getD pairs′ 1 0); pool = pool; root = getD pairs′ 2 0 })
+      → _≡_ {A = run.Outcome} (record { complete = complete; nodes = length ps; rounds = rounds; quality = getD (Here .qualities) 0 (0, 0); pool = pool; root = getD (Here .terms) 0 0 })
+      (record { complete = complete; nodes = n; rounds = rounds; quality = (getD pairs′ 0 0, getD pairs′ 1 0); pool = pool; root = getD pairs′ 2 0 })
   report pairs′ R complete pool =
       let q : getD (Here .qualities) 0 (0, 0) ≡ (getD pairs′ 0 0, getD pairs′ 1 0) = ap (λ (l : List Two). getD l 0 (0, 0)) (sym (R .qualities)) ∙ quality-at pairs′ 0 (length ps) 0 has-some in
       let r : getD (Here .terms) 0 0 ≡ getD pairs′ 2 0 = ap (λ (l : List ℕ). getD l 0 0) (sym (R .terms)) ∙ term-at pairs′ 0 (length ps) 0 has-some in
-      λ i. record { complete = complete; pairs = many i; rounds = rounds; quality = q i; pool = pool; root = r i }
+      λ i. record { complete = complete; nodes = many i; rounds = rounds; quality = q i; pool = pool; root = r i }
 
   -- the run ends with the state, in a pool that may have grown
   ends : (complete : Bool) (pairs′ terms′ runs′ : List ℕ) → m ≡ ok (outcome complete ps Here) → Reads Read pairs′ (length ps) → Holds terms′ runs′ → Extends (poolOf terms runs) (poolOf terms′ runs′) → countIn terms′ ≤ lim .terms
@@ -80,7 +81,7 @@ module _ (lim : Limits) (t : Tables) (ps : List Two) (n : ℕ) (many : length ps
       let root : getD (Here .terms) 0 0 ≡ getD pairs′ 2 0 = ap (λ (o : run.Outcome). o .root) same in (
         outcome complete ps Here,
         e,
-        listing-cut t ps Here complete (poolOf terms′ runs′) (X .standing) has-some (H .valid) g ∙ ap listingOf same,
+        listing-cut ps Here complete (poolOf terms′ runs′) (X .standing) has-some (H .valid) g ∙ ap listingOf same,
         H,
         omega (arith, root, extends-within g (getD (Here .terms) 0 0) (X .standing .within 0 has-some), pool-length terms′ runs′),
         omega arith,
@@ -88,14 +89,14 @@ module _ (lim : Limits) (t : Tables) (ps : List Two) (n : ℕ) (many : length ps
 
   expires : b ≡ 0 → RanTo m marks terms runs (R.Done (reportedIn pairs false n rounds))
   expires e =
-      ends false pairs terms runs (X .rest ∙ rounds-expired lim t ps Here e) (rw many (record { long = X .long; qualities = refl; terms = refl })) (X .holds) (extends-refl (poolOf terms runs)) (X .within)
+      ends false pairs terms runs (X .rest ∙ rounds-expired (P.pairs t) (P.making lim t) ps Here e) (rw many (record { long = X .long; qualities = refl; terms = refl })) (X .holds) (extends-refl (poolOf terms runs)) (X .within)
 
   module _ (c : ℕ) (left : b ≡ c + 1) where
     run-refused : (terms′ runs′ : List ℕ) → roundAt lim t ps Read c ≡ refused 13 → RanTo m marks terms′ runs′ (R.Stopped 13)
-    run-refused terms′ runs′ e = X .rest ∙ rounds-refused lim t ps Here c left 13 e
+    run-refused terms′ runs′ e = X .rest ∙ rounds-refused (P.pairs t) (P.making lim t) ps Here c left 13 e
 
     run-cut : (pairs′ terms′ runs′ : List ℕ) → Stays lim ps Read (roundAt lim t ps Read c) pairs′ terms′ runs′ → RanTo m marks terms′ runs′ (R.Done (reportedIn pairs′ false n rounds))
-    run-cut pairs′ terms′ runs′ S = ends false pairs′ terms′ runs′ (X .rest ∙ rounds-cut lim t ps Here c left (S .is)) (S .reads) (S .holds) (S .grown) (S .within)
+    run-cut pairs′ terms′ runs′ S = ends false pairs′ terms′ runs′ (X .rest ∙ rounds-cut (P.pairs t) (P.making lim t) ps Here c left (S .is)) (S .reads) (S .holds) (S .grown) (S .within)
 
     module _ (pairs′ terms′ runs′ : List ℕ) (d : ℕ) (changed : Bool) (T : Turning lim t ps Read (roundAt lim t ps Read c) pairs′ terms′ runs′ (length ps) d changed) where
       abbrev Made : Terms
@@ -108,11 +109,11 @@ module _ (lim : Limits) (t : Tables) (ps : List Two) (n : ℕ) (many : length ps
       told = turns-changed lim t ps Read (roundAt lim t ps Read c) pairs′ terms′ runs′ d changed T
 
       run-quiet : changed ≡ false → RanTo m marks terms′ runs′ (R.Done (reportedIn pairs′ true n rounds))
-      run-quiet q = ends true pairs′ terms′ runs′ (X .rest ∙ rounds-quiet lim t ps Here c left Made d done (sym told ∙ q)) (T .reads) (T .holds) (T .midway .grown) (T .within)
+      run-quiet q = ends true pairs′ terms′ runs′ (X .rest ∙ rounds-quiet (P.pairs t) (P.making lim t) ps Here c left Made d done (sym told ∙ q)) (T .reads) (T .holds) (T .midway .grown) (T .within)
 
       -- the checks of the round
       run-left : c ≡ length ps + d
-      run-left = rounds-left lim t ps c d Here Made done
+      run-left = rounds-left (P.pairs t) (P.making lim t) ps c d Here Made done
 
       -- what the round gave
       gave : qualitiesIn pairs′ NEW n ≡ map (λ w. w .quality) (turnsAt t ps Here)
@@ -121,7 +122,7 @@ module _ (lim : Limits) (t : Tables) (ps : List Two) (n : ℕ) (many : length ps
       long′ : 6 * n ≤ length pairs′
       long′ = omega (arith, T .reads .long, many)
 
-      run-next : Closed (pairs t) ps → changed ≡ true → (pairs″ : List ℕ) → pairs″ ≡ settled pairs′ n → Running lim t ps n m pairs″ terms′ runs′ (rounds + 1) d
+      run-next : Closed t ps → changed ≡ true → (pairs″ : List ℕ) → pairs″ ≡ settled pairs′ n → Running lim t ps n m pairs″ terms′ runs′ (rounds + 1) d
       run-next closed q pairs″ p =
           let qs : qualitiesIn pairs″ 0 n ≡ map (λ w. w .quality) (turnsAt t ps Here) = ap (λ (l : List ℕ). qualitiesIn l 0 n) p ∙ settled-qualities pairs′ n long′ ∙ gave in
           let ts : termsIn pairs″ 0 n ≡ termsIn pairs′ NEW (length ps) = ap (λ (l : List ℕ). termsIn l 0 n) p ∙ settled-terms pairs′ n long′ ∙ ap (λ (i : ℕ). termsIn pairs′ NEW i) (sym many) in
@@ -129,8 +130,8 @@ module _ (lim : Limits) (t : Tables) (ps : List Two) (n : ℕ) (many : length ps
           let next : stateAfter Here (turnsAt t ps Here) Made d ≡ stateIn pairs″ terms′ runs′ n (rounds + 1) d =
           λ i. record { pool = poolOf terms′ runs′; qualities = sym qs i; terms = sym ts i; rounds = sym one i; budget = d } in
           record {
-            rest = X .rest ∙ rounds-next lim t ps Here c left Made d done (sym told ∙ q) ∙ ap (roundsOf lim t ps) next;
-            standing = rw (← next) (standing-next lim t ps Here (X .standing) closed c d Made done);
+            rest = X .rest ∙ rounds-next (P.pairs t) (P.making lim t) ps Here c left Made d done (sym told ∙ q) ∙ ap (roundsOf lim t ps) next;
+            standing = rw (← next) (standing-next (P.pairs t) (P.making lim t) Fits (pair-keeps lim t) ps Here (X .standing) closed c d Made done);
             long = omega (arith, ap length p, settled-length pairs′ n, long′);
             holds = T .holds;
             within = T .within;
@@ -157,11 +158,11 @@ module _ (lim : Limits) (t : Tables) (ps : List Two) (n : ℕ) (many : length ps
       pub round-left : c ≡ n + d .left
       round-left = omega (arith, run-left c left pairs′ terms′ runs′ (d .left) changed turned)
 
-      pub round-next : Closed (pairs t) ps → changed ≡ true → (pairs″ : List ℕ) → pairs″ ≡ settled pairs′ n → Running lim t ps n m pairs″ terms′ runs′ (rounds + 1) (d .left)
+      pub round-next : Closed t ps → changed ≡ true → (pairs″ : List ℕ) → pairs″ ≡ settled pairs′ n → Running lim t ps n m pairs″ terms′ runs′ (rounds + 1) (d .left)
       round-next = run-next c left pairs′ terms′ runs′ (d .left) changed turned
 
 -- the classes that are live in the round after a finished one
-pub round-quiets : (lim : Limits) (t : Tables) → Valid t → (w : ℕ) (graph : List ℕ) (n : ℕ) → InRange t (pairsIn w graph n) → Closed (pairs t) (pairsIn w graph n) → length (pairsIn w graph n) ≡ n
+pub round-quiets : (lim : Limits) (t : Tables) → Valid t → (w : ℕ) (graph : List ℕ) (n : ℕ) → InRange t (pairsIn w graph n) → Closed t (pairsIn w graph n) → length (pairsIn w graph n) ≡ n
     → (pairs terms runs : List ℕ) (c : ℕ) (pairs′ terms′ runs′ : List ℕ) (x : Round) → Relaxes lim t (pairsIn w graph n) (stateIn pairs terms runs n 0 0) (roundAt lim t (pairsIn w graph n) (stateIn pairs terms runs n 0 0) c) pairs′ terms′ runs′ x
     → (changed : Bool) (d : Budget) → x ≡ U.Finished changed d → (ll rl pairs″ ll′ rl′ : List ℕ) → Ends t w graph n pairs′ ll rl pairs″ ll′ rl′ → Quiet t (pairsIn w graph n) (qualitiesIn pairs″ 0 n) ll′ rl′
 round-quiets lim t v w graph n i closed many pairs terms runs c pairs′ terms′ runs′ x Y changed d e ll rl pairs″ ll′ rl′ Z =

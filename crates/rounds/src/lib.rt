@@ -14,8 +14,9 @@ ghost use Rattle.spec.specs.Image.{tablesOf};
 ghost use Rattle.laws.specs.Valid.{Valid};
 ghost use Rattle.image.specs.Loaded.{Loaded};
 ghost use Rattle.spec.specs.Bytes as bytes;
-ghost use Rattle.steps.specs.RoundsFrom.{roundAt, roundsOf};
+ghost use Rattle.lgg.specs.Pairs.{roundAt, roundsOf};
 ghost use Rattle.steps.specs.Standing.{Standing};
+ghost use Rattle.readings.specs.Stands.{Fits};
 ghost use Rattle.query.specs.Settings.{limitsOf};
 ghost use Rattle.arrays.specs.Arrays.{pairsIn, qualitiesIn, Scratch};
 ghost use Rattle.terms.specs.Buffers.{countIn};
@@ -54,7 +55,7 @@ fn relax_all(
     runs: &mut [u64],
     b: Budget,
 ) -> Round
-    requires { ⌜ Loaded (now s) im × Valid (tablesOf (now s)) × Graphs (limitsOf lim) (tablesOf (now s)) (im .classes) (pairsIn (im .classes) (now graph) n) n (now graph) × (6 * n ≤ length (now pairs)) × Scratch (limitsOf lim) (now work) (now flow) × Holds (now terms) (now runs) × Rooms (limitsOf lim) (now terms) (now runs) × (countIn (now terms) ≤ lim .terms) × Standing (tablesOf (now s)) (pairsIn (im .classes) (now graph) n) (stateIn (now pairs) (now terms) (now runs) n 0 0)
+    requires { ⌜ Loaded (now s) im × Valid (tablesOf (now s)) × Graphs (limitsOf lim) (tablesOf (now s)) (im .classes) (pairsIn (im .classes) (now graph) n) n (now graph) × (6 * n ≤ length (now pairs)) × Scratch (limitsOf lim) (now work) (now flow) × Holds (now terms) (now runs) × Rooms (limitsOf lim) (now terms) (now runs) × (countIn (now terms) ≤ lim .terms) × Standing Fits (pairsIn (im .classes) (now graph) n) (stateIn (now pairs) (now terms) (now runs) n 0 0)
         × Quiet (tablesOf (now s)) (pairsIn (im .classes) (now graph) n) (qualitiesIn (now pairs) 0 n) (now llive) (now rlive)
         × Idles (pairsIn (im .classes) (now graph) n) (now pairs) (now llive) (now rlive) 0 ⌝ }
     ensures { λ x. ⌜ Relaxes (limitsOf lim) (tablesOf (now (s .entry))) (pairsIn (im .classes) (now (graph .entry)) n) (stateIn (now (pairs .entry)) (now (terms .entry)) (now (runs .entry)) n 0 0) (roundAt (limitsOf lim) (tablesOf (now (s .entry))) (pairsIn (im .classes) (now (graph .entry)) n) (stateIn (now (pairs .entry)) (now (terms .entry)) (now (runs .entry)) n 0 0) (b .left)) (now (pairs .exit)) (now (terms .exit)) (now (runs .exit)) x ⌝ }
@@ -105,7 +106,7 @@ fn relax(
     runs: &mut [u64],
     b: Budget,
 ) -> Ran
-    requires { ⌜ Loaded (now s) im × Valid (tablesOf (now s)) × Graphs (limitsOf lim) (tablesOf (now s)) (im .classes) (pairsIn (im .classes) (now graph) n) n (now graph) × (6 * lim .pairs ≤ length (now pairs)) × (2 * lim .terms ≤ length (now graph)) × Scratch (limitsOf lim) (now work) (now flow) × Holds (now terms) (now runs) × Rooms (limitsOf lim) (now terms) (now runs) × (countIn (now terms) ≤ lim .terms) × Standing (tablesOf (now s)) (pairsIn (im .classes) (now graph) n) (stateIn (now pairs) (now terms) (now runs) n 0 (b .left)) ⌝ }
+    requires { ⌜ Loaded (now s) im × Valid (tablesOf (now s)) × Graphs (limitsOf lim) (tablesOf (now s)) (im .classes) (pairsIn (im .classes) (now graph) n) n (now graph) × (6 * lim .pairs ≤ length (now pairs)) × (2 * lim .terms ≤ length (now graph)) × Scratch (limitsOf lim) (now work) (now flow) × Holds (now terms) (now runs) × Rooms (limitsOf lim) (now terms) (now runs) × (countIn (now terms) ≤ lim .terms) × Standing Fits (pairsIn (im .classes) (now graph) n) (stateIn (now pairs) (now terms) (now runs) n 0 (b .left)) ⌝ }
     ensures { λ x. ⌜ RanTo (roundsOf (limitsOf lim) (tablesOf (now (s .entry))) (pairsIn (im .classes) (now (graph .entry)) n) (stateIn (now (pairs .entry)) (now (terms .entry)) (now (runs .entry)) n 0 (b .left))) (now (graph .entry)) (now (terms .exit)) (now (runs .exit)) x ⌝ }
 {
     let mut llive = [1u8; 256];
@@ -162,7 +163,7 @@ pub fn run_rounds(
     out: &mut [u8],
     b: Budget,
 ) -> Answer
-    requires { ⌜ Loaded (now s) im × Valid (tablesOf (now s)) × Graphs (limitsOf lim) (tablesOf (now s)) (im .classes) (pairsIn (im .classes) (now graph) n) n (now graph) × (6 * lim .pairs ≤ length (now pairs)) × (2 * lim .terms ≤ length (now graph)) × Scratch (limitsOf lim) (now work) (now flow) × Holds (now terms) (now runs) × Rooms (limitsOf lim) (now terms) (now runs) × (countIn (now terms) ≤ lim .terms) × Standing (tablesOf (now s)) (pairsIn (im .classes) (now graph) n) (stateIn (now pairs) (now terms) (now runs) n 0 (b .left)) ⌝ }
+    requires { ⌜ Loaded (now s) im × Valid (tablesOf (now s)) × Graphs (limitsOf lim) (tablesOf (now s)) (im .classes) (pairsIn (im .classes) (now graph) n) n (now graph) × (6 * lim .pairs ≤ length (now pairs)) × (2 * lim .terms ≤ length (now graph)) × Scratch (limitsOf lim) (now work) (now flow) × Holds (now terms) (now runs) × Rooms (limitsOf lim) (now terms) (now runs) × (countIn (now terms) ≤ lim .terms) × Standing Fits (pairsIn (im .classes) (now graph) n) (stateIn (now pairs) (now terms) (now runs) n 0 (b .left)) ⌝ }
     ensures { λ r. ⌜ Answers (roundsOf (limitsOf lim) (tablesOf (now (s .entry))) (pairsIn (im .classes) (now (graph .entry)) n) (stateIn (now (pairs .entry)) (now (terms .entry)) (now (runs .entry)) n 0 (b .left))) (now (out .entry)) (now (out .exit)) r
         × Cleared (now (graph .entry)) (now (pairs .entry)) (now (work .entry)) (now (flow .entry)) (now (terms .entry)) (now (runs .entry)) (now (graph .exit)) (now (pairs .exit)) (now (work .exit)) (now (flow .exit)) (now (terms .exit)) (now (runs .exit)) ⌝ }
 {

@@ -1,7 +1,7 @@
 use lib.ListN.{replicate}
 use Rattle.spec.specs.Image.{tablesOf}
 use Rattle.query.specs.Settings.{limitsOf}
-use Rattle.steps.specs.RoundsFrom.{roundsOf}
+use Rattle.lgg.specs.Pairs.{roundsOf}
 use Rattle.arrays.specs.Arrays.{pairsIn, qualitiesIn}
 use Rattle.settling.specs.Quiet.{Quiet, quiet-first}
 use Rattle.rounds.specs.Graphs.{stateIn}

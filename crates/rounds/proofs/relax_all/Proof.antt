@@ -1,7 +1,7 @@
 use Rattle.spec.specs.Image.{tablesOf}
 use Rattle.query.specs.Settings.{limitsOf}
 use Rattle.image.specs.Loaded.{classes-many}
-use Rattle.steps.specs.RoundsFrom.{roundAt}
+use Rattle.lgg.specs.Pairs.{roundAt}
 use Rattle.arrays.specs.Arrays.{pairsIn}
 use Rattle.arrays.specs.ArrayLaws.{unkeyed-length}
 use Rattle.terms.specs.PoolLaws.{rooms-same}

@@ -2,7 +2,7 @@ use native.Mathlib.Omega.{arith}
 use mathlib.Core.Path.{refl}
 use Rattle.spec.specs.Image.{tablesOf}
 use Rattle.query.specs.Settings.{limitsOf}
-use Rattle.steps.specs.RoundsFrom.{roundsOf}
+use Rattle.lgg.specs.Pairs.{roundsOf}
 use Rattle.arrays.specs.Arrays.{pairsIn}
 use Rattle.work_clearing.specs.Cleared.{cleared-same}
 use Rattle.outcome.specs.Outcomes.{ran-listable, ran-answers}
