@@ -10,7 +10,10 @@ use Rattle.spec.specs.Bytes.{pick, Two, ok}
 use Rattle.spec.specs.Image.{Tables, tablesOf}
 use Rattle.spec.specs.Transport.{Problem, solveCells}
 use Rattle.spec.specs.Action.{Action, TransportAction, structural, transports, cellPairs}
-use Rattle.spec.specs.Round.{better, lookUp, problemOver, Act, ofAction, ofPlan, worth, stay, act, Turn, offer, offerActions, offerPlan, offerTransports, turnOf, turnsOf, qualitiesAfter}
+use Rattle.spec.specs.System as system
+use Rattle.spec.specs.System.{worth}
+use Rattle.spec.specs.Pairs.{pairs, qualityOver}
+use Rattle.spec.specs.Round.{lookUp, problemOver, ofAction, ofPlan, stay, act, Turn, turnOf, turnsOf, qualitiesAfter}
 use Rattle.spec.specs.Run.{documentLimits, Outcome, runOf}
 use Rattle.spec.specs.Listing.{firstLine, listingOf}
 use Rattle.spec.specs.Meaning.{In, here, there, Plan, _⊑_, termQuality, readFirst, readSecond, treeAt, Belongs}
@@ -18,6 +21,9 @@ use Rattle.laws.specs.Valid.{Valid}
 use Rattle.laws.specs.Accepted as A
 use Rattle.flow.specs.Theorems.{margins, least, totals}
 use Rattle.pools.specs.Pool.{PoolValid}
+use Rattle.steps.specs.Turn as turn
+use Rattle.steps.specs.Turn.{Chosen, turn-says}
+use Rattle.lgg.specs.Moves.{each-offer}
 use Rattle.readings.specs.Readings as L
 use Rattle.contract.specs.declared.Answer.the-variants.{Listing}
 use Rattle.contract.specs.Merges.{Merges}
@@ -68,8 +74,8 @@ module _ (image : List ℕ) (left right budget : ℕ) (fit : Bool) (out out′ :
 -- What the turn w of pair p chose, over the qualities q of the round before: its term stays; or a structural action, each joined pair once; or a transport action with a plan x.
 pub data Chose (t : Tables) (q : Two → Two) (p : Two) (w : Turn) : Type 0 where
   stayed : w .choice ≡ stay → w .quality ≡ q p → Chose t q p w
-  aligned : (a : Action) → In a (structural t (p .0) (p .1)) → w .choice ≡ act (ofAction a) → w .quality ≡ worth q (ofAction a) → Chose t q p w
-  planned : (a : TransportAction) → In a (transports t (p .0) (p .1)) → (x : List ℕ) → w .choice ≡ act (ofPlan a x) → w .quality ≡ worth q (ofPlan a x)
+  aligned : (a : Action) → In a (structural t (p .0) (p .1)) → w .choice ≡ act (ofAction a) → w .quality ≡ worth (pairs t) q (ofAction a) → Chose t q p w
+  planned : (a : TransportAction) → In a (transports t (p .0) (p .1)) → (x : List ℕ) → w .choice ≡ act (ofPlan a x) → w .quality ≡ worth (pairs t) q (ofPlan a x)
       -- "Each transport plan meets its margins"
       → Plan (problemOver a (map q (cellPairs (a .sides)))) x
       -- ".. at the least size, then mass, of all whole-number plans"
@@ -77,37 +83,19 @@ pub data Chose (t : Tables) (q : Two → Two) (p : Two) (w : Turn) : Type 0 wher
       → Chose t q p w
 
 module _ (t : Tables) (q : Two → Two) (p : Two) where
-  offer-chose : (a : Act) (w : Turn) → Chose t q p (record { quality = worth q a; choice = act a }) → Chose t q p w → Chose t q p (offer q a w)
-  offer-chose a w L W = go (better (worth q a) (w .quality))
-    where
-      go : (b : Bool) → Chose t q p (pick b (record { quality = worth q a; choice = act a }) w)
-      go true = L
-      go false = W
-
-  actions-chose : (l : List Action) → ((a : Action) → In a l → In a (structural t (p .0) (p .1))) → (w : Turn) → Chose t q p w → Chose t q p (offerActions q l w)
-  unfolding offerActions
-  actions-chose [] h w W = W
-  actions-chose (a ∷ l) h w W = actions-chose l (λ b i. h b (there i)) _ (offer-chose (ofAction a) w (aligned a (h a here) refl refl) W)
-
-  transports-chose : (l : List TransportAction) → ((a : TransportAction) → In a l → In a (transports t (p .0) (p .1))) → (w : Turn) → Chose t q p w → Chose t q p (offerTransports q l w)
-  unfolding offerTransports offerPlan
-  transports-chose [] h w W = W
-  transports-chose (a ∷ l) h w W = transports-chose l (λ b i. h b (there i)) _ (go (solveCells P) refl)
-    where
-      P : Problem
-      P = problemOver a (map q (cellPairs (a .sides)))
-
-      go : (s : Option (List ℕ)) → solveCells P ≡ s → Chose t q p (offerPlan q a s w)
-      go none e = W
-      go (some x) e = offer-chose (ofPlan a x) w (planned a (h a here) x refl refl (margins P x e) (λ y Y. least P x e y Y)) W
-
   -- "Each transport plan meets its margins at the least size, then mass, of all whole-number plans": the plan that a turn chooses, if it chooses one.
   -- The turns of round r, over the graph's pairs ps, are `turnsOf t ps (qualitiesAfter r t ps)`: `turnOf` of each pair with q = `lookUp (0, 0) ps (qualitiesAfter r t ps)`.
   pub turn-plans : Chose t q p (turnOf t q p)
-  unfolding turnOf
-  turn-plans =
-      transports-chose (transports t (p .0) (p .1)) (λ a i. i) _
-      (actions-chose (structural t (p .0) (p .1)) (λ a i. i) _ (stayed refl refl))
+  turn-plans = go (turn-says (pairs t) q p)
+    where
+      w : Turn
+      w = turnOf t q p
+
+      go : Chosen (pairs t) q p w → Chose t q p w
+      go (turn.stayed c k) = stayed c k
+      go (turn.acted a i c k) =
+          each-offer (λ a. w .choice ≡ act a → w .quality ≡ qualityOver (a .counts) (map q (a .places)) → Chose t q p w) t q p (λ b j c k. aligned b j c k)
+          (λ b j x e c k. planned b j x c k (margins _ x e) (λ y Y. least _ x e y Y)) a i c k
 
 -- So each turn of round r, over any pairs ps. In a run (`roundsFrom`, spec/Run) ps are the pairs of its graph.
 each-in-map : {X Y : Type 0} (f : X → Y) (l : List X) (y : Y) → In y (map f l) → (x : X) × In x l × (y ≡ f x)
@@ -115,7 +103,7 @@ each-in-map f (x ∷ l) y here = (x, here, refl)
 each-in-map f (x ∷ l) y (there i) = let (z, j, e) = each-in-map f l y i in (z, there j, e)
 
 pub round-plans : (t : Tables) (ps : List Two) (r : ℕ) (w : Turn) → In w (turnsOf t ps (qualitiesAfter r t ps)) → (p : Two) × In p ps × Chose t (lookUp (0, 0) ps (qualitiesAfter r t ps)) p w
-unfolding turnsOf
+unfolding system.turnsOf
 round-plans t ps r w i =
     let (p, j, e) = each-in-map (turnOf t (lookUp (0, 0) ps (qualitiesAfter r t ps))) ps w i in
     (p, j, subst (λ (z : Turn). Chose t (lookUp (0, 0) ps (qualitiesAfter r t ps)) p z) (sym e) (turn-plans t (lookUp (0, 0) ps (qualitiesAfter r t ps)) p))

@@ -27,7 +27,7 @@ status-tells false true e = absurd (omega (arith, heads e .0))
 fields : Outcome → List (List ℕ)
 fields o =
     text (pick (o .complete) "complete" "partial")
-    ∷ text "pairs" ∷ decimal (o .pairs)
+    ∷ text "pairs" ∷ decimal (o .nodes)
     ∷ text "rounds" ∷ decimal (o .rounds)
     ∷ text "size" ∷ decimal (o .quality .0)
     ∷ text "mass" ∷ decimal (o .quality .1) ∷ []
@@ -36,12 +36,12 @@ fields-solid : (o : Outcome) → Solids (fields o)
 unfolding fields Solids text all
 fields-solid o = (
   status-solid (o .complete),
-  (solid-of (text "pairs") refl, (decimal-solid (o .pairs), (solid-of (text "rounds") refl, (decimal-solid (o .rounds), (solid-of (text "size") refl, (decimal-solid (o .quality .0), (solid-of (text "mass") refl, (decimal-solid (o .quality .1), tt)))))))),
+  (solid-of (text "pairs") refl, (decimal-solid (o .nodes), (solid-of (text "rounds") refl, (decimal-solid (o .rounds), (solid-of (text "size") refl, (decimal-solid (o .quality .0), (solid-of (text "mass") refl, (decimal-solid (o .quality .1), tt)))))))),
 )
 
 -- what a first line says
 abbrev pub SameReport : Outcome → Outcome → Type 0
-SameReport o u = (o .complete ≡ u .complete) × (o .pairs ≡ u .pairs) × (o .rounds ≡ u .rounds) × (o .quality .0 ≡ u .quality .0) × (o .quality .1 ≡ u .quality .1)
+SameReport o u = (o .complete ≡ u .complete) × (o .nodes ≡ u .nodes) × (o .rounds ≡ u .rounds) × (o .quality .0 ≡ u .quality .0) × (o .quality .1 ≡ u .quality .1)
 
 -- whatever stands behind it
 pub first-line-cut : (o u : Outcome) (l m : List ℕ) → firstLine o ++ l ≡ firstLine u ++ m → SameReport o u × (l ≡ m)
@@ -49,7 +49,7 @@ unfolding firstLine fields
 first-line-cut o u l m e =
     let (q, z) : (fields o ≡ fields u) × (l ≡ m) = line-cut _ _ _ _ l m (fields-solid o) (fields-solid u) e in
     let at : (i : ℕ) → getD (fields o) i [] ≡ getD (fields u) i [] = λ i. ap (λ (z : List (List ℕ)). getD z i []) q in
-    ((status-tells (o .complete) (u .complete) (at 0), decimal-tells (o .pairs) (u .pairs) (at 2), decimal-tells (o .rounds) (u .rounds) (at 4), decimal-tells (o .quality .0) (u .quality .0) (at 6), decimal-tells (o .quality .1) (u .quality .1) (at 8)), z)
+    ((status-tells (o .complete) (u .complete) (at 0), decimal-tells (o .nodes) (u .nodes) (at 2), decimal-tells (o .rounds) (u .rounds) (at 4), decimal-tells (o .quality .0) (u .quality .0) (at 6), decimal-tells (o .quality .1) (u .quality .1) (at 8)), z)
 
 -- Two first lines of the same bytes have the same status, pairs, rounds, size and mass.
 pub first-line-tells : (o u : Outcome) → firstLine o ≡ firstLine u → SameReport o u

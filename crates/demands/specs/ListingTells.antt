@@ -10,12 +10,12 @@ use lib.Dec.{eqb}
 use lib.ListN.{length, getD, take, length-append}
 use borrow.Author.Tests.{eqb-true, eqb-false}
 use Rattle.spec.specs.Bytes.{pick, Two, all, any, each, place, text, decimal}
-use Rattle.spec.specs.Pool.{Pool, Node, nodeAt, OP, LIT, VARIANTS, joinRuns, variantsNode}
+use Rattle.spec.specs.Pool.{Pool, Node, nodeAt, OP, LIT, VARIANTS}
 use Rattle.spec.specs.Run.{Outcome}
 use Rattle.spec.specs.Listing.{visitRuns, visitTerm, subterms, line, runField, headFields, termLine, listingOf}
-use Rattle.spec.specs.Meaning.{In, here, there, Term, lit, node, variants, run, runsOf, firstBranch, secondBranch, treeOf, treesAfter, treeAt}
+use Rattle.spec.specs.Meaning.{In, here, there, Term, lit, node, variants, run, runsOf, treeOf, treesAfter, treeAt}
 use Rattle.laws.specs.Lists.{in-cons, in-nil}
-use Rattle.pools.specs.Pool.{Formed, operation, literal, marked, PoolValid, numbered, getD-last, tree-operation, tree-literal}
+use Rattle.pools.specs.Pool.{Formed, operation, literal, marked, PoolValid, getD-last, tree-operation, tree-literal, tree-marked}
 use Rattle.pools.specs.PoolTrees.{tree-is}
 use Rattle.numbering.specs.WalkLaws.{visit-fresh, visit-new, subterms-closed}
 use Rattle.numbering.specs.NumberLaws.{at-in}
@@ -103,24 +103,6 @@ module _ (p q : Pool) (L M : List ℕ) where
   alike-runs none = refl
   alike-runs (next {r = r} {s = s} e c A) = λ i. run (e i) (c i) (alike-runs A i)
 
-  -- the two branches of a marked place
-  alike-branches : {l m : List Two} → Alike l m → (l ≡ [] → ⊥) → (treeAt p (firstBranch l) ≡ treeAt q (firstBranch m)) × (treeAt p (secondBranch l) ≡ treeAt q (secondBranch m))
-  alike-branches none n = absurd (n refl)
-  alike-branches (next e c none) n = (e, e)
-  alike-branches (next e c (next f d A)) n = (e, f)
-
-tree-variants : (ts : List Term) (n : Node) → n .head ≡ VARIANTS → treeOf ts n ≡ variants (numbered ts (firstBranch (n .runs))) (numbered ts (secondBranch (n .runs)))
-unfolding treeOf
-tree-variants ts n e = rw e refl
-
-marked-some : (a b : ℕ) → variantsNode a b .runs ≡ [] → ⊥
-unfolding joinRuns
-marked-some a b = go (eqb a b)
-  where
-    go : (t : Bool) → _≡_ {A = List Two} (pick t ((a, 1 + 1) ∷ []) ((a, 1) ∷ (b, 1) ∷ [])) [] → ⊥
-    go true e = nil-cons (sym e)
-    go false e = nil-cons (sym e)
-
 -- what a node prints, by its form
 prints-operation : (n : Node) → n .head ≡ OP → headFields n ≡ text "op" ∷ decimal (n .op) ∷ []
 unfolding headFields
@@ -167,18 +149,15 @@ module _ (p q : Pool) (v : PoolValid p) (w : PoolValid q) (L M : List ℕ) where
       go (literal a z) (literal b u) =
           let (o, k) = heads (heads (fields _ _ (prints-literal x a) (prints-literal y b)) .1) in
           tree-literal ts x a ∙ ap₂ lit (decimal-tells (x .op) (y .op) o) (decimal-tells (x .value) (y .value) (heads k .0)) ∙ sym (tree-literal us y b)
-      go (marked a b m) (marked a′ b′ n) =
-          let i : x .head ≡ VARIANTS = ap (λ (z : Node). z .head) m in
-          let j : y .head ≡ VARIANTS = ap (λ (z : Node). z .head) n in
-          let A = kids (heads (fields _ _ (prints-marked x i) (prints-marked y j)) .1) in
-          let (f, g) = alike-branches p q L M A (λ k. marked-some a b (sym (ap (λ (z : Node). z .runs) m) ∙ k)) in
-          tree-variants ts x i ∙ ap₂ variants f g ∙ sym (tree-variants us y j)
+      go (marked a z f) (marked b u g) =
+          let k = heads (fields _ _ (prints-marked x a) (prints-marked y b)) .1 in
+          tree-marked ts x a ∙ ap variants (alike-runs p q L M (kids k)) ∙ sym (tree-marked us y b)
       go (operation a z) (literal b u) = absurd (omega (arith, heads (heads (fields _ _ (prints-operation x a) (prints-literal y b)) .0) .0))
       go (literal a z) (operation b u) = absurd (omega (arith, heads (heads (fields _ _ (prints-literal x a) (prints-operation y b)) .0) .0))
-      go (operation a z) (marked a′ b′ n) = absurd (omega (arith, heads (heads (fields _ _ (prints-operation x a) (prints-marked y (ap (λ (z : Node). z .head) n))) .0) .0))
-      go (marked a b m) (operation b′ u) = absurd (omega (arith, heads (heads (fields _ _ (prints-marked x (ap (λ (z : Node). z .head) m)) (prints-operation y b′)) .0) .0))
-      go (literal a z) (marked a′ b′ n) = absurd (omega (arith, heads (heads (fields _ _ (prints-literal x a) (prints-marked y (ap (λ (z : Node). z .head) n))) .0) .0))
-      go (marked a b m) (literal b′ u) = absurd (omega (arith, heads (heads (fields _ _ (prints-marked x (ap (λ (z : Node). z .head) m)) (prints-literal y b′)) .0) .0))
+      go (operation a z) (marked b u g) = absurd (omega (arith, heads (heads (fields _ _ (prints-operation x a) (prints-marked y b)) .0) .0))
+      go (marked a z f) (operation b u) = absurd (omega (arith, heads (heads (fields _ _ (prints-marked x a) (prints-operation y b)) .0) .0))
+      go (literal a z) (marked b u g) = absurd (omega (arith, heads (heads (fields _ _ (prints-literal x a) (prints-marked y b)) .0) .0))
+      go (marked a z f) (literal b u) = absurd (omega (arith, heads (heads (fields _ _ (prints-marked x a) (prints-literal y b)) .0) .0))
 
 -- ---- the root's tree, from the lines
 -- the line number of a listed term leads back to it

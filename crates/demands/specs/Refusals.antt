@@ -9,6 +9,7 @@ use lib.ListN.{length, replicate}
 use borrow.Author.Tests.{le-leb, lt-leb}
 use Rattle.spec.specs.Bytes.{Res, ok, refused, workAfter}
 use Rattle.spec.specs.Image.{tablesOf}
+use Rattle.spec.specs.Pairs.{pairs, making}
 use Rattle.spec.specs.Graph.{PAIRS}
 use Rattle.spec.specs.Run.{documentLimits, Outcome, runOf}
 use Rattle.spec.specs.Listing.{listingOf}
@@ -18,9 +19,11 @@ use Rattle.laws.specs.Tests.{clash}
 use Rattle.laws.specs.Valid.{Keeps}
 use Rattle.laws.specs.Accepted as A
 use Rattle.laws.specs.Results.{refused-ok, refused-inj}
-use Rattle.steps.specs.Graph.{PairCount}
+use Rattle.lgg.specs.Pairs.{PairCount}
 use Rattle.counted.specs.CountedRun.{root-starts}
-use Rattle.steps.specs.Demand3 as D
+use Rattle.lgg.specs.Count.{pair-count}
+use Rattle.lgg.specs.Limits.{refuses13}
+use Rattle.steps.specs.Refusals.{refused-by, refused-beyond}
 use Rattle.contract.specs.declared.Answer.{Answer}
 use Rattle.contract.specs.declared.Answer.the-variants.{Listing, Refused, Doubled}
 use Rattle.contract.specs.Merges.{Merges}
@@ -42,8 +45,8 @@ module _ (image : List ℕ) (left right budget : ℕ) (fit : Bool) (out out′ :
   -- the run's refusals
   run-number : (k : ℕ) → R ≡ refused k → (12 ≤ k) × (k ≤ 13)
   run-number k e =
-      let (n, c, _) = D.pair-count (tablesOf image) (left, right) in
-      elim (D.refused-by documentLimits (tablesOf image) (left, right) n c budget k e) [ inl x ↦ let z = x .0 in (omega arith, omega arith) | inr x ↦ (omega arith, omega arith) ]
+      let (n, c, _) = pair-count (tablesOf image) (left, right) in
+      elim (refused-by (pairs (tablesOf image)) (making documentLimits (tablesOf image)) (refuses13 documentLimits (tablesOf image)) (left, right) n c budget k e) [ inl x ↦ let z = x .0 in (omega arith, omega arith) | inr x ↦ (omega arith, omega arith) ]
 
   -- ---- 1: "a work buffer below its constant length"
   pub refused-1 : (r ≡ Refused 1) ↔ (fit ≡ false)
@@ -135,13 +138,13 @@ module _ (image : List ℕ) (left right budget : ℕ) (fit : Bool) (out out′ :
 
   -- .. only where the queried pair has more than 4,096 pairs
   pub refused-12-only-beyond : r ≡ Refused 12 → (n : ℕ) → PairCount (tablesOf image) (left, right) n → PAIRS < n
-  refused-12-only-beyond e n c = elim (D.refused-by documentLimits (tablesOf image) (left, right) n c budget 12 (refused-12 .0 e .1)) [ inl x ↦ x .1 | inr x ↦ absurd (omega arith) ]
+  refused-12-only-beyond e n c = elim (refused-by (pairs (tablesOf image)) (making documentLimits (tablesOf image)) (refuses13 documentLimits (tablesOf image)) (left, right) n c budget 12 (refused-12 .0 e .1)) [ inl x ↦ x .1 | inr x ↦ absurd (omega arith) ]
 
   -- .. and where it has, with 4,096 checks or more
   pub refused-12-beyond : Taken fit image left right → (n : ℕ) → PairCount (tablesOf image) (left, right) n → PAIRS < n → PAIRS ≤ budget → r ≡ Refused 12
   refused-12-beyond T n c h b =
       let (root, e) = root-starts (tablesOf image) (A.valid image (tablesOf image) (read-of image (T .sound))) (left, right) (T .asked) in
-      refused-12 .1 (T, D.refused-beyond documentLimits (tablesOf image) (left, right) n c h budget root b e)
+      refused-12 .1 (T, refused-beyond (pairs (tablesOf image)) (making documentLimits (tablesOf image)) (left, right) n c h budget root b e)
 
   -- 13: "a term beyond 16,384 or a run beyond 65,536 would be entered"; which terms these are, and where it is not returned: Terms13
   pub refused-13 : (r ≡ Refused 13) ↔ (Taken fit image left right × (R ≡ refused 13))

@@ -14,8 +14,7 @@ use Rattle.spec.specs.Run.{documentLimits, Outcome}
 use Rattle.spec.specs.Meaning.{In, treeAt}
 use Rattle.laws.specs.Valid.{Valid}
 use Rattle.laws.specs.Accepted as A
-use Rattle.steps.specs.Graph.{PairCount}
-use Rattle.steps.specs.Demand3.{FirstQuiet}
+use Rattle.lgg.specs.Pairs.{PairCount, FirstQuiet}
 use Rattle.counted.specs.Counted.{termAfter, Counted, Beyond}
 use Rattle.counted.specs.CountedFew.{Ends, FinalRuns}
 use Rattle.counted.specs.CountedRun as L

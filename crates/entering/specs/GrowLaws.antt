@@ -9,6 +9,7 @@ use borrow.Author.Tests.{lt-ltb, le-ltb, eqb-true, eqb-false}
 use lib.Dec.{eqb}
 use lib.ListN.{length, getD, length-replicate, length-append, replicate}
 use Rattle.spec.specs.Bytes.{Limits, Two, any, sameTwo, Res, ok, refused, _>>=_}
+use Rattle.spec.specs.System as system
 use Rattle.spec.specs.Graph.{enter, enterAll}
 use Rattle.spec.specs.Meaning.{In}
 use Rattle.laws.specs.Lists.{in-left, in-right, in-append, in-cons, in-nil, is-in, in-any, get-in}
@@ -82,22 +83,22 @@ module _ {w n : ℕ} {graph : List ℕ} (g : Laid w n graph) (l r : ℕ) (s : Sm
 -- ---- one pair
 module _ (lim : Limits) (qs : List Two) (p : Two) where
   enter-known : true ≡ any (sameTwo p) qs → enterAll lim qs (p ∷ []) ≡ ok qs
-  unfolding enterAll enter
+  unfolding system.enterAll system.enter
   enter-known e = rw (← e) refl
 
   enter-full : false ≡ any (sameTwo p) qs → lim .pairs ≤ length qs → enterAll lim qs (p ∷ []) ≡ refused 12
-  unfolding enterAll enter
+  unfolding system.enterAll system.enter
   enter-full e h = rw (← e, le-ltb (length qs) (lim .pairs) h) refl
 
   enter-new : false ≡ any (sameTwo p) qs → length qs < lim .pairs → enterAll lim qs (p ∷ []) ≡ ok (qs ++ (p ∷ []))
-  unfolding enterAll enter
+  unfolding system.enterAll system.enter
   enter-new e h = rw (← e, lt-ltb (length qs) (lim .pairs) h) refl
 
 none-small : {w : ℕ} → AllSmall w []
 none-small p i = absurd (in-nil i)
 
 enter-none : (lim : Limits) (qs : List Two) → enterAll lim qs [] ≡ ok qs
-unfolding enterAll
+unfolding system.enterAll
 enter-none lim qs = refl
 
 module _ (lim : Limits) {w n : ℕ} {graph : List ℕ} (g : Graph lim w n graph) (l r : ℕ) where
@@ -174,7 +175,7 @@ module _ (lim : Limits) {w n : ℕ} {graph : List ℕ} (g : Graph lim w n graph)
 
 -- ---- list after list
 enter-append : (lim : Limits) (ps a b : List Two) → enterAll lim ps (a ++ b) ≡ (enterAll lim ps a >>= λ qs. enterAll lim qs b)
-unfolding enterAll
+unfolding system.enterAll
 enter-append lim ps [] b = refl
 enter-append lim ps (p ∷ a) b = go (enter lim ps p) (λ qs. enter-append lim qs a b)
   where

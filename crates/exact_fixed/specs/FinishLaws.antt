@@ -6,6 +6,7 @@ use native.Mathlib.Omega.{arith}
 use lib.ListN.{length, replicate}
 use Rattle.spec.specs.Bytes.{Two, Limits, Res, ok, refused, Checked, passed, cutShort}
 use Rattle.spec.specs.Image.{Tables}
+use Rattle.spec.specs.System as system
 use Rattle.spec.specs.Graph.{build}
 use Rattle.spec.specs.Pool.{Interned, interned, startingTerm}
 use Rattle.spec.specs.Run.{startingTerms, runOf, afterBuilding}
@@ -96,7 +97,7 @@ module _ (lim : Limits) (t : Tables) (p : Two) (budget w : ℕ) (graph ts us : L
 
       -- the run is what follows building
       run-after : (a : Interned) (g : Checked (List Two)) → startingTerm lim t [] p ≡ ok a → build lim t p budget ≡ ok g → runOf lim t p budget ≡ afterBuilding lim t p a g
-      unfolding runOf
+      unfolding system.runOf
       run-after a g e f = rw (e, f) refl
 
       module _ (many : length (t .classes) ≡ w) (wide : w * w + lim .pairs ≤ length graph) where

@@ -7,6 +7,7 @@ use lib.ListN.{length}
 use Rattle.spec.specs.Bytes.{Two, Limits, Res, ok, refused, _>>=_, Checked, passed, cutShort}
 use Rattle.spec.specs.Image.{Tables}
 use Rattle.spec.specs.Pool.{Pool, Interned, interned}
+use Rattle.spec.specs.System as system
 use Rattle.spec.specs.Round.{Terms}
 use Rattle.spec.specs.Run as run
 use Rattle.spec.specs.Run.{startingTerms, afterStarting, afterBuilding}
@@ -50,11 +51,11 @@ module _ (lim : Limits) (t : Tables) (p : Two) (ps : List Two) (n : ℕ) (many :
   built = afterBuilding lim t p (interned from root) (passed ps b)
 
   by-starting : (x : Res (Checked Terms)) → whole ≡ x → built ≡ (x >>= afterStarting lim t p (interned from root) ps)
-  unfolding afterBuilding
+  unfolding system.afterBuilding
   by-starting x e = ap (λ (z : Res (Checked Terms)). z >>= afterStarting lim t p (interned from root) ps) e
 
   cut-is : whole ≡ ok cutShort → built ≡ ok (run.started t p (interned from root) (length ps))
-  unfolding afterStarting
+  unfolding system.afterStarting
   cut-is e = by-starting (ok cutShort) e
 
   module _ (pairs terms runs : List ℕ) (c : ℕ) (X : Starting lim t ps whole from pairs terms runs (length ps) c) where
@@ -65,7 +66,7 @@ module _ (lim : Limits) (t : Tables) (p : Two) (ps : List Two) (n : ℕ) (many :
     built-stands v i = rw (← same) (standing-started lim t v ps i from (termsIn pairs 0 (length ps)) (poolOf terms runs) c (X .midway))
 
     built-rounds : built ≡ roundsOf lim t ps (stateIn pairs terms runs n 0 c)
-    unfolding afterStarting
+    unfolding system.afterStarting
     built-rounds = by-starting (ok (passed (record { pool = poolOf terms runs; terms = termsIn pairs 0 (length ps) }) c)) (start-done lim t ps whole from pairs terms runs c X) ∙ ap (roundsOf lim t ps) same
 
   -- ---- by what the code answers: the starting terms x, the outcome o

@@ -8,13 +8,14 @@ use native.Mathlib.Omega.{arith}
 use lib.ListN.{length, getD, take, replicate, length-replicate, getD-replicate}
 use Rattle.spec.specs.Bytes.{Limits, Two, any, place, sameTwo, Res, ok, refused, passed, cutShort, Checked}
 use Rattle.spec.specs.Image.{Tables}
+use Rattle.spec.specs.Pairs.{pairs}
 use Rattle.spec.specs.Graph.{build}
-use Rattle.spec.specs.Meaning.{In, Reachable, queried, joined}
+use Rattle.spec.specs.Meaning.{In}
 use Rattle.laws.specs.Valid.{Valid}
 use Rattle.laws.specs.Lists.{get-in, same-refl, same-eq, Distinct, more}
 use Rattle.laws.specs.BestMembers.{IsPair}
-use Rattle.readings.specs.ReadingsWithin.{joins-within}
-use Rattle.steps.specs.Rounds.{Closed}
+use Rattle.readings.specs.ReadingsWithin.{reach-within}
+use Rattle.steps.specs.Graph.{Closed}
 use Rattle.steps.specs.Graph as L
 use Rattle.arrays.specs.Arrays.{placeOf, numberIn, keyOf, pairsIn}
 use Rattle.arrays.specs.ArrayLaws.{place-lt}
@@ -82,34 +83,30 @@ after-again w (refused k) graph = ap {B = List ℕ} (λ (n : ℕ). replicate n 0
 module _ (lim : Limits) (t : Tables) (p : Two) (b c : ℕ) (ps : List Two) (e : build lim t p b ≡ ok (passed ps c)) where
   -- "Its n pairs are counted once each."
   pub built-distinct : Distinct ps
-  built-distinct = L.build-whole lim t p b c ps e .once
+  built-distinct = L.build-whole (pairs t) (lim .pairs) p b c ps e .once
 
   pub built-apart : (j : ℕ) → j < length ps → any (sameTwo (getD ps j (0, 0))) (take j ps) ≡ false
   built-apart = apart-at ps built-distinct
 
   -- "with each pair, every pair of classes that an action of it joins"
-  pub built-closed : Closed t ps
-  built-closed = L.build-closed lim t p b c ps e
+  pub built-closed : Closed (pairs t) ps
+  built-closed = L.build-closed (pairs t) (lim .pairs) p b c ps e
 
   -- the queried pair is the first
   pub built-first : getD ps 0 (0, 0) ≡ p
-  built-first = let (rest, z) = L.build-first lim t p b c ps e in ap (λ (l : List Two). getD l 0 (0, 0)) z
+  built-first = let (rest, z) = L.build-first (pairs t) (lim .pairs) p b c ps e in ap (λ (l : List Two). getD l 0 (0, 0)) z
 
   pub built-some : 1 ≤ length ps
-  built-some = let (rest, z) = L.build-first lim t p b c ps e in omega (arith, ap (λ (l : List Two). length l) z)
+  built-some = let (rest, z) = L.build-first (pairs t) (lim .pairs) p b c ps e in omega (arith, ap (λ (l : List Two). length l) z)
 
   -- "a pair beyond 4,096 would be entered": 12
   pub built-few : length ps ≤ lim .pairs
-  built-few = L.build-few lim t p b c ps e
+  built-few = L.build-few (pairs t) (lim .pairs) p b c ps e
 
   module _ (v : Valid t) (h : IsPair t p) where
-    reached : (q : Two) → Reachable t p q → IsPair t q
-    reached q (queried z) = rw z h
-    reached q (joined {p = y} r i) = joins-within t v y (reached y r) q i
-
     -- both classes are the image's
     pub built-within : (q : Two) → In q ps → IsPair t q
-    built-within q i = reached q (L.build-whole lim t p b c ps e .exactly q .0 i)
+    built-within q i = reach-within t v p q h (L.build-whole (pairs t) (lim .pairs) p b c ps e .exactly q .0 i)
 
     -- the array that building leaves, over w classes and of m numbers
     module _ (w : ℕ) (is : length (t .classes) ≡ w) (m : ℕ) (room : w * w + lim .pairs ≤ m) where

@@ -11,6 +11,8 @@ use lib.ListN.{length, getD, replicate}
 use Rattle.spec.specs.Bytes.{Limits, Two, Res, ok, refused, _>>=_, Checked, passed, cutShort}
 use Rattle.spec.specs.Image.{Tables}
 use Rattle.spec.specs.Action.{joins}
+use Rattle.spec.specs.System as system
+use Rattle.spec.specs.Pairs.{pairs}
 use Rattle.spec.specs.Graph.{enter, enterAll, buildFrom, build}
 use Rattle.spec.specs.Meaning.{In}
 use Rattle.laws.specs.Tests.{clash}
@@ -52,23 +54,23 @@ check-one b x e f = go (b .left) (sym (ap (λ (y : Spent). not (y .passed)) e) �
 -- ---- a pair's turn
 module _ (lim : Limits) (t : Tables) (ps : List Two) where
   build-stop : (b i : ℕ) → b ≡ 0 → i < length ps → buildFrom lim b t ps i ≡ ok cutShort
-  unfolding buildFrom
-  build-stop b i e h = rw (e, buildFrom, lt-ltb i (length ps) h) refl
+  unfolding system.buildFrom
+  build-stop b i e h = rw (e, system.buildFrom, lt-ltb i (length ps) h) refl
 
   build-turn : (b c i : ℕ) → b ≡ suc c → i < length ps → buildFrom lim b t ps i ≡ (enterAll lim ps (joins t (getD ps i (0, 0))) >>= λ qs. buildFrom lim c t qs (suc i))
-  unfolding buildFrom
-  build-turn b c i e h = rw (e, buildFrom, lt-ltb i (length ps) h) refl
+  unfolding system.buildFrom
+  build-turn b c i e h = rw (e, system.buildFrom, lt-ltb i (length ps) h) refl
 
   build-done : (b i : ℕ) → length ps ≤ i → buildFrom lim b t ps i ≡ ok (passed ps b)
-  unfolding buildFrom
-  build-done zero i h = rw (buildFrom, le-ltb i (length ps) h) refl
-  build-done (suc b) i h = rw (buildFrom, le-ltb i (length ps) h) refl
+  unfolding system.buildFrom
+  build-done zero i h = rw (system.buildFrom, le-ltb i (length ps) h) refl
+  build-done (suc b) i h = rw (system.buildFrom, le-ltb i (length ps) h) refl
 
   -- what is entered are pairs of the list or pairs that were there
   entered-only : (l qs : List Two) → enterAll lim ps l ≡ ok qs → (x : Two) → In x qs → (P : Two → Type 0) → ((y : Two) → In y ps → P y) → ((y : Two) → In y l → P y) → P x
-  entered-only l qs e x i P f g = go (enterAll lim ps l) (enterAll-says lim l ps) e
+  entered-only l qs e x i P f g = go (enterAll lim ps l) (enterAll-says (pairs t) (lim .pairs) l ps) e
     where
-      go : (r : Res (List Two)) → Entered lim ps l r → r ≡ ok qs → P x
+      go : (r : Res (List Two)) → Entered (lim .pairs) ps l r → r ≡ ok qs → P x
       go (ok rs) (grown d k) q = ⊎-elim (λ j. f x j) (λ j. g x j) (d .only x (rw (ok-inj q) i))
       go (refused n) (overfull z o) q = absurd (refused-ok q)
 
@@ -123,7 +125,7 @@ module _ (lim : Limits) (t : Tables) (w : ℕ) where
           turning-full z u q = record { says = after (refused 12) (rw q at (u .says)) }
 
           pub turning-on : {m : ℕ} {graph′ : List ℕ} (v : Valid t) (z : G.Grown) → Grows lim w (enterAll lim (pairsIn w graph n) (joins t (l, r))) graph′ z → z ≡ K.To m → Turning lim t w g c graph′ m (i + 1)
-          unfolding enterAll
+          unfolding system.enterAll
           turning-on {m} {graph′} v z u q = go (rw q at (u .says))
             where
               go : Going lim w (enterAll lim (pairsIn w graph n) (joins t (l, r))) [] m graph′ → Turning lim t w g c graph′ m (i + 1)
@@ -147,7 +149,7 @@ module _ (lim : Limits) (t : Tables) (w l r b : ℕ) (graph : List ℕ) where
 
   module _ (x : G.Grown) {graph₁ : List ℕ} (u : Grows lim w (enterAll lim (pairsIn w graph 0) ((l, r) ∷ [])) graph₁ x) where
     entered-first : (z : Res (List Two)) → enterAll lim (pairsIn w graph 0) ((l, r) ∷ []) ≡ z → build lim t (l, r) b ≡ (z >>= λ qs. buildFrom lim b t qs 0)
-    unfolding unkeyed enterAll build
+    unfolding unkeyed system.enterAll system.build
     entered-first z q = go (enter lim [] (l, r)) ∙ ap (λ (y : Res (List Two)). y >>= λ qs. buildFrom lim b t qs 0) q
       where
         go : (y : Res (List Two)) → (y >>= λ qs. buildFrom lim b t qs 0) ≡ ((y >>= λ qs. enterAll lim qs []) >>= λ qs. buildFrom lim b t qs 0)
@@ -162,7 +164,7 @@ module _ (lim : Limits) (t : Tables) (w l r b : ℕ) (graph : List ℕ) where
       first-leads = rw q at (u .says)
 
       first-is : enterAll lim (pairsIn w graph 0) ((l, r) ∷ []) ≡ ok (pairsIn w graph₁ n)
-      unfolding enterAll
+      unfolding system.enterAll
       first-is = sym (first-leads .leads)
 
       pub first-graph : Graph lim w n graph₁

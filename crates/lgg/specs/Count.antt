@@ -15,7 +15,7 @@ use Rattle.laws.specs.Lists.{get-in, in-left, in-right, in-map, in-each, pigeon
 use Rattle.laws.specs.Bag.{span-in}
 use Rattle.lgg.specs.Within.{reachable-in}
 use Rattle.steps.specs.Enter.{grow}
-use Rattle.steps.specs.Graph.{Some, Good, good-start, good-next, good-reach, NodeCount}
+use Rattle.steps.specs.Graph.{Some, Good, good-start, good-next, good-reach, NodeCount, count-unique}
 
 -- the classes at hand
 universe : Tables → Two → List ℕ
@@ -65,8 +65,9 @@ module _ (t : Tables) (root : Two) where
       go (yes l) ih = let (qs, d) = grow (pairs t) (joins t (getD ps i (0, 0))) ps in ih qs (good-next (pairs t) root ps qs i l g d)
       go (no l) ih = let e : i ≡ length ps = omega (arith, g .upTo) in (ps, rw e at g)
 
-  -- Every query has its number of pairs.
-  pub pair-count : (n : ℕ) × NodeCount (pairs t) root n
+  -- Every query has one n, the number of its reachable pairs, whether or not a budget builds them all.
+  pub pair-count : (n : ℕ) × NodeCount (pairs t) root n × ((m : ℕ) → NodeCount (pairs t) root m → m ≡ n)
   pair-count =
       let (ps, g) = explore (suc (length grid)) 0 (root ∷ []) (good-start (pairs t) root) (omega arith) in
-      (length ps, (ps, record { once = g .some .once; exactly = λ q. (g .some .reached q, good-reach (pairs t) root ps g q) }, refl))
+      let c : NodeCount (pairs t) root (length ps) = (ps, record { once = g .some .once; exactly = λ q. (g .some .reached q, good-reach (pairs t) root ps g q) }, refl) in
+      (length ps, c, λ m d. count-unique (pairs t) root m (length ps) d c)

@@ -10,3 +10,4 @@ pub mod TurnPlaces
 pub mod TurnRead
 pub mod Count
 pub mod Limits
+pub mod Pairs

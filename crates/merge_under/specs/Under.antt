@@ -5,6 +5,7 @@ use Prim.Native.Nat.{ℕ, _*_, _≤_}
 use lib.Dec.{leb}
 use lib.ListN.{length}
 use Rattle.spec.specs.Bytes.{Limits, Res, ok, refused, _>>=_, rule}
+use Rattle.spec.specs.System as system
 use Rattle.spec.specs.Run.{runOf}
 use Rattle.spec.specs.Listing.{listingOf}
 use Rattle.spec.specs.Merge.{outputAfter}
@@ -18,7 +19,7 @@ use Rattle.contract.specs.Answers.{answerOf, Carries}
 
 -- `mergeUnder` past 1 (crate spec), but refused 12 too where the graph's array of m numbers has no room for the classes of the image
 unfoldable pub mergeAt : Limits → ℕ → List ℕ → Query → ℕ → Res (List ℕ)
-unfolding acceptedOf listingOf runOf
+unfolding acceptedOf listingOf system.runOf
 mergeAt lim m image q room = do
   t ← acceptedOf lim m image q
   o ← runOf lim t (askedOf q) (q .budget)

@@ -63,7 +63,7 @@ module _ (u : run.Outcome) (out out′ : List ℕ) where
 -- what `list` answers and leaves for the report f of an outcome o
 module _ (o : Outcome) (f : Report) (terms runs : List ℕ) (complete : f .complete ≡ o .complete) (pairs : f .pairs ≡ o .pairs) (rounds : f .rounds ≡ o .rounds) (size : f .size ≡ o .size) (mass : f .mass ≡ o .mass) where
   reported : outcomeOf f terms runs (o .root) ≡ outcomeIn o terms runs
-  reported = λ i. record { complete = complete i; pairs = pairs i; rounds = rounds i; quality = (size i, mass i); pool = outcomeIn o terms runs .pool; root = o .root }
+  reported = λ i. record { complete = complete i; nodes = pairs i; rounds = rounds i; quality = (size i, mass i); pool = outcomeIn o terms runs .pool; root = o .root }
 
   module _ (marks out marks′ out′ : List ℕ) (w : Written) (X : L.Lists terms runs (o .root) f marks out marks′ out′ w) where
     pub listed-bytes : (n : ℕ) → w ≡ W.Bytes n → Answers (ok (outcomeIn o terms runs)) out out′ (A.Listing n)

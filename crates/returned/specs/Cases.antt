@@ -9,11 +9,14 @@ use lib.ListN.{length}
 use borrow.Author.Tests.{ne-eqb}
 use Rattle.spec.specs.Bytes.{refused}
 use Rattle.spec.specs.Image.{tablesOf}
+use Rattle.spec.specs.Pairs.{pairs, making}
 use Rattle.spec.specs.Run.{documentLimits}
 use Rattle.spec.specs.Merge.{mergeOf}
 use Rattle.laws.specs.Accepted as A
 use Rattle.laws.specs.Results.{refused-ok, refused-inj}
-use Rattle.steps.specs.Demand3 as D
+use Rattle.lgg.specs.Count.{pair-count}
+use Rattle.lgg.specs.Limits.{refuses13}
+use Rattle.steps.specs.Refusals.{refused-by}
 use Rattle.contract.specs.declared.Answer.{Answer}
 use Rattle.contract.specs.declared.Answer.the-variants.{Listing, Refused, Doubled}
 use Rattle.contract.specs.Merges.{fitOf, Merges}
@@ -36,8 +39,8 @@ number fit image left right budget room k q = go (way fit image left right budge
     go (unsound j e f g) = let z = A.refused-in-its-case image j .0 g in from j e (omega (arith, z .0)) (omega (arith, z .1))
     go (outside e f g h) = from 11 e (omega arith) (omega arith)
     go (stopped j e T f) =
-        let (n, c, _) = D.pair-count (tablesOf image) (left, right) in
-        elim (D.refused-by documentLimits (tablesOf image) (left, right) n c budget j f) [ inl x ↦ let z = x .0 in from j e (omega arith) (omega arith) | inr x ↦ from j e (omega arith) (omega arith) ]
+        let (n, c, _) = pair-count (tablesOf image) (left, right) in
+        elim (refused-by (pairs (tablesOf image)) (making documentLimits (tablesOf image)) (refuses13 documentLimits (tablesOf image)) (left, right) n c budget j f) [ inl x ↦ let z = x .0 in from j e (omega arith) (omega arith) | inr x ↦ from j e (omega arith) (omega arith) ]
     go (over o e T f h) = from 14 e (omega arith) (omega arith)
     go (listed o e T f h) = absurd (refused-ok (sym q ∙ e))
 

@@ -6,13 +6,14 @@ use native.Mathlib.Omega.{arith}
 use lib.ListN.{length, getD}
 use Rattle.spec.specs.Bytes.{Limits, place, Two, sameTwo}
 use Rattle.spec.specs.Image.{Tables}
+use Rattle.spec.specs.Pairs.{pairs}
 use Rattle.spec.specs.Round.{lookUp, turnOf, choiceTerm}
 use Rattle.spec.specs.Run.{State}
 use Rattle.spec.specs.Pool.{Pool}
 use Rattle.spec.specs.Meaning.{In}
 use Rattle.laws.specs.Valid.{Valid}
 use Rattle.laws.specs.BestMembers.{IsPair}
-use Rattle.steps.specs.Rounds.{Closed}
+use Rattle.steps.specs.Graph.{Closed}
 use Rattle.laws.specs.Lists.{get-in, Distinct}
 use Rattle.steps.specs.Standing.{Standing, place-in, Midway}
 use Rattle.pools.specs.PoolIntern.{extends-within}
@@ -41,7 +42,7 @@ pub record Graphs (lim : Limits) (t : Tables) (w : ℕ) (ps : List Two) (n : ℕ
   pub classes : w ≡ length (t .classes)
   pub below : (i : ℕ) → i < w * w → getD graph i 0 < n
   pub numbers : (p : Two) → In p ps → numberIn w graph p ≡ place (sameTwo p) ps
-  pub closed : Closed t ps
+  pub closed : Closed (pairs t) ps
   pub once : Distinct ps
   pub pairs : InRange t ps
 

@@ -9,13 +9,14 @@ use lib.ListN.{length, getD}
 use Rattle.spec.specs.Bytes.{Limits, any, Two, Res, ok, refused, passed}
 use Rattle.spec.specs.Image.{Tables}
 use Rattle.spec.specs.Pool.{Pool}
+use Rattle.spec.specs.Pairs.{pairs}
 use Rattle.spec.specs.Round.{changes, turnsOf, Terms}
 use Rattle.spec.specs.Run as run
 use Rattle.spec.specs.Run.{State, outcome}
 use Rattle.spec.specs.Listing.{listingOf}
 use Rattle.laws.specs.Valid.{Valid}
 use Rattle.pools.specs.PoolIntern.{Extends, extends-refl, extends-within}
-use Rattle.steps.specs.Rounds.{Closed}
+use Rattle.steps.specs.Graph.{Closed}
 use Rattle.steps.specs.RoundsFrom.{turnsAt, roundAt, stateAfter, roundsOf, rounds-expired, rounds-refused, rounds-cut, rounds-quiet, rounds-next, round-left as rounds-left}
 use Rattle.steps.specs.Standing.{Standing, standing-next, listing-cut}
 use Rattle.arrays.specs.Arrays.{NEW, pairsIn, qualitiesIn, termsIn}
@@ -120,7 +121,7 @@ module _ (lim : Limits) (t : Tables) (ps : List Two) (n : ℕ) (many : length ps
       long′ : 6 * n ≤ length pairs′
       long′ = omega (arith, T .reads .long, many)
 
-      run-next : Closed t ps → changed ≡ true → (pairs″ : List ℕ) → pairs″ ≡ settled pairs′ n → Running lim t ps n m pairs″ terms′ runs′ (rounds + 1) d
+      run-next : Closed (pairs t) ps → changed ≡ true → (pairs″ : List ℕ) → pairs″ ≡ settled pairs′ n → Running lim t ps n m pairs″ terms′ runs′ (rounds + 1) d
       run-next closed q pairs″ p =
           let qs : qualitiesIn pairs″ 0 n ≡ map (λ w. w .quality) (turnsAt t ps Here) = ap (λ (l : List ℕ). qualitiesIn l 0 n) p ∙ settled-qualities pairs′ n long′ ∙ gave in
           let ts : termsIn pairs″ 0 n ≡ termsIn pairs′ NEW (length ps) = ap (λ (l : List ℕ). termsIn l 0 n) p ∙ settled-terms pairs′ n long′ ∙ ap (λ (i : ℕ). termsIn pairs′ NEW i) (sym many) in
@@ -156,11 +157,11 @@ module _ (lim : Limits) (t : Tables) (ps : List Two) (n : ℕ) (many : length ps
       pub round-left : c ≡ n + d .left
       round-left = omega (arith, run-left c left pairs′ terms′ runs′ (d .left) changed turned)
 
-      pub round-next : Closed t ps → changed ≡ true → (pairs″ : List ℕ) → pairs″ ≡ settled pairs′ n → Running lim t ps n m pairs″ terms′ runs′ (rounds + 1) (d .left)
+      pub round-next : Closed (pairs t) ps → changed ≡ true → (pairs″ : List ℕ) → pairs″ ≡ settled pairs′ n → Running lim t ps n m pairs″ terms′ runs′ (rounds + 1) (d .left)
       round-next = run-next c left pairs′ terms′ runs′ (d .left) changed turned
 
 -- the classes that are live in the round after a finished one
-pub round-quiets : (lim : Limits) (t : Tables) → Valid t → (w : ℕ) (graph : List ℕ) (n : ℕ) → InRange t (pairsIn w graph n) → Closed t (pairsIn w graph n) → length (pairsIn w graph n) ≡ n
+pub round-quiets : (lim : Limits) (t : Tables) → Valid t → (w : ℕ) (graph : List ℕ) (n : ℕ) → InRange t (pairsIn w graph n) → Closed (pairs t) (pairsIn w graph n) → length (pairsIn w graph n) ≡ n
     → (pairs terms runs : List ℕ) (c : ℕ) (pairs′ terms′ runs′ : List ℕ) (x : Round) → Relaxes lim t (pairsIn w graph n) (stateIn pairs terms runs n 0 0) (roundAt lim t (pairsIn w graph n) (stateIn pairs terms runs n 0 0) c) pairs′ terms′ runs′ x
     → (changed : Bool) (d : Budget) → x ≡ U.Finished changed d → (ll rl pairs″ ll′ rl′ : List ℕ) → Ends t w graph n pairs′ ll rl pairs″ ll′ rl′ → Quiet t (pairsIn w graph n) (qualitiesIn pairs″ 0 n) ll′ rl′
 round-quiets lim t v w graph n i closed many pairs terms runs c pairs′ terms′ runs′ x Y changed d e ll rl pairs″ ll′ rl′ Z =

@@ -43,7 +43,7 @@ linesIn terms runs w k (suc n) = lineIn terms runs w k ++ linesIn terms runs w (
 
 -- what is reported of a run whose pool the buffers hold
 abbrev pub outcomeOf : Report → List ℕ → List ℕ → ℕ → Outcome
-outcomeOf f terms runs root = record { complete = f .complete; pairs = f .pairs; rounds = f .rounds; quality = (f .size, f .mass); pool = poolOf terms runs; root = root }
+outcomeOf f terms runs root = record { complete = f .complete; nodes = f .pairs; rounds = f .rounds; quality = (f .size, f .mass); pool = poolOf terms runs; root = root }
 
 abbrev pub statusBytes : Bool → List ℕ
 statusBytes complete = pick complete (text "complete") (text "partial")
