@@ -8,13 +8,17 @@ use native.Mathlib.Omega.{arith}
 use lib.Dec.{eqb}
 use lib.ListN.{length, take, drop, length-take}
 use lib.Seq.{take-at}
-use Rattle.spec.specs.Bytes.{Two, Limits, pick}
+use Rattle.spec.specs.Bytes.{each, Two, Limits, pick}
 use Rattle.spec.specs.Image.{Tables}
 use Rattle.spec.specs.Transport.{solveCells}
-use Rattle.spec.specs.Action.{TransportAction, transports, joins, cellPairs}
+use Rattle.spec.specs.Action.{TransportAction, structural, transports, joins, cellPairs}
 use Rattle.spec.specs.Meaning.{In, here, there}
-use Rattle.spec.specs.Round.{better, ofPlan, act, Turn, offerPlan, offerTransports, turnOf, planRuns}
+use Rattle.spec.specs.System as system
+use Rattle.spec.specs.System.{offerAll}
+use Rattle.spec.specs.Pairs.{ofSolved, solvedPlans, offersOf, pairs}
+use Rattle.spec.specs.Round.{better, ofAction, ofPlan, stay, act, Turn, turnOf, planRuns}
 use Rattle.laws.specs.Buffers.{over}
+use Rattle.steps.specs.Turn.{all-append}
 use Rattle.lgg.specs.TurnBounds.{turn-small}
 use Rattle.lgg.specs.Cells.{CellsFit}
 use Rattle.arrays.specs.Arrays.{Scratch}
@@ -68,8 +72,8 @@ module _ (k : ℕ) (t : Tables) (q : Two → Two) (of : Two → ℕ) where
         few = c .few;
       }
 
-  agrees-plan : (a : TransportAction) (z : Option (List ℕ)) (list : List ℕ) (b : Best) (w : Turn) → length (cellPairs (a .sides)) ≤ k → Agrees k t of list b w → Agrees k t of (listAfter q of a z b list) (bestAfter q of a z b) (offerPlan q a z w)
-  unfolding offerPlan
+  agrees-plan : (a : TransportAction) (z : Option (List ℕ)) (list : List ℕ) (b : Best) (w : Turn) → length (cellPairs (a .sides)) ≤ k → Agrees k t of list b w → Agrees k t of (listAfter q of a z b list) (bestAfter q of a z b) (offerAll (pairs t) q (ofSolved a z) w)
+  unfolding offerAll
   agrees-plan a none list b w f A = A
   agrees-plan a (some x) list b w f A =
       let e : better (qualityAt q of a x) (b .size, b .mass) ≡ better (qualityAt q of a x) (w .quality) = ap (better (qualityAt q of a x)) (A .quality) in
@@ -89,12 +93,13 @@ module _ (k : ℕ) (t : Tables) (q : Two → Two) (of : Two → ℕ) where
       }
       step false = A
 
-  offers-agree : (l : List TransportAction) (v : Work) (w : Turn) → ((a : TransportAction) → In a l → length (cellPairs (a .sides)) ≤ k) → Agrees k t of (v .work) (v .best) w → Agrees k t of (offersIn k q of l v .work) (offersIn k q of l v .best) (offerTransports q l w)
-  unfolding offersIn offerTransports offerIn
+  offers-agree : (l : List TransportAction) (v : Work) (w : Turn) → ((a : TransportAction) → In a l → length (cellPairs (a .sides)) ≤ k) → Agrees k t of (v .work) (v .best) w → Agrees k t of (offersIn k q of l v .work) (offersIn k q of l v .best) (offerAll (pairs t) q (each (solvedPlans q) l) w)
+  unfolding offersIn offerIn offerAll each solvedPlans
   offers-agree [] v w f A = A
   offers-agree (a ∷ l) v w f A =
-      offers-agree l (offerIn k q of a v) (offerPlan q a (solveCells (problemAt q (a .sides))) w) (λ b i. f b (there i))
-      (agrees-plan a (solveCells (problemAt q (a .sides))) (laidAt k q (a .sides) (v .work)) (v .best) w (f a here) (laid-agrees (v .work) (costsAfter (problemAt q (a .sides)) (drop k (v .work))) (v .best) w A))
+      rw (all-append (pairs t) q (solvedPlans q a) (each (solvedPlans q) l) w)
+      (offers-agree l (offerIn k q of a v) (offerAll (pairs t) q (solvedPlans q a) w) (λ b i. f b (there i))
+      (agrees-plan a (solveCells (problemAt q (a .sides))) (laidAt k q (a .sides) (v .work)) (v .best) w (f a here) (laid-agrees (v .work) (costsAfter (problemAt q (a .sides)) (drop k (v .work))) (v .best) w A)))
 
   -- ---- after the structural actions
   aligned-agrees : (p : Two) (list : List ℕ) (b : Best) → Aligns t q p b → Agrees k t of list b (afterAligned t q p)
@@ -108,8 +113,10 @@ module _ (k : ℕ) (t : Tables) (q : Two → Two) (of : Two → ℕ) where
   -- "structural actions come before transport"
   pub turn-agrees : (p : Two) (v : Work) → ((a : TransportAction) → In a (transports t (p .0) (p .1)) → length (cellPairs (a .sides)) ≤ k) → Aligns t q p (v .best)
       → Agrees k t of (offersIn k q of (transports t (p .0) (p .1)) v .work) (offersIn k q of (transports t (p .0) (p .1)) v .best) (turnOf t q p)
-  unfolding turnOf afterAligned
-  turn-agrees p v f A = offers-agree (transports t (p .0) (p .1)) v (afterAligned t q p) f (aligned-agrees p (v .work) (v .best) A)
+  unfolding system.turnOf offersOf afterAligned
+  turn-agrees p v f A =
+      rw (all-append (pairs t) q (map ofAction (structural t (p .0) (p .1))) (each (solvedPlans q) (transports t (p .0) (p .1))) (record { quality = q p; choice = stay }))
+      (offers-agree (transports t (p .0) (p .1)) v (afterAligned t q p) f (aligned-agrees p (v .work) (v .best) A))
 
 -- ---- the whole turn
 module _ (lim : Limits) (t : Tables) (q : Two → Two) (of : Two → ℕ) (p : Two) where

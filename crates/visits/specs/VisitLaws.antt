@@ -10,10 +10,12 @@ use Rattle.spec.specs.Bytes.{Limits, Two, Res, ok, refused}
 use Rattle.spec.specs.Image.{Tables}
 use Rattle.spec.specs.Pool.{Interned, interned}
 use Rattle.spec.specs.System as system
+use Rattle.spec.specs.Pairs as Q
 use Rattle.spec.specs.Round.{Turn, changes, choiceTerm}
 use Rattle.laws.specs.Valid.{Valid}
 use Rattle.laws.specs.BestMembers.{IsPair}
 use Rattle.readings.specs.ReadingsWithin.{joins-within}
+use Rattle.readings.specs.Stands.{Fits, pair-keeps}
 use Rattle.lgg.specs.TurnPlaces.{choice-joins}
 use Rattle.steps.specs.Standing.{choice-grows}
 use Rattle.arrays.specs.Arrays.{given, numberIn, qualityIn, termIn, TermsBelow}
@@ -58,7 +60,7 @@ module _ (lim : Limits) (t : Tables) (w : ℕ) (graph pairs : List ℕ) (p : Two
         let within : (y : Two) → IsPair t y → termIn w graph pairs y < length (poolOf terms runs) =
         λ y i. omega (arith, held (y .0 * w + y .1) (place-lt w (y .0) (y .1) (omega (arith, i .0)) (omega (arith, i .1))), pool-length terms runs) in
         let q : IsPair t p = (omega arith, omega arith) in
-        let G = choice-grows lim t (termIn w graph pairs) (poolOf terms runs) (termIn w graph pairs p) (turnIn t w graph pairs p .choice) a (h .valid) (within p q)
+        let G = choice-grows (Q.pairs t) (Q.making lim t) (IsPair t) Fits (pair-keeps lim t v) (termIn w graph pairs) (poolOf terms runs) (termIn w graph pairs p) (turnIn t w graph pairs p .choice) a (h .valid) (within p q)
         (λ b z y i. within y (joins-within t v p q y (choice-joins t (qualityIn w graph pairs) p b z y i))) e in
         omega (arith, ap (λ (z : Turned). z .term) f, G .within, ap length (X .pool ∙ ap (poolAfter (poolOf terms runs)) e), pool-length terms′ runs′, X .holds .few)
 
