@@ -60,7 +60,7 @@ module _ (lim : Limits) (t : Tables) (w : ℕ) (graph pairs : List ℕ) (p : Two
         let within : (y : Two) → IsPair t y → termIn w graph pairs y < length (poolOf terms runs) =
         λ y i. omega (arith, held (y .0 * w + y .1) (place-lt w (y .0) (y .1) (omega (arith, i .0)) (omega (arith, i .1))), pool-length terms runs) in
         let q : IsPair t p = (omega arith, omega arith) in
-        let G = choice-grows (Q.pairs t) (Q.making lim t) (IsPair t) Fits (pair-keeps lim t v) (termIn w graph pairs) (poolOf terms runs) (termIn w graph pairs p) (turnIn t w graph pairs p .choice) a (h .valid) (within p q)
+        let G = choice-grows (Q.pairs t) (Q.making lim t) Fits (pair-keeps lim t) (termIn w graph pairs) (poolOf terms runs) (termIn w graph pairs p) (turnIn t w graph pairs p .choice) a (h .valid) (within p q)
         (λ b z y i. within y (joins-within t v p q y (choice-joins t (qualityIn w graph pairs) p b z y i))) e in
         omega (arith, ap (λ (z : Turned). z .term) f, G .within, ap length (X .pool ∙ ap (poolAfter (poolOf terms runs)) e), pool-length terms′ runs′, X .holds .few)
 

@@ -68,7 +68,7 @@ relax-all-requires c κs =
     let b = c .before .before .before .before .before .before .before .before .before .before .before .before .before .before .before .before .before .before .before in
     let a = b .args in
     let l = c .before .before .before .before .before .before .before .before .before .before .before .loop in
-    (b .pre .0, b .pre .1, b .pre .2, l .inv .6 .long, scratch-kept (b .pre .5) (l .inv .1) (l .inv .2), l .inv .6 .holds, rooms-same (l .inv .3) (l .inv .4) (b .pre .7), l .inv .6 .within, standing-any (tablesOf (a .s .now)) (pairsIn (a .im .classes) (a .graph .now) (a .n)) (l .pairs) (l .terms) (l .runs) (a .n) (l .rounds) (l .bud .left) 0 0 (l .inv .6 .standing), l .inv .7, l .inv .8)
+    (b .pre .0, b .pre .1, b .pre .2, l .inv .6 .long, scratch-kept (b .pre .5) (l .inv .1) (l .inv .2), l .inv .6 .holds, rooms-same (l .inv .3) (l .inv .4) (b .pre .7), l .inv .6 .within, standing-any (pairsIn (a .im .classes) (a .graph .now) (a .n)) (l .pairs) (l .terms) (l .runs) (a .n) (l .rounds) (l .bud .left) 0 0 (l .inv .6 .standing), l .inv .7, l .inv .8)
 
 after-round-requires : tie.Need-after-round-requires Inv-loop μ-loop
 after-round-requires c κs = omega (arith, c .before .before .before .before .before .before .before .before .before .before .before .before .before .before .before .before .before .before .before .before .before .before .before .loop .inv .6 .long, c .before .before .before .before .before .before .before .before .before .before .before .relax-all .kept, c .before .before .before .before .before .before .before .before .before .before .before .before .before .before .before .before .before .before .before .before .before .before .before .before .before .before .before .before .before .before .before .pre .2 .some)
