@@ -13,7 +13,7 @@ use Rattle.spec.specs.Run.{documentLimits}
 use Rattle.spec.specs.Merge.{mergeUnder, mergeOf, outputAfter}
 use Rattle.laws.specs.Tests.{both-true}
 use Rattle.laws.specs.Results.{refused-ok, refused-inj}
-use Rattle.lgg.specs.Limits.{NoLess}
+use Rattle.pools.specs.Refused.{NoLess}
 use Rattle.query.specs.Settings.{limitsOf}
 use Rattle.query.specs.declared.Limits.{Limits}
 use Rattle.query.specs.declared.Query.{Query}

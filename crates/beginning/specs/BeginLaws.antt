@@ -6,10 +6,11 @@ use native.Mathlib.Omega.{arith}
 use lib.ListN.{length, replicate}
 use Rattle.spec.specs.Bytes.{Two, Limits, Res, ok, refused, Checked, passed, cutShort}
 use Rattle.spec.specs.Image.{Tables}
+use Rattle.spec.specs.Pairs as P
 use Rattle.spec.specs.Graph.{build}
 use Rattle.spec.specs.Pool.{Pool, Interned, startingTerm}
 use Rattle.laws.specs.Results.{refused-ok}
-use Rattle.steps.specs.Refusals.{start-only}
+use Rattle.pools.specs.Refused.{start-only}
 use Rattle.steps.specs.Graph.{build-refused}
 use Rattle.budget.specs.Budget.{budgetOf}
 use Rattle.budget.specs.declared.Budget.{Budget}
@@ -77,7 +78,7 @@ module _ (lim : Limits) (t : Tables) (p : Two) (budget w : ℕ) (graph ts us bes
         full : (a : Interned) → B.Stopped 12 ≡ begunOf (ok a) (build lim t p budget)
         full a =
             let (n, q) = built-full (build lim t p budget) (Y .answer) in
-            let k : n ≡ 12 = build-refused lim t p budget n q .0 in
+            let k : n ≡ 12 = build-refused (P.pairs t) (lim .pairs) p budget n q .0 in
             rw (q, k) refl
 
     pub begin-cut : Builds w (build lim t p budget) graph graph′ G.Cut → Begins lim t p budget w graph ts us graph′ ts′ us′ (B.Cut x)

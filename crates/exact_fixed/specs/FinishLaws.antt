@@ -7,6 +7,7 @@ use lib.ListN.{length, replicate}
 use Rattle.spec.specs.Bytes.{Two, Limits, Res, ok, refused, Checked, passed, cutShort}
 use Rattle.spec.specs.Image.{Tables}
 use Rattle.spec.specs.System as system
+use Rattle.spec.specs.Pairs as P
 use Rattle.spec.specs.Graph.{build}
 use Rattle.spec.specs.Pool.{Interned, interned, startingTerm}
 use Rattle.spec.specs.Run.{startingTerms, runOf, afterBuilding}
@@ -15,7 +16,7 @@ use Rattle.laws.specs.BestMembers.{IsPair}
 use Rattle.pools.specs.Pool.{empty-valid}
 use Rattle.pools.specs.PoolIntern.{extends-refl}
 use Rattle.pools.specs.PoolLimits.{starting-within}
-use Rattle.steps.specs.Standing.{starting-grows}
+use Rattle.readings.specs.Stands.{pair-begins}
 use Rattle.steps.specs.RunFrom.{run-no-root, run-no-graph, run-cut-building}
 use Rattle.budget.specs.Budget.{budgetOf}
 use Rattle.budget.specs.declared.Budget.{Budget}
@@ -65,8 +66,8 @@ module _ (lim : Limits) (t : Tables) (p : Two) (budget w : ℕ) (graph ts us : L
   finish-stopped k b s Y = go (startingTerm lim t [] p) refl (build lim t p budget) refl (sym s ∙ Y .answer)
     where
       go : (x : Res Interned) → startingTerm lim t [] p ≡ x → (g : Res (Checked (List Two))) → build lim t p budget ≡ g → N.Stopped k ≡ begunOf x g → runOf lim t p budget ≡ refused k
-      go (refused n) e g f q = let z : n ≡ k = cc in run-no-root lim t p budget n e ∙ ap (λ (i : ℕ). refused i) z
-      go (ok a) e (refused n) f q = let z : n ≡ k = cc in run-no-graph lim t p budget a e n f ∙ ap (λ (i : ℕ). refused i) z
+      go (refused n) e g f q = let z : n ≡ k = cc in run-no-root (P.pairs t) (P.making lim t) p budget n e ∙ ap (λ (i : ℕ). refused i) z
+      go (ok a) e (refused n) f q = let z : n ≡ k = cc in run-no-graph (P.pairs t) (P.making lim t) p budget a e n f ∙ ap (λ (i : ℕ). refused i) z
       go (ok a) e (ok cutShort) f q = absurd (let z : _≡_ {A = ℕ} 0 1 = cc in omega arith)
       go (ok a) e (ok (passed ps c)) f q = absurd (let z : _≡_ {A = ℕ} 0 1 = cc in omega arith)
 
@@ -78,15 +79,15 @@ module _ (lim : Limits) (t : Tables) (p : Two) (budget w : ℕ) (graph ts us : L
     pub finish-cut : 2 * lim .terms ≤ length graph → (root : ℕ) (b : Begun) → b ≡ N.Cut root → Ready lim t p budget w b graph ts us → (o : Outcome) → o ≡ startedIn t p 1 root → RanTo (runOf lim t p budget) graph ts us (R.Done o)
     finish-cut room root b s X o q =
         let (a, e, f, g) = cut-says (startingTerm lim t [] p) (build lim t p budget) root (sym s ∙ X .answer) in
-        let W = starting-grows lim t v [] p a i empty-valid e in
-        let z = ran-started t p (runOf lim t p budget) a 1 graph ts us (run-cut-building lim t p budget a e g) (W .valid) (W .within) (X .holds a e) (rw (X .pool a e) (extends-refl (a .pool))) (omega (arith, rooted a e (X .pool a e))) in
+        let W = pair-begins lim t v .start [] p a i empty-valid e in
+        let z = ran-started t p (runOf lim t p budget) a 1 graph ts us (run-cut-building (P.pairs t) (P.making lim t) p budget a e g) (W .valid) (W .within) (X .holds a e) (rw (X .pool a e) (extends-refl (a .pool))) (omega (arith, rooted a e (X .pool a e))) in
         rw q (rw f at z)
 
     module _ (root n : ℕ) (b : Budget) (B : Begun) (s : B ≡ N.All root n b) (X : Ready lim t p budget w B graph ts us) where
       pub all-root : root < countIn ts
       all-root =
           let (a, ps, c, e, f, g, h, k) = all-says (startingTerm lim t [] p) (build lim t p budget) root n b (sym s ∙ X .answer) in
-          let W = starting-grows lim t v [] p a i empty-valid e in
+          let W = pair-begins lim t v .start [] p a i empty-valid e in
           omega (arith, f, W .within, ap length (X .pool a e), pool-length ts us)
 
       pub all-holds : Holds ts us

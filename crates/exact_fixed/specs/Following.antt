@@ -5,7 +5,8 @@ use Prim.Native.Nat.{ℕ, _≤_}
 use Rattle.spec.specs.Bytes.{Limits, Res}
 use Rattle.spec.specs.Image.{Tables}
 use Rattle.spec.specs.Run.{Outcome}
-use Rattle.steps.specs.RoundsFrom.{roundsOf}
+use Rattle.lgg.specs.Pairs.{roundsOf}
+use Rattle.readings.specs.Stands.{Fits}
 use Rattle.steps.specs.Standing.{Standing}
 use Rattle.arrays.specs.Arrays.{pairsIn}
 use Rattle.terms.specs.Buffers.{countIn}
@@ -24,7 +25,7 @@ pub record ToRounds (lim : Limits) (t : Tables) (m : Res Outcome) (w n : ℕ) (g
   pub graphs : Graphs lim t w (pairsIn w graph n) n graph
   pub holds : Holds terms runs
   pub within : countIn terms ≤ lim .terms
-  pub stands : Standing t (pairsIn w graph n) (stateIn pairs terms runs n 0 c)
+  pub stands : Standing Fits (pairsIn w graph n) (stateIn pairs terms runs n 0 c)
   pub is : m ≡ roundsOf lim t (pairsIn w graph n) (stateIn pairs terms runs n 0 c)
 
 abbrev pub Follows : Limits → Tables → Res Outcome → ℕ → List ℕ → List ℕ → List ℕ → List ℕ → Next → Type 0

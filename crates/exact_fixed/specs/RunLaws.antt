@@ -8,14 +8,17 @@ use Rattle.spec.specs.Bytes.{Two, Limits, Res, ok, refused, _>>=_, Checked, pas
 use Rattle.spec.specs.Image.{Tables}
 use Rattle.spec.specs.Pool.{Pool, Interned, interned}
 use Rattle.spec.specs.System as system
+use Rattle.spec.specs.Pairs as P
 use Rattle.spec.specs.Round.{Terms}
 use Rattle.spec.specs.Run as run
-use Rattle.spec.specs.Run.{startingTerms, afterStarting, afterBuilding}
+use Rattle.spec.specs.Run.{startingTerms, startState, afterStarting, afterBuilding}
 use Rattle.laws.specs.Valid.{Valid}
 use Rattle.pools.specs.PoolIntern.{Extends, extends-within}
 use Rattle.pools.specs.Pool.{PoolValid}
-use Rattle.steps.specs.RoundsFrom.{roundsOf}
-use Rattle.steps.specs.Standing.{Standing, startState, standing-started, listing-started}
+use Rattle.lgg.specs.Pairs.{roundsOf}
+use Rattle.laws.specs.BestMembers.{IsPair}
+use Rattle.readings.specs.Stands.{Fits, pair-begins}
+use Rattle.steps.specs.Standing.{Standing, standing-started, listing-started}
 use Rattle.arrays.specs.Arrays.{termsIn}
 use Rattle.terms.specs.Buffers.{poolOf, countIn}
 use Rattle.terms.specs.PoolLaws.{pool-length}
@@ -36,7 +39,7 @@ pub ran-started : (t : Tables) (p : Two) (m : Res run.Outcome) (root : Interned)
 ran-started t p m root n marks terms runs e v w h g k = (
   run.started t p root n,
   e,
-  listing-started t p root n (poolOf terms runs) v w (h .valid) g,
+  listing-started (P.pairs t) p root n (poolOf terms runs) v w (h .valid) g,
   h,
   omega (arith, extends-within g (root .term) w, pool-length terms runs),
   k,
@@ -62,8 +65,8 @@ module _ (lim : Limits) (t : Tables) (p : Two) (ps : List Two) (n : ℕ) (many :
     same : startState t ps (record { pool = poolOf terms runs; terms = termsIn pairs 0 (length ps) }) c ≡ stateIn pairs terms runs n 0 c
     same = rw (← many) (λ i. record { pool = poolOf terms runs; qualities = sym (start-qualities lim t ps whole from pairs terms runs c X) i; terms = termsIn pairs 0 (length ps); rounds = 0; budget = c })
 
-    built-stands : Valid t → InRange t ps → Standing t ps (stateIn pairs terms runs n 0 c)
-    built-stands v i = rw (← same) (standing-started lim t v ps i from (termsIn pairs 0 (length ps)) (poolOf terms runs) c (X .midway))
+    built-stands : Valid t → InRange t ps → Standing Fits ps (stateIn pairs terms runs n 0 c)
+    built-stands v i = rw (← same) (standing-started (P.pairs t) (P.making lim t) (IsPair t) Fits (pair-begins lim t v) ps i from (termsIn pairs 0 (length ps)) (poolOf terms runs) c (X .midway))
 
     built-rounds : built ≡ roundsOf lim t ps (stateIn pairs terms runs n 0 c)
     unfolding system.afterStarting
@@ -90,7 +93,7 @@ module _ (lim : Limits) (t : Tables) (p : Two) (ps : List Two) (n : ℕ) (many :
       pub starts-within : countIn terms ≤ lim .terms
       starts-within = begun .within
 
-      pub starts-stands : Valid t → InRange t ps → Standing t ps (stateIn pairs terms runs n 0 (c .left))
+      pub starts-stands : Valid t → InRange t ps → Standing Fits ps (stateIn pairs terms runs n 0 (c .left))
       starts-stands = built-stands pairs terms runs (c .left) begun
 
       pub starts-rounds : built ≡ roundsOf lim t ps (stateIn pairs terms runs n 0 (c .left))

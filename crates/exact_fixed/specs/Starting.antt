@@ -9,15 +9,17 @@ use lib.Seq.{take-suc, take-all}
 use Rattle.spec.specs.Bytes.{Two, Limits, Res, ok, refused, Checked, passed, cutShort}
 use Rattle.spec.specs.Image.{Tables}
 use Rattle.spec.specs.Pool.{Pool, Interned, startingTerm}
+use Rattle.spec.specs.Pairs as P
 use Rattle.spec.specs.Round.{startingQuality, Terms}
 use Rattle.spec.specs.Run.{startingTerms}
 use Rattle.laws.specs.Valid.{Valid}
-use Rattle.steps.specs.Refusals.{start-only}
+use Rattle.pools.specs.Refused.{start-only}
 use Rattle.laws.specs.BestMembers.{IsPair}
 use Rattle.pools.specs.PoolIntern.{Extends}
 use Rattle.pools.specs.PoolLimits.{starting-within}
 use Rattle.steps.specs.TurnsFrom.{StartingAt, starting-begin, starting-cut, starting-turn, starting-refused, starting-end}
-use Rattle.steps.specs.Standing.{Midway, midway-begin, starting-midway, starting-grows}
+use Rattle.steps.specs.Standing.{Midway, midway-begin, starting-midway}
+use Rattle.readings.specs.Stands.{Fits, pair-begins}
 use Rattle.arrays.specs.Arrays.{qualitiesFrom, termsFrom, qualitiesIn, termsIn, given}
 use Rattle.arrays.specs.ArrayLaws.{qualities-more, terms-more}
 use Rattle.terms.specs.Buffers.{poolOf, countIn}
@@ -50,7 +52,7 @@ BeginsOne lim t p k pool pairs pairs′ terms′ runs′ best′ O.Full = (n : �
 -- ---- all pairs
 -- the first k pairs have theirs, and b checks are left; `whole` is what all of it comes to, `from` the pool before it
 pub record Starting (lim : Limits) (t : Tables) (ps : List Two) (whole : Res (Checked Terms)) (from : Pool) (pairs terms runs : List ℕ) (k b : ℕ) : Type 0 where
-  pub sofar : StartingAt lim t ps whole k (termsIn pairs 0 k) b (poolOf terms runs)
+  pub sofar : StartingAt (P.making lim t) ps (0, 0) whole k (termsIn pairs 0 k) b (poolOf terms runs)
   pub midway : Midway from k (termsIn pairs 0 k) (poolOf terms runs)
   pub qualities : qualitiesIn pairs 0 k ≡ map (startingQuality t) (take k ps)
   pub holds : Holds terms runs
@@ -70,7 +72,7 @@ StartsAll lim t ps whole from pairs terms runs S.Full = whole ≡ refused 13
 
 pub starting-none : (lim : Limits) (t : Tables) (ps : List Two) (b : ℕ) (pairs terms runs : List ℕ) → Holds terms runs → countIn terms ≤ lim .terms → Starting lim t ps (startingTerms lim t ps b (poolOf terms runs)) (poolOf terms runs) pairs terms runs 0 b
 unfolding qualitiesFrom termsFrom
-starting-none lim t ps b pairs terms runs h w = record { sofar = starting-begin lim t ps b (poolOf terms runs); midway = midway-begin (poolOf terms runs) (h .valid); qualities = refl; holds = h; within = w }
+starting-none lim t ps b pairs terms runs h w = record { sofar = starting-begin (P.making lim t) ps (0, 0) b (poolOf terms runs); midway = midway-begin (poolOf terms runs) (h .valid); qualities = refl; holds = h; within = w }
 
 map-snoc : (f : Two → Two) (l : List Two) (x : Two) → map f (l ++ (x ∷ [])) ≡ map f l ++ (f x ∷ [])
 map-snoc f [] x = refl
@@ -78,11 +80,11 @@ map-snoc f (y ∷ l) x = ap (λ (z : List Two). f y ∷ z) (map-snoc f l x)
 
 module _ (lim : Limits) (t : Tables) (ps : List Two) (whole : Res (Checked Terms)) (from : Pool) (pairs terms runs : List ℕ) (k b : ℕ) (h : k < length ps) (X : Starting lim t ps whole from pairs terms runs k b) where
   pub start-cut : b ≡ 0 → CutStarting lim whole from terms runs
-  start-cut e = record { is = starting-cut lim t ps whole k (termsIn pairs 0 k) b (poolOf terms runs) h e (X .sofar); holds = X .holds; grown = X .midway .grown; within = X .within }
+  start-cut e = record { is = starting-cut (P.making lim t) ps (0, 0) whole k (termsIn pairs 0 k) b (poolOf terms runs) h e (X .sofar); holds = X .holds; grown = X .midway .grown; within = X .within }
 
   pub start-full : (c n : ℕ) → b ≡ c + 1 → startingTerm lim t (poolOf terms runs) (getD ps k (0, 0)) ≡ refused n → whole ≡ refused 13
   start-full c n e q =
-      starting-refused lim t ps whole k (termsIn pairs 0 k) b c (poolOf terms runs) n h e (X .sofar) q
+      starting-refused (P.making lim t) ps (0, 0) whole k (termsIn pairs 0 k) b c (poolOf terms runs) n h e (X .sofar) q
       ∙ ap (λ (z : ℕ). refused z) (start-only lim t (poolOf terms runs) (getD ps k (0, 0)) n q)
 
   pub start-more : Valid t → InRange t ps → 6 * length ps ≤ length pairs → (c : ℕ) (pairs′ terms′ runs′ best′ : List ℕ) → b ≡ c + 1
@@ -93,8 +95,8 @@ module _ (lim : Limits) (t : Tables) (ps : List Two) (whole : Res (Checked Terms
       let a = B .made in
       let named : termsIn pairs′ 0 (k + 1) ≡ termsIn pairs 0 k ++ (a .term ∷ []) = rw (add-one k, B .numbers) (terms-more pairs 0 k (6 * k) (q .0) (q .1) (a .term) (omega arith) (omega arith)) in
       record {
-        sofar = rw (named, B .pool) (starting-turn lim t ps whole k (termsIn pairs 0 k) b c (poolOf terms runs) a h e (X .sofar) (B .is));
-        midway = rw (named, B .pool) (starting-midway lim t v ps ranged from k (termsIn pairs 0 k) (poolOf terms runs) a h (X .midway) (B .is));
+        sofar = rw (named, B .pool) (starting-turn (P.making lim t) ps (0, 0) whole k (termsIn pairs 0 k) b c (poolOf terms runs) a h e (X .sofar) (B .is));
+        midway = rw (named, B .pool) (starting-midway (P.pairs t) (P.making lim t) (IsPair t) Fits (pair-begins lim t v) ps ranged from k (termsIn pairs 0 k) (poolOf terms runs) a h (X .midway) (B .is));
         qualities = rw (add-one k, B .numbers) (qualities-more pairs 0 k (6 * k) (q .0) (q .1) (a .term) (omega arith) (omega arith)
             ∙ ap (λ (l : List Two). l ++ (q ∷ [])) (X .qualities)
             ∙ sym (map-snoc (startingQuality t) (take k ps) p)
@@ -106,7 +108,7 @@ module _ (lim : Limits) (t : Tables) (ps : List Two) (whole : Res (Checked Terms
 -- all pairs have theirs
 module _ (lim : Limits) (t : Tables) (ps : List Two) (whole : Res (Checked Terms)) (from : Pool) (pairs terms runs : List ℕ) (b : ℕ) (X : Starting lim t ps whole from pairs terms runs (length ps) b) where
   pub start-done : whole ≡ ok (passed (record { pool = poolOf terms runs; terms = termsIn pairs 0 (length ps) }) b)
-  start-done = starting-end lim t ps whole (length ps) (termsIn pairs 0 (length ps)) b (poolOf terms runs) (omega arith) (X .sofar)
+  start-done = starting-end (P.making lim t) ps (0, 0) whole (length ps) (termsIn pairs 0 (length ps)) b (poolOf terms runs) (omega arith) (X .sofar)
 
   pub start-qualities : qualitiesIn pairs 0 (length ps) ≡ map (startingQuality t) ps
   start-qualities = X .qualities ∙ ap (map (startingQuality t)) (take-all (length ps) ps (omega arith))
@@ -124,7 +126,7 @@ module _ (lim : Limits) (t : Tables) (v : Valid t) (c : Two) (ranged : IsPair t 
   one-small =
       let (x, e, f) = made in
       let g = X .grows x e in
-      let w = starting-grows lim t v (poolOf terms runs) c x ranged (h .valid) e .within in
+      let w = pair-begins lim t v .start (poolOf terms runs) c x ranged (h .valid) e .within in
       omega (arith, f, ap length (g .pool), pool-length terms′ runs′, g .holds .few)
 
   pub one-has : (k size mass term : ℕ) (pairs pairs′ : List ℕ) → size ≡ startingQuality t c .0 → mass ≡ startingQuality t c .1 → term ≡ a → pairs′ ≡ given pairs (6 * k) size mass term → HasStarted lim t c k (poolOf terms runs) pairs pairs′ terms′ runs′ best′

@@ -7,6 +7,9 @@ use Prim.Native.String.{String}
 use lib.ListN.{replicate}
 use Rattle.spec.specs.Bytes.{text, Two, upFrom, ok, refused, cutShort}
 use Rattle.spec.specs.Image.{tablesOf}
+use Rattle.spec.specs.Action.{joins}
+use Rattle.spec.specs.System as system
+use Rattle.spec.specs.Pairs.{actionTerm}
 use Rattle.spec.specs.Graph.{enter, buildFrom}
 use Rattle.spec.specs.Pool.{Pool, litNode, intern, interned}
 use Rattle.spec.specs.Round.{Turn, act, turnsTerms}
@@ -132,11 +135,11 @@ unfolding upFrom
 pairs n = map (λ i. (i, 0)) (upFrom 0 n)
 
 pair-4096 : enter documentLimits (pairs 4095) (5, 1) ≡ ok (pairs 4095 ++ ((5, 1) ∷ []))
-unfolding enter pairs
+unfolding system.enter pairs
 pair-4096 = refl
 
 pair-4097 : enter documentLimits (pairs 4096) (5, 1) ≡ refused 12
-unfolding enter pairs
+unfolding system.enter pairs
 pair-4097 = refl
 
 term-16384 : intern documentLimits (map (λ i. litNode 0 i) (upFrom 0 16383)) (litNode 1 0) ≡ ok (interned (map (λ i. litNode 0 i) (upFrom 0 16383) ++ (litNode 1 0 ∷ [])) 16383)
@@ -153,11 +156,11 @@ imageE = hex "000000790100020004000400040900ffff0200ffff000000010000000000010001
 
 -- 4,096 pairs of which (2, 3) joins a new one: 12 is met only where the check of that pair passes
 cut-before-12 : buildFrom documentLimits 0 (tablesOf imageE) ((2, 3) ∷ map (λ i. (i, 9)) (upFrom 0 4095)) 0 ≡ ok cutShort
-unfolding buildFrom tablesOf imageE upFrom
+unfolding system.buildFrom tablesOf imageE upFrom
 cut-before-12 = refl
 
 met-12 : buildFrom documentLimits 1 (tablesOf imageE) ((2, 3) ∷ map (λ i. (i, 9)) (upFrom 0 4095)) 0 ≡ refused 12
-unfolding buildFrom tablesOf imageE upFrom
+unfolding system.buildFrom joins tablesOf imageE upFrom
 met-12 = refl
 
 -- a full pool and a turn that would enter a term: 13 is met only where the check of that turn passes
@@ -169,11 +172,11 @@ abbrev turn : Turn
 turn = record { quality = (1, 0); choice = act (record { op = 1; places = []; counts = [] }) }
 
 cut-before-13 : turnsTerms documentLimits (tablesOf imageE) (λ p. 0) ((2, 3) ∷ []) (turn ∷ []) 0 fullPool ≡ ok cutShort
-unfolding turnsTerms
+unfolding system.turnsTerms
 cut-before-13 = refl
 
 met-13 : turnsTerms documentLimits (tablesOf imageE) (λ p. 0) ((2, 3) ∷ []) (turn ∷ []) 1 fullPool ≡ refused 13
-unfolding turnsTerms tablesOf imageE fullPool
+unfolding system.turnsTerms actionTerm tablesOf imageE fullPool
 met-13 = refl
 
 -- a budget of which two bytes are not enough

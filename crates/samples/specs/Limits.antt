@@ -5,6 +5,7 @@ use mathlib.Core.List.{List, [], _∷_, _++_, map}
 use Prim.Native.Nat.{ℕ}
 use lib.ListN.{replicate}
 use Rattle.spec.specs.Bytes.{Limits, text, Two, upFrom, ok, refused, workAfter}
+use Rattle.spec.specs.System as system
 use Rattle.spec.specs.Graph.{enter}
 use Rattle.spec.specs.Pool.{Pool, Node, opNode, litNode, joinRuns, intern, interned}
 use Rattle.spec.specs.Transport.{Problem, Cell, cost, solveTransport, planAfter}
@@ -48,11 +49,11 @@ unfolding upFrom
 manyPairs = map (λ i. (i, 0)) (upFrom 0 4096)
 
 refused-12 : enter documentLimits manyPairs (5, 1) ≡ refused 12
-unfolding enter manyPairs
+unfolding system.enter manyPairs
 refused-12 = refl
 
 there-already : enter documentLimits manyPairs (4095, 0) ≡ ok manyPairs
-unfolding enter manyPairs
+unfolding system.enter manyPairs
 there-already = refl
 
 -- ---- 13: 16,384 terms are held, and 65,536 runs
