@@ -10,7 +10,7 @@ use lib.ListN.{length, replicate}
 use borrow.Author.Tests.{le-leb, leb-true}
 use Rattle.spec.specs.Bytes.{both, workAfter, Limits, Res, ok, refused, _>>=_, rule}
 use Rattle.spec.specs.Image.{Tables, imageOf, tablesOf}
-use Rattle.spec.specs.Pairs as P
+use Rattle.spec.specs.Pairs.{pairs, making}
 use Rattle.spec.specs.Run.{documentLimits, Outcome, runOf}
 use Rattle.spec.specs.Listing.{listingOf}
 use Rattle.spec.specs.Merge.{mergeUnder, mergeOf, outputAfter}
@@ -98,7 +98,7 @@ module _ (lim : Limits) (m : ℕ) (s : List ℕ) (q : Query) where
       go : (r : Res Outcome) → runOf lim (tablesOf s) (askedOf q) (q .budget) ≡ r → X.listedOf r room ≡ refused k → k ≢ 10
       go (refused n) y z =
           let i : n ≡ k = refused-inj z in
-          elim (run-refused (P.pairs (tablesOf s)) (P.making lim (tablesOf s)) (refuses13 lim (tablesOf s)) (askedOf q) (q .budget) n y) [ inl x ↦ let v = x .0 in λ w. absurd (omega arith) | inr x ↦ λ w. absurd (omega arith) ]
+          elim (run-refused (pairs (tablesOf s)) (making lim (tablesOf s)) (refuses13 lim (tablesOf s)) (askedOf q) (q .budget) n y) [ inl x ↦ let v = x .0 in λ w. absurd (omega arith) | inr x ↦ λ w. absurd (omega arith) ]
       go (ok o) y z = by (leb (length (listingOf o)) room) refl z
         where
           by : (x : Bool) → leb (length (listingOf o)) room ≡ x → X.listedOf (ok o) room ≡ refused k → k ≢ 10
