@@ -120,5 +120,5 @@ module _ (left : List ℕ) (r : ℕ) (right : List ℕ) (c : ℕ) (S : Sides lef
     -- a cell's pair is of classes that the index has
     pub cell-within : {w : ℕ} → Joined w (sidesOf left r right c) → (a b : ℕ) → with a b ≡ getD (cellPairs (sidesOf left r right c)) k (0, 0) → (a < w) × (b < w)
     cell-within J a b e =
-        let (x, y) = J (getD (cellPairs (sidesOf left r right c)) k (0, 0)) (get-in (cellPairs (sidesOf left r right c)) k (omega (arith, cell-count))) in
+        let (x, y) = J (getD (cellPairs (sidesOf left r right c)) k (0, 0)) (get-in (0, 0) (cellPairs (sidesOf left r right c)) k (omega (arith, cell-count))) in
         (omega (arith, x, ap (λ (t : Two). t .0) e), omega (arith, y, ap (λ (t : Two). t .1) e))

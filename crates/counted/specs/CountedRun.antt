@@ -19,7 +19,8 @@ use Rattle.spec.specs.Run.{documentLimits, State, Outcome, outcome, startingTer
 use Rattle.spec.specs.Meaning.{In, here, there, Term, treeAt}
 use Rattle.laws.specs.Tests.{clash}
 use Rattle.laws.specs.Valid.{Valid}
-use Rattle.laws.specs.Lists.{in-cons, in-nil, same-eq, same-refl}
+use Rattle.laws.specs.Lists.{in-cons, in-nil}
+use Rattle.spec.specs.Pairs.{same-eq, same-refl}
 use Rattle.laws.specs.Results.{ok-inj, refused-ok, bind-ok, bind-refused}
 use Rattle.steps.specs.Quality.{_⊏_}
 use Rattle.steps.specs.Turn.{Told, turn-told}

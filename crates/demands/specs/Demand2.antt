@@ -16,7 +16,7 @@ use Rattle.spec.specs.Pairs.{pairs, qualityOver}
 use Rattle.spec.specs.Round.{lookUp, problemOver, ofAction, ofPlan, stay, act, Turn, turnOf, turnsOf, qualitiesAfter}
 use Rattle.spec.specs.Run.{documentLimits, Outcome, runOf}
 use Rattle.spec.specs.Listing.{firstLine, listingOf}
-use Rattle.spec.specs.Meaning.{In, here, there, Plan, _⊑_, termQuality, readFirst, readSecond, treeAt, Belongs}
+use Rattle.spec.specs.Meaning.{In, here, there, Plan, _⊑_, termQuality, readFirst, readSecond, Branched, treeAt, Belongs}
 use Rattle.laws.specs.Valid.{Valid}
 use Rattle.laws.specs.Accepted as A
 use Rattle.flow.specs.Theorems.{margins, least, totals}
@@ -65,6 +65,10 @@ module _ (image : List ℕ) (left right budget : ℕ) (fit : Bool) (out out′ :
   -- ".. by the second to the right"
   pub second-reading : Belongs t (readSecond (treeAt (o .pool) (o .root))) right
   second-reading = L.readings documentLimits t valid (left, right) (accepted image left right budget fit out out′ n m .taken .asked) budget o ran .1
+
+  -- "the marked place Variants of two best terms": every marked place of the formula has two branches.
+  pub two-branches : Branched 2 (treeAt (o .pool) (o .root))
+  two-branches = L.two-branches documentLimits t valid (left, right) (accepted image left right budget fit out out′ n m .taken .asked) budget o ran
 
   -- The size and mass of o, which the first line has, are the formula's.
   pub size-and-mass : termQuality (treeAt (o .pool) (o .root)) ≡ o .quality

@@ -83,7 +83,7 @@ entered-pairs w ps g b s m =
     let i : k < length ps = omega (arith, h, unkeyed-length (entered w 0 ps g) (w * w) (length ps)) in
     unkeyed-at (entered w 0 ps g) (w * w) (length ps) k i
     ∙ ap unkey (entered-key w ps g k s m i)
-    ∙ unkey-key (getD ps k (0, 0)) (omega (arith, b, s (getD ps k (0, 0)) (get-in ps k i) .1)))
+    ∙ unkey-key (getD ps k (0, 0)) (omega (arith, b, s (getD ps k (0, 0)) (get-in (0, 0) ps k i) .1)))
 
 -- ---- numbers in the index
 -- a place's number is as it was, or it is that of a pair with this place

@@ -10,6 +10,7 @@ use lib.Dec.{eqb}
 use lib.ListN.{length, getD, length-replicate, length-append, replicate}
 use Rattle.spec.specs.Bytes.{Limits, Two, any, sameTwo, Res, ok, refused, _>>=_}
 use Rattle.spec.specs.System as system
+use Rattle.spec.specs.Pairs.{two-decides}
 use Rattle.spec.specs.Graph.{enter, enterAll}
 use Rattle.spec.specs.Meaning.{In}
 use Rattle.laws.specs.Lists.{in-left, in-right, in-append, in-cons, in-nil, is-in, in-any, get-in}
@@ -42,13 +43,13 @@ module _ {w n : ℕ} {graph : List ℕ} (g : Laid w n graph) (l r : ℕ) (s : Sm
       go (kept e f) = absurd (f (l, r) i refl)
       go (given j h e f) =
           let z : numberIn w graph (l, r) ≡ j = omega (arith, at, e) in
-          (omega (arith, z, h, many), ap (λ (k : ℕ). getD ps k (0, 0)) z ∙ place-one w (getD ps j (0, 0)) (l, r) (g .small (getD ps j (0, 0)) (get-in ps j h)) s f)
+          (omega (arith, z, h, many), ap (λ (k : ℕ). getD ps k (0, 0)) z ∙ place-one w (getD ps j (0, 0)) (l, r) (g .small (getD ps j (0, 0)) (get-in (0, 0) ps j h)) s f)
 
   unknown : (In (l, r) ps → ⊥) → false ≡ any (sameTwo (l, r)) ps
   unknown f = go (any (sameTwo (l, r)) ps) refl
     where
       go : (t : Bool) → any (sameTwo (l, r)) ps ≡ t → false ≡ any (sameTwo (l, r)) ps
-      go true e = absurd (f (is-in (l, r) ps e))
+      go true e = absurd (f (is-in two-decides (l, r) ps e))
       go false e = sym e
 
   module _ (k : ℕ) (z : k ≡ numberIn w graph (l, r)) where
@@ -77,7 +78,7 @@ module _ {w n : ℕ} {graph : List ℕ} (g : Laid w n graph) (l r : ℕ) (s : Sm
         go : (t : Bool) → eqb x y ≡ t → eqb x y ≡ any (sameTwo (l, r)) ps
         go true q =
             let d : getD ps k (0, 0) ≡ (l, r) = pair-at ∙ ap unkey (eqb-true x y q ∙ f) ∙ unkey-key (l, r) (omega (arith, s .1, g .wide)) in
-            q ∙ sym (in-any (l, r) ps (rw d at (get-in ps k (omega (arith, h, many)))))
+            q ∙ sym (in-any two-decides (l, r) ps (rw d at (get-in (0, 0) ps k (omega (arith, h, many)))))
         go false q = q ∙ unknown (λ i. eqb-false x y q (same (here-is i)))
 
 -- ---- one pair

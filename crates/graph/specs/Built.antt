@@ -8,11 +8,11 @@ use native.Mathlib.Omega.{arith}
 use lib.ListN.{length, getD, take, replicate, length-replicate, getD-replicate}
 use Rattle.spec.specs.Bytes.{Limits, Two, any, place, sameTwo, Res, ok, refused, passed, cutShort, Checked}
 use Rattle.spec.specs.Image.{Tables}
-use Rattle.spec.specs.Pairs.{pairs}
+use Rattle.spec.specs.Pairs.{two-decides, pairs}
 use Rattle.spec.specs.Graph.{build}
 use Rattle.spec.specs.Meaning.{In}
 use Rattle.laws.specs.Valid.{Valid}
-use Rattle.laws.specs.Lists.{get-in, same-refl, same-eq, Distinct, more}
+use Rattle.laws.specs.Lists.{get-in, place-at, apart-at, Distinct}
 use Rattle.laws.specs.BestMembers.{IsPair}
 use Rattle.readings.specs.ReadingsWithin.{reach-within}
 use Rattle.steps.specs.Graph.{Closed}
@@ -24,28 +24,6 @@ use Rattle.graph.specs.Building.{graphAfter}
 use Rattle.entering.specs.Growing.{AllSmall}
 use Rattle.entering.specs.EnteredLaws.{entered-length, entered-key, entered-pairs, Numbered, kept, given, numbered-at, place-one}
 
--- ---- lists without repeats
-other : (x q : Two) (l : List Two) → (In x l → ⊥) → In q l → sameTwo q x ≡ false
-other x q l n i = go (sameTwo q x) refl
-  where
-    go : (b : Bool) → sameTwo q x ≡ b → sameTwo q x ≡ false
-    go true e = absurd (n (rw (same-eq q x e) at i))
-    go false e = e
-
--- a pair stands at its own place
-pub place-at : (ps : List Two) → Distinct ps → (j : ℕ) → j < length ps → place (sameTwo (getD ps j (0, 0))) ps ≡ j
-unfolding place
-place-at [] d j h = absurd (not-suc-le-zero h)
-place-at (x ∷ ps) (more n d) zero h = rw (same-refl x, place) refl
-place-at (x ∷ ps) (more n d) (suc j) h = rw (other x (getD ps j (0, 0)) ps n (get-in ps j (omega arith)), place) (ap suc (place-at ps d j (omega arith)))
-
--- and at none before it
-pub apart-at : (ps : List Two) → Distinct ps → (j : ℕ) → j < length ps → any (sameTwo (getD ps j (0, 0))) (take j ps) ≡ false
-unfolding any
-apart-at [] d j h = absurd (not-suc-le-zero h)
-apart-at (x ∷ ps) (more n d) zero h = refl
-apart-at (x ∷ ps) (more n d) (suc j) h = rw (other x (getD ps j (0, 0)) ps n (get-in ps j (omega arith)), any) (apart-at ps d j (omega arith))
-
 -- ---- the index
 -- it has each pair's number
 pub number-of : (w : ℕ) (ps : List Two) (z : List ℕ) → Distinct ps → AllSmall w ps → w * w ≤ length z → (q : Two) → In q ps → numberIn w (entered w 0 ps z) q ≡ place (sameTwo q) ps
@@ -54,8 +32,8 @@ number-of w ps z d s m q i = go (numbered-at w 0 ps z (placeOf w q) (place-lt w 
     go : Numbered w 0 ps z (placeOf w q) → numberIn w (entered w 0 ps z) q ≡ place (sameTwo q) ps
     go (kept e f) = absurd (f q i refl)
     go (given j l e f) =
-        let u : getD ps j (0, 0) ≡ q = place-one w (getD ps j (0, 0)) q (s (getD ps j (0, 0)) (get-in ps j l)) (s q i) f in
-        let y : place (sameTwo (getD ps j (0, 0))) ps ≡ j = place-at ps d j l in
+        let u : getD ps j (0, 0) ≡ q = place-one w (getD ps j (0, 0)) q (s (getD ps j (0, 0)) (get-in (0, 0) ps j l)) (s q i) f in
+        let y : place (sameTwo (getD ps j (0, 0))) ps ≡ j = place-at two-decides (0, 0) ps j d l in
         let x : place (sameTwo (getD ps j (0, 0))) ps ≡ place (sameTwo q) ps = ap (λ (p : Two). place (sameTwo p) ps) u in
         omega (arith, e, x, y)
 
@@ -86,7 +64,7 @@ module _ (lim : Limits) (t : Tables) (p : Two) (b c : ℕ) (ps : List Two) (e : 
   built-distinct = L.build-whole (pairs t) (lim .pairs) p b c ps e .once
 
   pub built-apart : (j : ℕ) → j < length ps → any (sameTwo (getD ps j (0, 0))) (take j ps) ≡ false
-  built-apart = apart-at ps built-distinct
+  built-apart j h = apart-at two-decides (0, 0) ps j built-distinct h
 
   -- "with each pair, every pair of classes that an action of it joins"
   pub built-closed : Closed (pairs t) ps

@@ -6,7 +6,6 @@ use mathlib.Core.List.{List, [], _∷_}
 use Prim.Native.Nat.{ℕ, zero, suc, _+_, _*_, _≤_, _<_}
 use native.Mathlib.Numerals.{add-one}
 use native.Mathlib.Omega.{arith}
-use borrow.Author.Tests.{lt-ltb, le-ltb}
 use lib.ListN.{length, getD, replicate}
 use Rattle.spec.specs.Bytes.{Limits, Two, Res, ok, refused, _>>=_, Checked, passed, cutShort}
 use Rattle.spec.specs.Image.{Tables}
@@ -19,6 +18,7 @@ use Rattle.laws.specs.Tests.{clash}
 use Rattle.laws.specs.Valid.{Valid}
 use Rattle.laws.specs.Lists.{in-nil, in-cons, get-in}
 use Rattle.laws.specs.Results.{refused-ok, ok-inj}
+use Rattle.steps.specs.BuildFrom.{build-stop, build-turn, build-done}
 use Rattle.steps.specs.Enter.{Entered, grown, overfull, enterAll-says}
 use Rattle.laws.specs.BestMembers.{IsPair}
 use Rattle.readings.specs.ReadingsWithin.{joins-within}
@@ -53,19 +53,6 @@ check-one b x e f = go (b .left) (sym (ap (λ (y : Spent). not (y .passed)) e) �
 
 -- ---- a pair's turn
 module _ (lim : Limits) (t : Tables) (ps : List Two) where
-  build-stop : (b i : ℕ) → b ≡ 0 → i < length ps → buildFrom lim b t ps i ≡ ok cutShort
-  unfolding system.buildFrom
-  build-stop b i e h = rw (e, system.buildFrom, lt-ltb i (length ps) h) refl
-
-  build-turn : (b c i : ℕ) → b ≡ suc c → i < length ps → buildFrom lim b t ps i ≡ (enterAll lim ps (joins t (getD ps i (0, 0))) >>= λ qs. buildFrom lim c t qs (suc i))
-  unfolding system.buildFrom
-  build-turn b c i e h = rw (e, system.buildFrom, lt-ltb i (length ps) h) refl
-
-  build-done : (b i : ℕ) → length ps ≤ i → buildFrom lim b t ps i ≡ ok (passed ps b)
-  unfolding system.buildFrom
-  build-done zero i h = rw (system.buildFrom, le-ltb i (length ps) h) refl
-  build-done (suc b) i h = rw (system.buildFrom, le-ltb i (length ps) h) refl
-
   -- what is entered are pairs of the list or pairs that were there
   entered-only : (l qs : List Two) → enterAll lim ps l ≡ ok qs → (x : Two) → In x qs → (P : Two → Type 0) → ((y : Two) → In y ps → P y) → ((y : Two) → In y l → P y) → P x
   entered-only l qs e x i P f g = go (enterAll lim ps l) (enterAll-says (pairs t) (lim .pairs) l ps) e
@@ -92,7 +79,7 @@ module _ (lim : Limits) (t : Tables) (w : ℕ) where
     pub turning-end : (c : Budget) → b ≡ c .left → n ≤ i → Ends lim w g graph (All n c)
     turning-end c e h = record {
       says = record {
-        leads = sym (d .leads) ∙ build-done lim t (pairsIn w graph n) b i (omega (arith, h, many)) ∙ ap (λ (m : ℕ). ok (passed (pairsIn w graph n) m)) e;
+        leads = sym (d .leads) ∙ build-done (pairs t) (lim .pairs) (pairsIn w graph n) b i (omega (arith, h, many)) ∙ ap (λ (m : ℕ). ok (passed (pairsIn w graph n) m)) e;
         holds = d .holds;
       };
     }
@@ -100,7 +87,7 @@ module _ (lim : Limits) (t : Tables) (w : ℕ) where
     module _ (h : i < n) where
       -- the check is expired
       pub turning-cut : {graph′ : List ℕ} → b ≡ 0 → Ends lim w g graph′ Cut
-      turning-cut e = record { says = sym (d .leads) ∙ build-stop lim t (pairsIn w graph n) b i e (omega (arith, h, many)) }
+      turning-cut e = record { says = sym (d .leads) ∙ build-stop (pairs t) (lim .pairs) (pairsIn w graph n) b i e (omega (arith, h, many)) }
 
       -- its key stands in the array
       pub turning-room : w * w + i < length graph
@@ -112,12 +99,12 @@ module _ (lim : Limits) (t : Tables) (w : ℕ) where
 
         -- the pair whose turn it is
         pub turning-pair : IsPair t (l, r)
-        turning-pair = d .pairs (l, r) (rw here-is at (get-in (pairsIn w graph n) i (omega (arith, h, many))))
+        turning-pair = d .pairs (l, r) (rw here-is at (get-in (0, 0) (pairsIn w graph n) i (omega (arith, h, many))))
 
         module _ (c : ℕ) (e : b ≡ suc c) where
           after : (z : Res (List Two)) → enterAll lim (pairsIn w graph n) (joins t (l, r)) ≡ z → g ≡ (z >>= λ qs. buildFrom lim c t qs (suc i))
           after z q =
-              sym (d .leads) ∙ build-turn lim t (pairsIn w graph n) b c i e (omega (arith, h, many))
+              sym (d .leads) ∙ build-turn (pairs t) (lim .pairs) (pairsIn w graph n) b c i e (omega (arith, h, many))
               ∙ ap (λ (p : Two). enterAll lim (pairsIn w graph n) (joins t p) >>= λ qs. buildFrom lim c t qs (suc i)) here-is
               ∙ ap (λ (u : Res (List Two)). u >>= λ qs. buildFrom lim c t qs (suc i)) q
 

@@ -6,11 +6,8 @@ use mathlib.Core.List.{List, [], _∷_, _++_, map}
 use Prim.Native.Nat.{ℕ, zero, suc, _≤_, _<_, zero-le}
 use native.Mathlib.Omega.{arith}
 use native.Mathlib.Nat.{not-suc-le-zero}
-use lib.Dec.{eqb}
-use lib.ListN.{length, getD}
-use borrow.Author.Tests.{eqb-true, eq-eqb}
-use Rattle.spec.specs.Bytes.{any, each, place, Two, sameTwo}
-use Rattle.spec.specs.Meaning.{In, here, there}
+use lib.ListN.{length, getD, take}
+use Rattle.spec.specs.Bytes.{any, each, In, here, there, Decides, place}
 use Rattle.laws.specs.Tests.{clash}
 
 -- ---- entries
@@ -83,56 +80,21 @@ pub length-map : {A B : Type 0} (f : A → B) (l : List A) → length (map f l) 
 length-map f [] = refl
 length-map f (x ∷ l) = ap suc (length-map f l)
 
--- ---- pairs of numbers
-pub same-refl : (p : Two) → sameTwo p p ≡ true
-same-refl p = rw (eq-eqb (p .0) (p .0) refl, eq-eqb (p .1) (p .1) refl) refl
-
-pub same-eq : (p q : Two) → sameTwo p q ≡ true → p ≡ q
-same-eq p q e = go (eqb (p .0) (q .0)) refl (eqb (p .1) (q .1)) refl
-  where
-    go : (x : Bool) → eqb (p .0) (q .0) ≡ x → (y : Bool) → eqb (p .1) (q .1) ≡ y → p ≡ q
-    go true a true b = let c = eqb-true (p .0) (q .0) a in let d = eqb-true (p .1) (q .1) b in λ i. (c i, d i)
-    go true a false b = absurd (clash (sym (rw (a, b) at e)))
-    go false a y b = absurd (clash (sym (rw a at e)))
-
--- a pair of the list, or none
-pub is-in : (p : Two) (l : List Two) → any (sameTwo p) l ≡ true → In p l
-is-in p l e = let r = any-in (sameTwo p) l e in rw (same-eq p (r .0) (r .2)) (r .1)
-
-pub not-in : (p : Two) (l : List Two) → any (sameTwo p) l ≡ false → In p l → ⊥
-not-in p l e i = clash (sym (same-refl p) ∙ any-none (sameTwo p) l p e i)
-
-pub in-any : (p : Two) (l : List Two) → In p l → any (sameTwo p) l ≡ true
-in-any p l i = go (any (sameTwo p) l) refl
-  where
-    go : (b : Bool) → any (sameTwo p) l ≡ b → any (sameTwo p) l ≡ true
-    go true e = e
-    go false e = absurd (not-in p l e i)
-
 -- ---- places
-pub get-in : (l : List Two) (k : ℕ) → k < length l → In (getD l k (0, 0)) l
-get-in [] k h = absurd (not-suc-le-zero h)
-get-in (x ∷ l) zero h = here
-get-in (x ∷ l) (suc k) h = there (get-in l k (omega arith))
+module _ {A : Type 0} (d : A) where
+  pub get-in : (l : List A) (k : ℕ) → k < length l → In (getD l k d) l
+  get-in [] k h = absurd (not-suc-le-zero h)
+  get-in (x ∷ l) zero h = here
+  get-in (x ∷ l) (suc k) h = there (get-in l k (omega arith))
 
-pub in-get : (p : Two) (l : List Two) → In p l → (k : ℕ) × (k < length l) × (getD l k (0, 0) ≡ p)
-in-get p (x ∷ l) here = (0, omega arith, refl)
-in-get p (x ∷ l) (there i) = let r = in-get p l i in (suc (r .0), omega (arith, r .1), r .2)
+  pub in-get : (p : A) (l : List A) → In p l → (k : ℕ) × (k < length l) × (getD l k d ≡ p)
+  in-get p (x ∷ l) here = (0, omega arith, refl)
+  in-get p (x ∷ l) (there i) = let r = in-get p l i in (suc (r .0), omega (arith, r .1), r .2)
 
-pub get-append : (l m : List Two) (k : ℕ) → k < length l → getD (l ++ m) k (0, 0) ≡ getD l k (0, 0)
-get-append [] m k h = absurd (not-suc-le-zero h)
-get-append (x ∷ l) m zero h = refl
-get-append (x ∷ l) m (suc k) h = get-append l m k (omega arith)
-
--- what stands for p along a list that has one entry for each pair
-pub look-up : {A : Type 0} (d : A) (f : Two → A) (ps : List Two) (p : Two) → In p ps → getD (map f ps) (place (sameTwo p) ps) d ≡ f p
-unfolding place
-look-up d f (x ∷ l) p here = rw (same-refl p, place) refl
-look-up d f (x ∷ l) p (there k) = go (sameTwo p x) refl (look-up d f l p k)
-  where
-    go : (b : Bool) → sameTwo p x ≡ b → getD (map f l) (place (sameTwo p) l) d ≡ f p → getD (map f (x ∷ l)) (place (sameTwo p) (x ∷ l)) d ≡ f p
-    go true e ih = rw (e, place) (ap f (sym (same-eq p x e)))
-    go false e ih = rw (e, place) ih
+  pub get-append : (l m : List A) (k : ℕ) → k < length l → getD (l ++ m) k d ≡ getD l k d
+  get-append [] m k h = absurd (not-suc-le-zero h)
+  get-append (x ∷ l) m zero h = refl
+  get-append (x ∷ l) m (suc k) h = get-append l m k (omega arith)
 
 -- ---- lists without repeats
 pub data Distinct {A : Type 0} : List A → Type 0 where
@@ -165,3 +127,59 @@ pigeon (x ∷ l) m (more g d) f = go (take-out (f x here)) (λ k. pigeon l k d)
   where
     go : Without x m → ((k : List _) → ((y : _) → In y l → In y k) → length l ≤ length k) → suc (length l) ≤ length m
     go (without k e h) ih = omega (arith, ih k (λ y i. elim (h y (f y (there i))) [ inl a ↦ absurd (g (rw (← a) i)) | inr b ↦ b ]))
+
+-- ---- entries by a test that tells whether two are the same
+module _ {A : Type 0} {same : A → A → Bool} (D : Decides same) where
+  -- one of the list, or none
+  pub is-in : (p : A) (l : List A) → any (same p) l ≡ true → In p l
+  is-in p l e = let r = any-in (same p) l e in rw (D .equal p (r .0) (r .2)) (r .1)
+
+  pub not-in : (p : A) (l : List A) → any (same p) l ≡ false → In p l → ⊥
+  not-in p l e i = clash (sym (D .alike p) ∙ any-none (same p) l p e i)
+
+  pub in-any : (p : A) (l : List A) → In p l → any (same p) l ≡ true
+  in-any p l i = go (any (same p) l) refl
+    where
+      go : (b : Bool) → any (same p) l ≡ b → any (same p) l ≡ true
+      go true e = e
+      go false e = absurd (not-in p l e i)
+
+  -- what stands for p along a list that has one entry for each
+  pub look-up : {B : Type 0} (d : B) (f : A → B) (ps : List A) (p : A) → In p ps → getD (map f ps) (place (same p) ps) d ≡ f p
+  unfolding place
+  look-up d f (x ∷ l) p here = rw (D .alike p, place) refl
+  look-up {B} d f (x ∷ l) p (there k) = go (same p x) refl (look-up d f l p k)
+    where
+      go : (b : Bool) → same p x ≡ b → getD (map f l) (place (same p) l) d ≡ f p → getD (map f (x ∷ l)) (place (same p) (x ∷ l)) d ≡ f p
+      go true e ih = rw (e, place) (ap f (sym (D .equal p x e)))
+      go false e ih = rw (e, place) ih
+
+  -- the place of an entry
+  pub place-in : (p : A) (ps : List A) → In p ps → place (same p) ps < length ps
+  unfolding place
+  place-in p (x ∷ ps) here = rw (D .alike p, place) (omega arith)
+  place-in p (x ∷ ps) (there i) = go (same p x) (place-in p ps i)
+    where
+      go : (b : Bool) → place (same p) ps < length ps → elim b [ true ↦ 0 | false ↦ suc (place (same p) ps) ] < suc (length ps)
+      go true h = omega arith
+      go false h = omega arith
+
+  -- in a list without repeats each stands at its own place, and at none before it
+  other : (x p : A) (l : List A) → (In x l → ⊥) → In p l → same p x ≡ false
+  other x p l n i = go (same p x) refl
+    where
+      go : (b : Bool) → same p x ≡ b → same p x ≡ false
+      go true e = absurd (n (rw (D .equal p x e) at i))
+      go false e = e
+
+  pub place-at : (d : A) (ps : List A) (k : ℕ) → Distinct ps → k < length ps → place (same (getD ps k d)) ps ≡ k
+  unfolding place
+  place-at d [] k n h = absurd (not-suc-le-zero h)
+  place-at d (x ∷ ps) zero n h = rw (D .alike x, place) refl
+  place-at d (x ∷ ps) (suc k) (more f n) h = rw (other x (getD ps k d) ps f (get-in d ps k (omega arith)), place) (ap suc (place-at d ps k n (omega arith)))
+
+  pub apart-at : (d : A) (ps : List A) (k : ℕ) → Distinct ps → k < length ps → any (same (getD ps k d)) (take k ps) ≡ false
+  unfolding any
+  apart-at d [] k n h = absurd (not-suc-le-zero h)
+  apart-at d (x ∷ ps) zero n h = refl
+  apart-at d (x ∷ ps) (suc k) (more f n) h = rw (other x (getD ps k d) ps f (get-in d ps k (omega arith)), any) (apart-at d ps k n (omega arith))

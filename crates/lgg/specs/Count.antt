@@ -47,7 +47,7 @@ module _ (t : Tables) (root : Two) where
       (λ o e. identity (get-identity (t .operations) o)) root (here, there here) p r)
     where
       child : (r : Two) → (i : ℕ) × (i < length (t .children)) × (r ≡ getD (t .children) i (0, 0)) → In r (t .children)
-      child r (i, h, e) = rw e (get-in (t .children) i h)
+      child r (i, h, e) = rw e (get-in (0, 0) (t .children) i h)
 
       identity : {c : ℕ} → (c ≡ NO-IDENTITY) ⊎ In c (map (λ o. o .identity) (t .operations)) → In c U
       identity (inl e) = rw e (there (there (there here)))

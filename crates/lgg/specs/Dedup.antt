@@ -18,14 +18,12 @@ use Rattle.spec.specs.Pairs.{solvedPlans, offersOf, pairs}
 use Rattle.spec.specs.Graph.{enterAll}
 use Rattle.spec.specs.Round.{ones, Act, ofAction, Turn, turnOf}
 use Rattle.spec.specs.Meaning.{_⊑_}
-use Rattle.laws.specs.Lists.{in-nil, in-cons, in-map, in-each}
+use Rattle.laws.specs.Lists.{in-nil, in-cons, in-map, in-each, not-in}
 use Rattle.laws.specs.Bag.{Perm, nil, skip, swap, both, perm-in, perm-sym}
-use Rattle.steps.specs.Quality.{⊑-refl, ⊑-of-eq, ⊑-trans, ⊏-⊑, better-is, better-not, two-eq, Total}
-use Rattle.steps.specs.Nodes.{not-in}
+use Rattle.steps.specs.Quality.{⊑-of-eq, ⊑-trans, two-eq, Total}
 use Rattle.steps.specs.Enter.{Entered, grown, enter-says, starts-in}
-use Rattle.steps.specs.Turn.{all-keep}
 use Rattle.lgg.specs.Repeats.{Fewer, done, keep, drop, Equal, fewer-all, fewer-seen, fewer-append, fewer-in, fewer-each, fewer-map, fewer-filter, fewer-trans}
-use Rattle.steps.specs.Turn.{all-append, offer-stays, all-stay}
+use Rattle.steps.specs.Turn.{offer-old, offer-new, all-new, all-append, offer-stays, all-stay}
 
 -- ---- the same action twice: by operation and joined pairs, in whatever order (the signature of `dedup_and_insert`)
 pub record Repeats (a b : Action) : Type 0 where
@@ -44,25 +42,13 @@ repeat-worth t q a b r = ap {B = Two} (λ (z : Two). (1 + z .0, z .1)) (perm-tot
 
 -- ---- offers, over nodes of any kind: what is worth as much as an earlier offer may go
 module _ {N : Type 0} (S : System N) (q : N → Two) where
-  offer-below : (a : system.Act N) (w : system.Turn N) → (offer S q a w .quality ⊑ w .quality) × (offer S q a w .quality ⊑ worth S q a)
-  offer-below a w = go (better (worth S q a) (w .quality)) refl
-    where
-      go : (b : Bool) → better (worth S q a) (w .quality) ≡ b → (offer S q a w .quality ⊑ w .quality) × (offer S q a w .quality ⊑ worth S q a)
-      go true e = rw e (⊏-⊑ {a = worth S q a} {b = w .quality} (better-is (worth S q a) (w .quality) e), ⊑-refl (worth S q a))
-      go false e = rw e (⊑-refl (w .quality), better-not (worth S q a) (w .quality) e)
-
-  all-below : (l : List (system.Act N)) (w : system.Turn N) (a : system.Act N) → In a l → offerAll S q l w .quality ⊑ worth S q a
-  unfolding offerAll
-  all-below (b ∷ l) w a here = all-keep S q (λ u. u .quality ⊑ worth S q a) (λ c u k. ⊑-trans (offer S q c u .quality) (u .quality) (worth S q a) (offer-below c u .0) k) l (offer S q a w) (offer-below a w .1)
-  all-below (b ∷ l) w a (there i) = all-below l (offer S q b w) a i
-
   module _ {R : system.Act N → system.Act N → Type 0} (alike : (a b : system.Act N) → R a b → worth S q a ≡ worth S q b) where
     all-fewer : (seen l m : List (system.Act N)) (w : system.Turn N) → ((a : system.Act N) → In a seen → w .quality ⊑ worth S q a) → Fewer R seen l m → offerAll S q l w ≡ offerAll S q m w
     unfolding offerAll
     all-fewer seen l m w h done = refl
     all-fewer seen l m w h (keep {x = x} {l = j} {m = k} d) =
         let v = offer S q x w in
-        all-fewer (x ∷ seen) j k v (λ a i. elim (in-cons i) [ inl e ↦ rw e (offer-below x w .1) | inr n ↦ ⊑-trans (v .quality) (w .quality) (worth S q a) (offer-below x w .0) (h a n) ]) d
+        all-fewer (x ∷ seen) j k v (λ a i. elim (in-cons i) [ inl e ↦ rw e (offer-new S q x w) | inr n ↦ ⊑-trans (v .quality) (w .quality) (worth S q a) (offer-old S q x w) (h a n) ]) d
     all-fewer seen l m w h (drop {x = x} {l = j} y i r d) = rw (offer-stays S q x w (⊑-trans (w .quality) (worth S q y) (worth S q x) (h y i) (⊑-of-eq (alike y x r)))) (all-fewer seen j m w h d)
 
 -- An action offered again, in whatever order of its pairs, leaves the turn as it is; so does a transport.
@@ -70,11 +56,11 @@ pub action-again : (t : Tables) (q : Two → Two) (l : List Action) (w : Turn) (
 unfolding offerAll
 action-again t q l w a b i r =
     let v = offerAll (pairs t) q (map ofAction l) w in
-    offer-stays (pairs t) q (ofAction b) v (⊑-trans (v .quality) (worth (pairs t) q (ofAction a)) (worth (pairs t) q (ofAction b)) (all-below (pairs t) q (map ofAction l) w (ofAction a) (in-map ofAction i)) (⊑-of-eq (repeat-worth t q a b r)))
+    offer-stays (pairs t) q (ofAction b) v (⊑-trans (v .quality) (worth (pairs t) q (ofAction a)) (worth (pairs t) q (ofAction b)) (all-new (pairs t) q (map ofAction l) w (ofAction a) (in-map ofAction i)) (⊑-of-eq (repeat-worth t q a b r)))
 
 pub transport-again : (t : Tables) (q : Two → Two) (l : List TransportAction) (w : Turn) (a : TransportAction) → In a l
     → offerAll (pairs t) q (solvedPlans q a) (offerAll (pairs t) q (each (solvedPlans q) l) w) ≡ offerAll (pairs t) q (each (solvedPlans q) l) w
-transport-again t q l w a i = all-stay (pairs t) q (solvedPlans q a) (offerAll (pairs t) q (each (solvedPlans q) l) w) (λ b j. all-below (pairs t) q (each (solvedPlans q) l) w b (in-each (solvedPlans q) l a b i j))
+transport-again t q l w a i = all-stay (pairs t) q (solvedPlans q a) (offerAll (pairs t) q (each (solvedPlans q) l) w) (λ b j. all-new (pairs t) q (each (solvedPlans q) l) w b (in-each (solvedPlans q) l a b i j))
 
 -- ---- entering nodes of any kind
 enterAll-fewer : {N : Type 0} (S : System N) (lim : ℕ) (seen l m ps : List N) → ((x : N) → In x seen → In x ps) → Fewer Equal seen l m → system.enterAll (S .same) lim ps l ≡ system.enterAll (S .same) lim ps m
@@ -90,7 +76,7 @@ enterAll-fewer S lim seen l m ps h (drop {x = x} {l = j} y i e d) = rw (again (a
   where
     again : (b : Bool) → any (S .same x) ps ≡ b → any (S .same x) ps ≡ true
     again true f = f
-    again false f = absurd (not-in S x ps f (rw e at (h y i)))
+    again false f = absurd (not-in (S .decides) x ps f (rw e at (h y i)))
 
 still : {A : Type 0} {z : A} {m : List A} → In z m ⊎ In z [] → In z m
 still (inl i) = i

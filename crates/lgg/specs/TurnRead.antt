@@ -16,8 +16,8 @@ use Rattle.lgg.specs.Moves.{pair-reads}
 module _ (lim : Limits) (t : Tables) (ps : List Two) (closed : Closed (pairs t) ps) where
   -- pair k's turn and its term, from tables q and of that agree with the lists qs and ts
   pub turn-read : (q : Two → Two) (qs : List Two) → ((c : Two) → In c ps → q c ≡ lookUp (0, 0) ps qs c) → (k : ℕ) → k < length ps → turnOf t q (getD ps k (0, 0)) ≡ turnOf t (lookUp (0, 0) ps qs) (getD ps k (0, 0))
-  turn-read q qs h k l = reads.turn-closed (pairs t) (pair-reads t) ps closed q (lookUp (0, 0) ps qs) h (getD ps k (0, 0)) (get-in ps k l)
+  turn-read q qs h k l = reads.turn-closed (pairs t) (pair-reads t) ps closed q (lookUp (0, 0) ps qs) h (getD ps k (0, 0)) (get-in (0, 0) ps k l)
 
   pub term-read : (q : Two → Two) (qs : List Two) (of : Two → ℕ) (ts : List ℕ) → ((c : Two) → In c ps → q c ≡ lookUp (0, 0) ps qs c) → ((c : Two) → In c ps → of c ≡ lookUp 0 ps ts c) → (k : ℕ) (pool : Pool) → k < length ps
       → choiceTerm lim t of pool (of (getD ps k (0, 0))) (turnOf t q (getD ps k (0, 0)) .choice) ≡ choiceTerm lim t (lookUp 0 ps ts) pool (lookUp 0 ps ts (getD ps k (0, 0))) (turnOf t (lookUp (0, 0) ps qs) (getD ps k (0, 0)) .choice)
-  term-read q qs of ts h g k pool l = reads.term-closed (pairs t) (pair-reads t) ps closed (making lim t) q (lookUp (0, 0) ps qs) of (lookUp 0 ps ts) pool h g (getD ps k (0, 0)) (get-in ps k l)
+  term-read q qs of ts h g k pool l = reads.term-closed (pairs t) (pair-reads t) ps closed (making lim t) q (lookUp (0, 0) ps qs) of (lookUp 0 ps ts) pool h g (getD ps k (0, 0)) (get-in (0, 0) ps k l)

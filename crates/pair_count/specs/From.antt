@@ -8,6 +8,7 @@ use native.Mathlib.Omega.{arith}
 use lib.ListN.{length, getD, take, set, length-set}
 use borrow.Author.Tests.{lt-ltb}
 use Rattle.spec.specs.Bytes.{pick, any, place, Two, sameTwo}
+use Rattle.spec.specs.Pairs.{same-refl}
 use Rattle.spec.specs.Graph.{PAIRS}
 use Rattle.laws.specs.Tests.{clash}
 use Rattle.arrays.specs.Arrays.{unkeyed}
@@ -18,7 +19,7 @@ use Rattle.pair_table.specs.declared.Entered.{Entered}
 use Rattle.pair_table.specs.declared.Entered.the-variants.{At, New, Full}
 use Rattle.pair_table.specs.Table.{hasRoom, enterOf, tableAfter}
 use Rattle.pair_count.specs.Counted.{notNew, pairAt, enteredOf, countedOf}
-use Rattle.pair_count.specs.Lists.{same-refl, take-set, take-all, take-next}
+use Rattle.pair_count.specs.Lists.{take-set, take-all, take-next}
 
 -- a pair that is not new leaves the table as it was
 not-new-says : (s : List Pair) (count : ℕ) (p : Two) → notNew (enterOf s count p) ≡ true → tableAfter s count p ≡ s

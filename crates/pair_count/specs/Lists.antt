@@ -5,11 +5,6 @@ use mathlib.Core.List.{List, [], _∷_, _++_}
 use Prim.Native.Nat.{ℕ, zero, suc, _≤_, _<_}
 use native.Mathlib.Nat.{not-suc-le-zero, le-of-suc-le-suc}
 use lib.ListN.{length, getD, take, set}
-use borrow.Author.Tests.{eq-eqb}
-use Rattle.spec.specs.Bytes.{Two, sameTwo}
-
-pub same-refl : (p : Two) → sameTwo p p ≡ true
-same-refl p = rw (eq-eqb (p .0) (p .0) refl, eq-eqb (p .1) (p .1) refl) refl
 
 module _ {A : Type 0} where
   pub take-set : (s : List A) (i : ℕ) (y : A) → i < length s → take (suc i) (set s i y) ≡ take i s ++ (y ∷ [])

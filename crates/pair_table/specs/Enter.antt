@@ -9,12 +9,13 @@ use native.Mathlib.Omega.{arith}
 use lib.ListN.{length, getD, take, set, length-map, length-take, List·getD-map}
 use borrow.Author.Tests.{lt-ltb, le-ltb}
 use Rattle.spec.specs.Bytes.{pick, any, Two, sameTwo}
+use Rattle.spec.specs.Pairs.{same-eq}
 use Rattle.spec.specs.Graph.{PAIRS}
 use Rattle.pair_search.specs.declared.Pair.{Pair}
 use Rattle.pair_search.specs.Records.{none, twoOf, recordOf, held, findOf}
 use Rattle.pair_table.specs.declared.Entered.the-variants.{At, New, Full}
 use Rattle.pair_table.specs.Table.{hasRoom, enterOf, tableAfter, putIn, outcomeOf}
-use Rattle.pair_table.specs.Lists.{same-eq, getD-take, set-same, set-past, place-some, place-none, place-passes}
+use Rattle.pair_table.specs.Lists.{getD-take, set-same, set-past, place-some, place-none, place-passes}
 
 -- ---- the outcome, by the ends that the code computes
 pub outcome-at : (at count len m : ℕ) → m ≡ min count len → at < m → At at ≡ outcomeOf at count len

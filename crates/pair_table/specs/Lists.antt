@@ -11,15 +11,6 @@ use borrow.Author.Tests.{eqb-true}
 use Rattle.spec.specs.Bytes.{any, place, Two, sameTwo}
 use Rattle.laws.specs.Tests.{clash}
 
--- ---- pairs of numbers
-pub same-eq : (p q : Two) → sameTwo p q ≡ true → p ≡ q
-same-eq p q e = go (eqb (p .0) (q .0)) refl (eqb (p .1) (q .1)) refl
-  where
-    go : (x : Bool) → eqb (p .0) (q .0) ≡ x → (y : Bool) → eqb (p .1) (q .1) ≡ y → p ≡ q
-    go true a true b = let c = eqb-true (p .0) (q .0) a in let d = eqb-true (p .1) (q .1) b in λ i. (c i, d i)
-    go true a false b = absurd (clash (sym (rw (a, b) at e)))
-    go false a y b = absurd (clash (sym (rw a at e)))
-
 module _ {A : Type 0} where
   -- ---- reading, taking and setting
   pub getD-take : (c : ℕ) (s : List A) (k : ℕ) (d : A) → k < length (take c s) → getD (take c s) k d ≡ getD s k d

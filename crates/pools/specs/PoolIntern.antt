@@ -16,7 +16,7 @@ use Rattle.laws.specs.Tests.{both-true, clash}
 use Rattle.laws.specs.BagCount.{written}
 use Rattle.pools.specs.Pool.{NodeValid, PoolValid, getD-last, tree-last, tree-grows, tree-operation}
 use Rattle.pools.specs.PoolTrees.{node-ext, tree-is, expand-joined}
-use Rattle.laws.specs.Lists.{same-eq, same-refl}
+use Rattle.spec.specs.Pairs.{same-eq, same-refl}
 use Rattle.laws.specs.Results.{ok-inj, refused-ok}
 
 -- ---- tests

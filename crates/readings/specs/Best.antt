@@ -14,7 +14,7 @@ use Rattle.spec.specs.Monomial.{classes, counts}
 use Rattle.spec.specs.Transport.{planSize, planMass}
 use Rattle.spec.specs.Pool.{Pool, joinRuns, opNode, litNode, variantsNode, Interned, intern, Children, childTerms, bestTermIn, bestTerm}
 use Rattle.spec.specs.Round.{cellsOver, qualityOver}
-use Rattle.spec.specs.Meaning.{In, here, there, Term, lit, node, Runs, termQuality, runsQuality, expand, reading, runsOf, treeOf, treesAfter, treeAt, member, Belongs, literal}
+use Rattle.spec.specs.Meaning.{In, here, there, Term, lit, node, Runs, termQuality, runsQuality, expand, reading, runsOf, treeOf, treesAfter, treeAt, atLiteral, member, Belongs, literal}
 use Rattle.laws.specs.Tests.{clash}
 use Rattle.laws.specs.Scans.{nil-of-length}
 use Rattle.laws.specs.Valid.{Valid}
@@ -129,7 +129,7 @@ module _ (lim : Limits) (t : Tables) (ways : ℕ) where
 
   literal-good : Valid t → (c : ℕ) → c < length (t .classes) → kindOf t (bestMember t c .op) ≡ Lit → TermFor t ways Itself c (bestSize t c, 0) (lit (bestMember t c .op) (bestMember t c .value))
   unfolding arities sizeOver sum termQuality reading
-  literal-good v c h k = record { quality = ap (λ (z : ℕ). (z, 0)) (sym one); reads = λ j l. belongs }
+  literal-good v c h k = record { quality = ap (λ (z : ℕ). (z, 0)) (sym one); branched = atLiteral; reads = λ j l. belongs }
     where
       i : In (bestMember t c) (membersOf t c)
       i = best-in t v c h

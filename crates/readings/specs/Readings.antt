@@ -13,7 +13,7 @@ use Rattle.spec.specs.Action.{TransportAction, structural, transports, cellPair
 use Rattle.spec.specs.System.{Act}
 use Rattle.spec.specs.Pairs.{problemOver, ofAction, ofSolved, solvedPlans, offersOf, pairs, making}
 use Rattle.spec.specs.Run.{Outcome, runOf}
-use Rattle.spec.specs.Meaning.{termQuality, readFirst, readSecond, treeAt, Belongs}
+use Rattle.spec.specs.Meaning.{termQuality, readFirst, readSecond, Branched, treeAt, Belongs}
 use Rattle.laws.specs.Valid.{Valid}
 use Rattle.laws.specs.Lists.{in-nil, in-cons, in-append, map-in}
 use Rattle.laws.specs.Bag.{each-in}
@@ -69,6 +69,10 @@ module _ (lim : Limits) (t : Tables) (v : Valid t) where
     -- The term that the steps build has the pair's quality.
     pub run-quality : (b : ℕ) (o : Outcome) → runOf lim t p b ≡ ok o → termQuality (treeAt (o .pool) (o .root)) ≡ o .quality
     run-quality b o e = good b o e .good .quality
+
+    -- "the marked place Variants of two best terms": every marked place has two branches.
+    pub two-branches : (b : ℕ) (o : Outcome) → runOf lim t p b ≡ ok o → Branched 2 (treeAt (o .pool) (o .root))
+    two-branches b o e = good b o e .good .branched
 
     -- "Read by the first branch at every marked place the term belongs to the left class, by the second to the right."
     pub readings : (b : ℕ) (o : Outcome) → runOf lim t p b ≡ ok o

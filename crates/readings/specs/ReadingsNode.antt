@@ -15,7 +15,7 @@ use Rattle.spec.specs.Monomial.{classes}
 use Rattle.spec.specs.Transport.{planSize, planMass}
 use Rattle.spec.specs.Pool.{joinRuns, variantsNode}
 use Rattle.spec.specs.Round.{cellsOver, qualityOver}
-use Rattle.spec.specs.Meaning.{In, Term, lit, node, variants, Runs, done, run, termQuality, runsQuality, expand, reading, readingRuns, branch, readFirst, readSecond, runsOf, treeOf, occurs, countIn, Side, Belongs, ordered, unordered, AllBelong, noMore, andThen}
+use Rattle.spec.specs.Meaning.{In, Term, lit, node, variants, Runs, done, run, termQuality, runsQuality, expand, reading, readingRuns, branch, readFirst, readSecond, runsOf, treeOf, Branched, atNode, AllBranched, noBranch, andBranch, occurs, countIn, Side, Belongs, ordered, unordered, AllBelong, noMore, andThen}
 use Rattle.laws.specs.Bag.{Perm, nil, skip, swap, both, perm-map, map-append, map-replicate, sum-append, sum-perm, sum-replicate}
 use Rattle.laws.specs.BagCount.{written, spread}
 use Rattle.pools.specs.Pool.{numbered, tree-marked}
@@ -115,10 +115,26 @@ module _ (t : Tables) where
   covers-belongs o c cs ts r (inOrder m i e n z h) p q b = ordered {r = r} m i e n z (rw (← q n, ← h) b)
   covers-belongs o c cs ts r (anyOrder l s n h) p q b = let (ds, d, e) = belong-perm p b in unordered {r = r} l ds s n d (λ k. e k ∙ h k)
 
--- ---- A term for a node with quality q, read in so many ways: it has the quality, and read by branch k it belongs to the node's class k.
+-- ---- branches
+branched-append : (n : ℕ) {s u : List Term} → AllBranched n s → AllBranched n u → AllBranched n (s ++ u)
+branched-append n noBranch c = c
+branched-append n (andBranch a b) c = andBranch a (branched-append n b c)
+
+branched-replicate : (n k : ℕ) {a : Term} → Branched n a → AllBranched n (replicate k a)
+branched-replicate n zero b = noBranch
+branched-replicate n (suc k) b = andBranch b (branched-replicate n k b)
+
+branched-perm : (n : ℕ) {s u : List Term} → Perm s u → AllBranched n s → AllBranched n u
+branched-perm n nil b = b
+branched-perm n (skip x p) (andBranch a b) = andBranch a (branched-perm n p b)
+branched-perm n (swap x y l) (andBranch a (andBranch c b)) = andBranch c (andBranch a b)
+branched-perm n (both p q) b = branched-perm n q (branched-perm n p b)
+
+-- ---- A term for a node with quality q, read in so many ways: it has the quality, each of its marked places has so many branches, and read by branch k it belongs to the node's class k.
 module _ (t : Tables) {N : Type 0} (ways : ℕ) (class : N → ℕ → ℕ) where
   pub record TermFor (p : N) (q : Two) (a : Term) : Type 0 where
     pub quality : termQuality a ≡ q
+    pub branched : Branched ways a
     pub reads : (k : ℕ) → k < ways → Belongs t (reading k a) (class p k)
 
   pub data TermsFor : List N → List Two → List Term → Type 0 where
@@ -130,6 +146,12 @@ module _ (t : Tables) {N : Type 0} (ways : ℕ) (class : N → ℕ → ℕ) wher
   all-read k h x noTerm = noMore
   all-read k h [] (andTerm g gs) = noMore
   all-read k h (n ∷ x) (andTerm {a = a} {ts = ts} g gs) = rw (map-append (reading k) (replicate n a) (spread ts x), map-replicate (reading k) n a) (belong-replicate t n (g .reads k h) (all-read k h x gs))
+
+  all-branched : {ps : List N} {qs : List Two} {ts : List Term} (x : List ℕ) → TermsFor ps qs ts → AllBranched ways (spread ts x)
+  unfolding spread
+  all-branched x noTerm = noBranch
+  all-branched [] (andTerm g gs) = noBranch
+  all-branched (n ∷ x) (andTerm g gs) = branched-append ways (branched-replicate ways n (g .branched)) (all-branched x gs)
 
   sizes : {ps : List N} {qs : List Two} {ts : List Term} (x : List ℕ) → TermsFor ps qs ts → sum (map size (spread ts x)) ≡ planSize x (cellsOver qs)
   unfolding spread sum planSize
@@ -152,5 +174,6 @@ module _ (t : Tables) {N : Type 0} (ways : ℕ) (class : N → ℕ → ℕ) wher
   unfolding termQuality reading
   good-node p o ps qs ts x r g perm same covers = record {
     quality = ap₂ (λ (a b : ℕ). (1 + a, b)) (runs-size r ∙ sym (sum-perm (perm-map size perm)) ∙ sizes x g) (runs-mass r ∙ sym (sum-perm (perm-map mass perm)) ∙ masses x g);
+    branched = atNode (branched-perm ways perm (all-branched x g));
     reads = λ k h. covers-belongs t o (class p k) _ _ (readingRuns k r) (covers k h) (rw (expand-reading k r) (perm-map (reading k) perm)) (λ n. ap (map (reading k)) (same n) ∙ sym (expand-reading k r)) (all-read k h x g);
   }

@@ -11,7 +11,7 @@ use Rattle.spec.specs.Bytes.{Limits, Two, pick, sum, ok, _>>=_}
 use Rattle.spec.specs.Image.{Tables, bestSize}
 use Rattle.spec.specs.Pool.{Pool, joinRuns, variantsNode, Interned, intern, bestTerm, startingTerm}
 use Rattle.spec.specs.Pairs.{startingQuality}
-use Rattle.spec.specs.Meaning.{Term, termQuality, runsQuality, reading, runsOf, treeOf, treesAfter, Belongs}
+use Rattle.spec.specs.Meaning.{Term, termQuality, runsQuality, reading, runsOf, treeOf, treesAfter, atPlace, noBranch, andBranch, Belongs}
 use Rattle.laws.specs.Valid.{Valid}
 use Rattle.laws.specs.Results.{bind-ok}
 use Rattle.pools.specs.Pool.{PoolValid, variants-valid, numbered, tree-marked}
@@ -39,7 +39,7 @@ module _ (lim : Limits) (t : Tables) where
     valid = M .valid;
     grown = M .grown;
     within = M .within;
-    good = record { quality = M .good .quality; reads = two-ways _ (M .good .reads 0 (omega arith)) (rw (← e) (M .good .reads 1 (omega arith))) };
+    good = record { quality = M .good .quality; branched = M .good .branched; reads = two-ways _ (M .good .reads 0 (omega arith)) (rw (← e) (M .good .reads 1 (omega arith))) };
   }
 
   marked-good : (c : Two) (ts : List Term) (a b : ℕ) → TermFor t 2 Itself (c .0) (bestSize t (c .0), 0) (numbered ts a) → TermFor t 2 Itself (c .1) (bestSize t (c .1), 0) (numbered ts b)
@@ -50,6 +50,7 @@ module _ (lim : Limits) (t : Tables) where
       let s : runsQuality r .0 ≡ bestSize t (c .0) + bestSize t (c .1) =
           runs-size r ∙ ap (λ (l : List Term). sum (map size l)) (two-branches ts a b) ∙ omega (arith, ap (λ (z : Two). z .0) (g .quality), ap (λ (z : Two). z .0) (h .quality)) in record {
         quality = ap termQuality (tree-marked ts (variantsNode a b) refl) ∙ ap₂ (λ (x y : ℕ). (x, y)) s s;
+        branched = rw (tree-marked ts (variantsNode a b) refl) (atPlace (ap length (two-branches ts a b)) (rw (two-branches ts a b) (andBranch (g .branched) (andBranch (h .branched) noBranch))));
         reads = two-ways (λ k. Belongs t (reading k (treeOf ts (variantsNode a b))) (sides c k)) (rw (read-variants ts a b .0) (g .reads 0 (omega arith))) (rw (read-variants ts a b .1) (h .reads 1 (omega arith)));
       }
 

@@ -15,9 +15,8 @@ use Rattle.laws.specs.Valid.{Valid}
 use Rattle.laws.specs.BestMembers.{IsPair}
 use Rattle.lgg.specs.Pairs.{Closed, turnTerm}
 use Rattle.readings.specs.Stands.{Fits}
-use Rattle.laws.specs.Lists.{get-in, Distinct}
+use Rattle.laws.specs.Lists.{get-in, place-in, place-at, Distinct}
 use Rattle.steps.specs.Standing.{Standing, Midway}
-use Rattle.steps.specs.Nodes.{place-in, place-at}
 use Rattle.pools.specs.PoolIntern.{extends-within}
 use Rattle.lgg.specs.TurnRead.{turn-read, term-read}
 use Rattle.lgg.specs.Cells.{CellsFit, cells-within}
@@ -63,11 +62,11 @@ module _ (lim : Limits) (t : Tables) (w : ℕ) (ps : List Two) (n : ℕ) (graph 
 
   module _ (k : ℕ) (h : k < n) (p : Two) (is : p ≡ getD ps k (0, 0)) where
     pub among : In p ps
-    among = rw is (get-in ps k (omega (arith, G .many)))
+    among = rw is (get-in (0, 0) ps k (omega (arith, G .many)))
 
     -- pair k has number k
     pub number-here : numberIn w graph p ≡ k
-    number-here = G .numbers p among ∙ ap (λ (x : Two). place (sameTwo x) ps) is ∙ place-at (P.pairs t) ps k (G .once) (omega (arith, G .many))
+    number-here = G .numbers p among ∙ ap (λ (x : Two). place (sameTwo x) ps) is ∙ place-at P.two-decides (0, 0) ps k (G .once) (omega (arith, G .many))
 
   module _ (s : State) (pairs : List ℕ) (R : Reads s pairs n) where
     -- an entry of the state, in the arrays
@@ -85,10 +84,10 @@ module _ (lim : Limits) (t : Tables) (w : ℕ) (ps : List Two) (n : ℕ) (graph 
     pub agree-quality : (c : Two) → In c ps → qualityIn w graph pairs c ≡ lookUp (0, 0) ps (s .qualities) c
     agree-quality c i =
         ap (λ (k : ℕ). (getD pairs (6 * k) 0, getD pairs (6 * k + 1) 0)) (G .numbers c i)
-        ∙ quality-here (place (sameTwo c) ps) (omega (arith, place-in (P.pairs t) c ps i, G .many))
+        ∙ quality-here (place (sameTwo c) ps) (omega (arith, place-in P.two-decides c ps i, G .many))
 
     agree-term : (c : Two) → In c ps → termIn w graph pairs c ≡ lookUp 0 ps (s .terms) c
-    agree-term c i = ap (λ (k : ℕ). getD pairs (6 * k + 2) 0) (G .numbers c i) ∙ term-here (place (sameTwo c) ps) (omega (arith, place-in (P.pairs t) c ps i, G .many))
+    agree-term c i = ap (λ (k : ℕ). getD pairs (6 * k + 2) 0) (G .numbers c i) ∙ term-here (place (sameTwo c) ps) (omega (arith, place-in P.two-decides c ps i, G .many))
 
     -- pair k's turn
     pub turn-here : (k : ℕ) → k < n → turnOf t (qualityIn w graph pairs) (getD ps k (0, 0)) ≡ turnOf t (lookUp (0, 0) ps (s .qualities)) (getD ps k (0, 0))
@@ -125,6 +124,6 @@ module _ (t : Tables) (w : ℕ) (graph : List ℕ) (n k : ℕ) (h : k < n) where
 
   pub pair-ranged : InRange t (pairsIn w graph n) → (l r : ℕ) → l ≡ unkey (getD graph (w * w + k) 0) .0 → r ≡ unkey (getD graph (w * w + k) 0) .1 → (l < length (t .classes)) × (r < length (t .classes))
   pair-ranged i l r e f =
-      let z = i (getD (pairsIn w graph n) k (0, 0)) (get-in (pairsIn w graph n) k (omega (arith, unkeyed-length graph (w * w) n))) in
+      let z = i (getD (pairsIn w graph n) k (0, 0)) (get-in (0, 0) (pairsIn w graph n) k (omega (arith, unkeyed-length graph (w * w) n))) in
       let q = pair-at l r e f in
       (omega (arith, z .0, ap (λ (p : Two). p .0) q), omega (arith, z .1, ap (λ (p : Two). p .1) q))

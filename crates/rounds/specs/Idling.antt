@@ -38,7 +38,7 @@ idles-more ps pairs llive rlive k I pairs′ size mass term e j h l z =
 -- ---- before the first round every class is live
 pub idles-first : (t : Tables) → Valid t → (ps : List Two) → InRange t ps → (pairs : List ℕ) → Idles ps pairs (replicate 256 1) (replicate 256 1) 0
 idles-first t v ps r pairs j h l e =
-    let i = r (getD ps j (0, 0)) (get-in ps j l) in
+    let i = r (getD ps j (0, 0)) (get-in (0, 0) ps j l) in
     absurd (clash (sym (ap₂ (λ (a b : Bool). both a b) (marked (getD ps j (0, 0) .0) (i .0)) (marked (getD ps j (0, 0) .1) (i .1))) ∙ e))
   where
     marked : (c : ℕ) → c < length (t .classes) → ltb 0 (getD (replicate 256 1) c 0) ≡ true

@@ -10,16 +10,16 @@ use Rattle.spec.specs.Bytes.{both, any, place, Two, sameTwo}
 use Rattle.spec.specs.Image.{Tables}
 use Rattle.spec.specs.System as system
 use Rattle.spec.specs.Pairs as P
+use Rattle.spec.specs.Pairs.{same-eq, two-decides}
 use Rattle.spec.specs.Round.{lookUp, stay, Turn, turnOf, turnsOf}
 use Rattle.spec.specs.Meaning.{In}
 use Rattle.laws.specs.Tests.{clash}
 use Rattle.laws.specs.Valid.{Valid}
 use Rattle.laws.specs.Buffers.{over}
 use Rattle.laws.specs.BestMembers.{IsPair}
-use Rattle.laws.specs.Lists.{get-in, same-eq, map-map, look-up}
+use Rattle.laws.specs.Lists.{get-in, map-map, look-up, place-in}
 use Rattle.lgg.specs.Parts.{partsOf, stays}
 use Rattle.pools.specs.PoolIntern.{place-passes}
-use Rattle.steps.specs.Nodes.{place-in}
 use Rattle.steps.specs.Graph.{Closed}
 use Rattle.changes.specs.Marks.{markedIn}
 use Rattle.changes.specs.MarkLaws.{live-at}
@@ -58,7 +58,7 @@ module _ (t : Tables) (v : Valid t) (ps : List Two) (i : (p : Two) → In p ps �
 
     turned : (x : Two) → In x ps → q′ x ≡ turnOf t q x .quality
     unfolding system.turnsOf
-    turned x j = rw (next ∙ map-map (turnOf t q) (λ w. w .quality) ps) (look-up (0, 0) (λ y. turnOf t q y .quality) ps x j)
+    turned x j = rw (next ∙ map-map (turnOf t q) (λ w. w .quality) ps) (look-up two-decides (0, 0) (λ y. turnOf t q y .quality) ps x j)
 
     quiet-next : (llive rlive : List ℕ) → ((c : ℕ) → c < length (t .classes) → markedIn llive c ≡ any (markedIn lmarks) (partsOf t c)) → ((c : ℕ) → c < length (t .classes) → markedIn rlive c ≡ any (markedIn rmarks) (partsOf t c)) → Quiet t ps qs′ llive rlive
     quiet-next llive rlive a b = λ p j e.
@@ -82,7 +82,7 @@ module _ (t : Tables) (v : Valid t) (w : ℕ) (graph : List ℕ) (n : ℕ) (i : 
   pair-k : (k : ℕ) → k < n → IsPair t (unkey (getD graph (w * w + k) 0))
   pair-k k h =
       let e = unkeyed-at graph (w * w) n k h in
-      let z = i (getD ps k (0, 0)) (get-in ps k (omega (arith, many))) in
+      let z = i (getD ps k (0, 0)) (get-in (0, 0) ps k (omega (arith, many))) in
       (omega (arith, z .0, ap (λ (p : Two). p .0) e), omega (arith, z .1, ap (λ (p : Two). p .1) e))
 
   inside : (k : ℕ) → k < n → (left (unkey (getD graph (w * w + k) 0)) < length (replicate {A = ℕ} 256 0)) × (right (unkey (getD graph (w * w + k) 0)) < length (replicate {A = ℕ} 256 0))
@@ -95,10 +95,10 @@ module _ (t : Tables) (v : Valid t) (w : ℕ) (graph : List ℕ) (n : ℕ) (i : 
       k = place (sameTwo x) ps
 
       h : k < n
-      h = omega (arith, place-in (P.pairs t) x ps j, many)
+      h = omega (arith, place-in two-decides x ps j, many)
 
       is : x ≡ unkey (getD graph (w * w + k) 0)
-      is = same-eq x (getD ps k (0, 0)) (place-passes (sameTwo x) (0, 0) ps (place-in (P.pairs t) x ps j)) ∙ unkeyed-at graph (w * w) n k h
+      is = same-eq x (getD ps k (0, 0)) (place-passes (sameTwo x) (0, 0) ps (place-in two-decides x ps j)) ∙ unkeyed-at graph (w * w) n k h
 
       go : (b : Bool) → differsAt pairs k ≡ b → getD (qualitiesIn pairs NEW n) k (0, 0) ≡ getD (qualitiesIn pairs 0 n) k (0, 0)
       go false z = same-quality pairs n k h z

@@ -16,7 +16,7 @@ use Rattle.spec.specs.Pool.{litNode, opNode, variantsNode, joinRuns}
 use Rattle.spec.specs.System as system
 use Rattle.spec.specs.Pairs.{offersOf}
 use Rattle.spec.specs.Round.{startingQuality, qualityOver, ones, problemOver, qualitiesAfter}
-use Rattle.spec.specs.Meaning.{In, here, there, Term, lit, node, variants, Runs, done, run, termQuality, expand, readFirst, readSecond, reading, treeAt, treesAfter, Belongs, literal, ordered, unordered, AllBelong, noMore, andThen, Side, member, itself, padded, occurs, countIn, Plan, _⊑_, Derivation, Move, aligned, planned, start, action, Places, noPlace, andPlace, Reachable, queried, joined, HoldsDoubled}
+use Rattle.spec.specs.Meaning.{In, here, there, Term, lit, node, variants, Runs, done, run, termQuality, expand, readFirst, readSecond, reading, Branched, atLiteral, atNode, atPlace, AllBranched, noBranch, andBranch, treeAt, treesAfter, Belongs, literal, ordered, unordered, AllBelong, noMore, andThen, Side, member, itself, padded, occurs, countIn, Plan, _⊑_, Derivation, Move, aligned, planned, start, action, Places, noPlace, andPlace, Reachable, queried, joined, HoldsDoubled}
 
 -- ---- terms as trees
 -- a marked place of two branches
@@ -50,6 +50,28 @@ alike = (refl, refl)
 third : (reading 1 (variants (run (lit 0 1) 2 (run mark 1 done))) ≡ lit 0 1) × (reading 2 (variants (run (lit 0 1) 2 (run (lit 0 3) 1 done))) ≡ lit 0 3)
 unfolding reading
 third = (refl, refl)
+
+-- how many branches: two in `marks`, at every marked place; three are not two, also below an operation
+two-branched : Branched 2 marks
+unfolding expand
+two-branched =
+    atNode (andBranch (atPlace refl (andBranch (atPlace refl (andBranch atLiteral (andBranch atLiteral noBranch))) (andBranch (atPlace refl (andBranch atLiteral (andBranch atLiteral noBranch))) noBranch)))
+    (andBranch (atPlace refl (andBranch atLiteral (andBranch atLiteral noBranch))) (andBranch (atPlace refl (andBranch atLiteral (andBranch atLiteral noBranch))) noBranch)))
+
+three-branched : Branched 3 (variants (run (lit 0 1) 2 (run (lit 0 3) 1 done)))
+unfolding expand
+three-branched = atPlace refl (andBranch atLiteral (andBranch atLiteral (andBranch atLiteral noBranch)))
+
+not-two : Branched 2 (variants (run (lit 0 1) 2 (run (lit 0 3) 1 done))) → ⊥
+unfolding expand
+not-two (atPlace e b) = omega (arith, e)
+
+nor-below : {o : ℕ} → Branched 2 (node o (run (variants (run (lit 0 1) 2 (run (lit 0 3) 1 done))) 1 done)) → ⊥
+unfolding expand
+nor-below (atNode b) = go b
+  where
+    go : {l : List Term} → AllBranched 2 (variants (run (lit 0 1) 2 (run (lit 0 3) 1 done)) ∷ l) → ⊥
+    go (andBranch c b) = not-two c
 
 -- three branches: 2 × 1 + 4, twice
 three : termQuality (variants (run (lit 0 1) 2 (run mark 1 done))) ≡ (6, 6)

@@ -1,4 +1,5 @@
 -- Numbers, lists and tests that every other page uses.
+use mathlib.Core.Path.{_≡_}
 use mathlib.Core.Bool.{Bool, true, false}
 use mathlib.Core.List.{List, [], _∷_, _++_}
 use Prim.Native.Nat.{ℕ, zero, suc, _+_, _*_, _/_, _%_}
@@ -76,6 +77,11 @@ sameTwos [] [] = true
 sameTwos [] (q ∷ m) = false
 sameTwos (p ∷ l) [] = false
 sameTwos (p ∷ l) (q ∷ m) = elim (sameTwo p q) [ true ↦ sameTwos l m | false ↦ false ]
+
+-- a test that tells whether two things are the same
+pub record Decides {A : Type 0} (same : A → A → Bool) : Type 0 where
+  pub alike : (p : A) → same p p ≡ true
+  pub equal : (p q : A) → same p q ≡ true → p ≡ q
 
 -- The place of the first entry that passes; the length where none does.
 unfoldable pub place : {A : Type 0} → (A → Bool) → List A → ℕ

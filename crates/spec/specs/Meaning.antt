@@ -67,6 +67,17 @@ readFirst a = reading 0 a
 abbrev pub readSecond : Term → Term
 readSecond a = reading 1 a
 
+-- every marked place has n branches
+mutual
+  pub data Branched (n : ℕ) : Term → Type 0 where
+    atLiteral : {o v : ℕ} → Branched n (lit o v)
+    atNode : {o : ℕ} {r : Runs} → AllBranched n (expand r) → Branched n (node o r)
+    atPlace : {r : Runs} → length (expand r) ≡ n → AllBranched n (expand r) → Branched n (variants r)
+
+  pub data AllBranched (n : ℕ) : List Term → Type 0 where
+    noBranch : AllBranched n []
+    andBranch : {a : Term} {s : List Term} → Branched n a → AllBranched n s → AllBranched n (a ∷ s)
+
 -- ---- the tree that a pool's number stands for
 unfoldable pub runsOf : List Term → List Two → Runs
 runsOf trees [] = done

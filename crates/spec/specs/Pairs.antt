@@ -7,7 +7,7 @@ use Prim.Native.Nat.{ℕ, zero, suc, _+_}
 use lib.Dec.{eqb}
 use native.Mathlib.Omega.{arith}
 use borrow.Author.Tests.{eqb-true, eq-eqb}
-use Rattle.spec.specs.Bytes.{pick, each, Two, sameTwo, Limits, Res}
+use Rattle.spec.specs.Bytes.{pick, each, Two, sameTwo, Decides, Limits, Res}
 use Rattle.spec.specs.Image.{Tables, kindOf, isCommutative, bestSize}
 use Rattle.spec.specs.Monomial.{counts}
 use Rattle.spec.specs.Transport.{Cell, cost, Problem, solveCells, planSize, planMass}
@@ -74,11 +74,13 @@ same-eq p q e = go (eqb (p .0) (q .0)) refl (eqb (p .1) (q .1)) refl
     go true a false b = absurd (never (rw (a, b) at e))
     go false a y b = absurd (never (rw a at e))
 
+pub two-decides : Decides sameTwo
+two-decides = record { alike = same-refl; equal = same-eq }
+
 abbrev pub pairs : Tables → System Two
 pairs t = record {
   same = sameTwo;
-  sameRefl = same-refl;
-  sameEq = same-eq;
+  decides = two-decides;
   other = (0, 0);
   joins = joins t;
   offers = offersOf t;

@@ -6,7 +6,7 @@ use mathlib.Core.List.{List, [], _∷_, _++_, map}
 use Prim.Native.Nat.{ℕ, zero, suc, _≤_}
 use lib.Dec.{ltb, eqb}
 use lib.ListN.{length, getD}
-use Rattle.spec.specs.Bytes.{pick, both, either, any, In, place, Two, Res, ok, refused, _>>=_, Checked, passed, cutShort}
+use Rattle.spec.specs.Bytes.{pick, both, either, any, In, Decides, place, Two, Res, ok, refused, _>>=_, Checked, passed, cutShort}
 use Rattle.spec.specs.Pool.{Pool, Interned, interned}
 
 -- an operation over nodes, each so many times
@@ -19,8 +19,7 @@ pub record Act (N : Type 0) : Type 0 where
 pub record System (N : Type 0) : Type 0 where
   -- whether two nodes are the same
   pub same : N → N → Bool
-  pub sameRefl : (p : N) → same p p ≡ true
-  pub sameEq : (p q : N) → same p q ≡ true → p ≡ q
+  pub decides : Decides same
   -- any node: what is read past the end of a list
   pub other : N
   -- "every pair of classes that an action of it joins", in the order in which they are entered

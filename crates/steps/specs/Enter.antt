@@ -10,8 +10,7 @@ use lib.ListN.{length, length-append}
 use borrow.Author.Tests.{ltb-true, ltb-false}
 use Rattle.spec.specs.Bytes.{pick, any, In, here, there, Res, ok, refused, _>>=_}
 use Rattle.spec.specs.System.{System, enter, enterAll}
-use Rattle.laws.specs.Lists.{in-nil, in-cons, in-left, in-right, in-append, Distinct, distinct-last}
-use Rattle.steps.specs.Nodes.{is-in, not-in}
+use Rattle.laws.specs.Lists.{in-nil, in-cons, in-left, in-right, in-append, is-in, not-in, Distinct, distinct-last}
 
 -- qs begins with ps
 abbrev pub Starts : {N : Type 0} → List N → List N → Type 0
@@ -82,8 +81,8 @@ grow {N = N} S (p ∷ l) ps = go (any (S .same p) ps) refl (λ qs. grow S l qs)
     next qs g (rs, h) = (rs, grown-then ps p l qs rs g h)
 
     go : (b : Bool) → any (S .same p) ps ≡ b → ((qs : List N) → (rs : List N) × Grown qs l rs) → (rs : List N) × Grown ps (p ∷ l) rs
-    go true e ih = next ps (grown-old ps p (is-in S p ps e)) (ih ps)
-    go false e ih = next (ps ++ (p ∷ [])) (grown-new ps p (not-in S p ps e)) (ih (ps ++ (p ∷ [])))
+    go true e ih = next ps (grown-old ps p (is-in (S .decides) p ps e)) (ih ps)
+    go false e ih = next (ps ++ (p ∷ [])) (grown-new ps p (not-in (S .decides) p ps e)) (ih (ps ++ (p ∷ [])))
 
 -- ---- with the limit
 -- a node beyond the limit would be entered: then there are more than the limit
@@ -102,12 +101,12 @@ unfolding enter
 enter-says {N = N} S lim ps p = go (any (S .same p) ps) refl (ltb (length ps) (lim)) refl
   where
     go : (x : Bool) → any (S .same p) ps ≡ x → (y : Bool) → ltb (length ps) (lim) ≡ y → Entered lim ps (p ∷ []) (pick x (ok ps) (pick y (ok (ps ++ (p ∷ []))) (refused 12)))
-    go true a y b = grown (grown-old ps p (is-in S p ps a)) (λ h. h)
-    go false a true b = grown (grown-new ps p (not-in S p ps a)) (λ h. omega (arith, ltb-true (length ps) (lim) b, length-append ps (p ∷ [])))
+    go true a y b = grown (grown-old ps p (is-in (S .decides) p ps a)) (λ h. h)
+    go false a true b = grown (grown-new ps p (not-in (S .decides) p ps a)) (λ h. omega (arith, ltb-true (length ps) (lim) b, length-append ps (p ∷ [])))
     go false a false b = overfull refl (record {
       nodes = ps ++ (p ∷ []);
       some = λ x i. in-append ps i;
-      once = λ d. distinct-last ps p d (not-in S p ps a);
+      once = λ d. distinct-last ps p d (not-in (S .decides) p ps a);
       many = omega (arith, ltb-false (length ps) (lim) b, length-append ps (p ∷ []));
     })
 

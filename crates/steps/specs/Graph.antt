@@ -11,9 +11,8 @@ use lib.ListN.{length, getD}
 use borrow.Author.Tests.{ltb-true, ltb-false}
 use Rattle.spec.specs.Bytes.{pick, In, here, Res, ok, refused, _>>=_, Checked, passed, cutShort}
 use Rattle.spec.specs.System.{System, enter, enterAll, buildFrom, build, Reachable, queried, joined}
-use Rattle.laws.specs.Lists.{in-nil, in-cons, Distinct, none, more, pigeon}
+use Rattle.laws.specs.Lists.{in-nil, in-cons, get-in, in-get, get-append, Distinct, none, more, pigeon}
 use Rattle.laws.specs.Results.{Later, refused-ok, refused-inj, ok-inj, passed-inj, cut-passed}
-use Rattle.steps.specs.Nodes.{get-in, in-get, get-append}
 use Rattle.steps.specs.Enter.{Starts, starts-refl, starts-trans, starts-in, starts-length, Grown, Entered, grown, overfull, enterAll-says}
 
 -- the nodes hold every node that one of them joins

@@ -1,7 +1,7 @@
 pub mod Quality
-pub mod Nodes
 pub mod Enter
 pub mod Graph
+pub mod BuildFrom
 pub mod Checks
 pub mod Turn
 pub mod Reads

@@ -22,7 +22,7 @@ use Rattle.steps.specs.Run.{Status, Ended, Ends, inBuilding, inStarting,
 -- ---- the queried node stands first
 first-place : {N : Type 0} (S : System N) (p : N) (ps : List N) (qs : List Two) → Starts (p ∷ []) ps → getD qs 0 (0, 0) ≡ lookUp (S .same) (0, 0) ps qs p
 unfolding place
-first-place S p ps qs (rest, e) = rw e (rw (S .sameRefl p, place) refl)
+first-place S p ps qs (rest, e) = rw e (rw (S .decides .alike p, place) refl)
 
 pub root-in : {N : Type 0} (S : System N) (lim : ℕ) (p : N) (b c : ℕ) (ps : List N) → build S lim p b ≡ ok (passed ps c) → In p ps
 root-in S lim p b c ps e = let s = build-first S lim p b c ps e in rw (s .1) here

@@ -57,8 +57,8 @@ module _ {N : Type 0} (S : System N) (M : Making N) (Okay : N → Type 0) (Good 
   holds-look {pool} (node {p = p} {q = q} {a = a} {ps = ps} {qs = qs} {l = l} h k hs) c i = go (S .same c p) refl (in-cons i) (λ j. holds-look hs c j)
     where
       go : (b : Bool) → S .same c p ≡ b → (c ≡ p) ⊎ In c ps → (In c ps → TermAt Good pool (lookUp (S .same) (0, 0) ps qs) (lookUp (S .same) 0 ps l) c) → TermAt Good pool (lookUp (S .same) (0, 0) (p ∷ ps) (q ∷ qs)) (lookUp (S .same) 0 (p ∷ ps) (a ∷ l)) c
-      go true e z ih = rw (e, place, S .sameEq c p e) (h, k)
-      go false e (inl z) ih = absurd (clash (sym (rw z (S .sameRefl p)) ∙ e))
+      go true e z ih = rw (e, place, S .decides .equal c p e) (h, k)
+      go false e (inl z) ih = absurd (clash (sym (rw z (S .decides .alike p)) ∙ e))
       go false e (inr j) ih = rw (e, place) (ih j)
 
   done-cons : (pool : Pool) (p : N) (q : Two) (ps : List N) (qs : List Two) (a : Interned) (s : Terms) → Makes Good pool p q a → Done Good (a .pool) ps qs s → Done Good pool (p ∷ ps) (q ∷ qs) (record { pool = s .pool; terms = a .term ∷ s .terms })

@@ -12,9 +12,8 @@ use Rattle.spec.specs.Bytes.{any, In, here, there, Two}
 use Rattle.spec.specs.System.{System, Act, lookUp, Turn, changes, worth, turnOf, turnsOf, next, qualitiesAfter, Derivation, start, action, Places, noPlace, andPlace}
 use Rattle.spec.specs.Meaning.{_⊑_}
 use Rattle.laws.specs.Tests.{clash}
-use Rattle.laws.specs.Lists.{map-in, in-nil, in-cons, in-map, any-in, any-none, map-map, map-ext, Distinct, none, more, pigeon}
+use Rattle.laws.specs.Lists.{map-in, in-nil, in-cons, in-map, any-in, any-none, map-map, map-ext, look-up, Distinct, none, more, pigeon}
 use Rattle.steps.specs.Quality.{_⊏_, ⊑-refl, ⊑-of-eq, ⊑-trans, ⊏-not, ⊏-⊑-trans, Below, below-nil, below-next}
-use Rattle.steps.specs.Nodes.{look-up}
 use Rattle.steps.specs.Graph.{Closed}
 use Rattle.steps.specs.Turn.{Told, turn-told, turn-old, turn-new, turn-from, Won}
 
@@ -30,14 +29,14 @@ changed S ps r = any changes (turnsOf S ps (qualitiesAfter S r ps))
 module _ {N : Type 0} (S : System N) (ps : List N) where
   pub q-start : (p : N) → In p ps → qualityAfter S ps 0 p ≡ S .startingQuality p
   unfolding qualitiesAfter
-  q-start p i = look-up S (0, 0) (S .startingQuality) ps p i
+  q-start p i = look-up (S .decides) (0, 0) (S .startingQuality) ps p i
 
   after-map : (r : ℕ) → qualitiesAfter S (suc r) ps ≡ map (λ p. turnOf S (qualityAfter S ps r) p .quality) ps
   unfolding qualitiesAfter turnsOf
   after-map r = map-map (turnOf S (qualityAfter S ps r)) (λ w. w .quality) ps
 
   pub q-next : (r : ℕ) (p : N) → In p ps → qualityAfter S ps (suc r) p ≡ turnOf S (qualityAfter S ps r) p .quality
-  q-next r p i = rw (after-map r) (look-up S (0, 0) (λ p. turnOf S (qualityAfter S ps r) p .quality) ps p i)
+  q-next r p i = rw (after-map r) (look-up (S .decides) (0, 0) (λ p. turnOf S (qualityAfter S ps r) p .quality) ps p i)
 
   pub by-node : (r : ℕ) → qualitiesAfter S r ps ≡ map (qualityAfter S ps r) ps
   unfolding qualitiesAfter

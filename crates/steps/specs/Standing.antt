@@ -11,13 +11,12 @@ use Rattle.spec.specs.Bytes.{In, here, there, place, Two, Res, ok, refused, Che
 use Rattle.spec.specs.Pool.{Pool, Interned}
 use Rattle.spec.specs.System.{System, Making, Act, lookUp, stay, act, Choice, turnOf, planRuns, choiceTerm, Terms, State, outcome, stateAfter, started, startState}
 use Rattle.spec.specs.Listing.{listingOf}
-use Rattle.laws.specs.Lists.{length-map}
+use Rattle.laws.specs.Lists.{length-map, get-in, place-in}
 use Rattle.laws.specs.Results.{ok-inj, refused-ok, passed-inj, cut-passed}
 use Rattle.pools.specs.Pool.{RunsBelow, PoolValid, getD-last}
 use Rattle.pools.specs.PoolIntern.{Extends, extends-refl, extends-trans, extends-within}
 use Rattle.pools.specs.PoolSort.{plan-below}
 use Rattle.pools.specs.OrderListing.{listing-larger}
-use Rattle.steps.specs.Nodes.{get-in, place-in}
 use Rattle.steps.specs.Graph.{Closed}
 use Rattle.steps.specs.Turn.{Inside, choice-joins}
 use Rattle.steps.specs.TurnsFrom.{get-map, quality-at, turns-length, RoundAt, turnTerm, round-begin, round-cut, round-turn, round-refused, round-end}
@@ -34,10 +33,10 @@ pub record Standing {N : Type 0} (Fits : Two → Type 0) (ps : List N) (s : Stat
 -- ---- what stands for a node of the list
 module _ {N : Type 0} (S : System N) {Fits : Two → Type 0} {ps : List N} {s : State} (K : Standing Fits ps s) where
   pub look-within : (c : N) → In c ps → lookUp (S .same) 0 ps (s .terms) c < length (s .pool)
-  look-within c i = K .within (place (S .same c) ps) (place-in S c ps i)
+  look-within c i = K .within (place (S .same c) ps) (place-in (S .decides) c ps i)
 
   pub look-fits : (c : N) → In c ps → Fits (lookUp (S .same) (0, 0) ps (s .qualities) c)
-  look-fits c i = K .fits (place (S .same c) ps) (place-in S c ps i)
+  look-fits c i = K .fits (place (S .same c) ps) (place-in (S .decides) c ps i)
 
 -- ---- one term more
 -- what a step that enters a term in the pool leaves

@@ -20,14 +20,14 @@ told-⊑ z w (inr (n, l)) = ⊏-⊑ {a = w .quality} {b = z} l
 
 module _ {N : Type 0} (S : System N) (q : N → Two) where
   -- ---- one offer
-  offer-old : (a : Act N) (w : Turn N) → offer S q a w .quality ⊑ w .quality
+  pub offer-old : (a : Act N) (w : Turn N) → offer S q a w .quality ⊑ w .quality
   offer-old a w = go (better (worth S q a) (w .quality)) refl
     where
       go : (b : Bool) → better (worth S q a) (w .quality) ≡ b → offer S q a w .quality ⊑ w .quality
       go true e = rw e (⊏-⊑ {a = worth S q a} {b = w .quality} (better-is (worth S q a) (w .quality) e))
       go false e = rw e (⊑-refl (w .quality))
 
-  offer-new : (a : Act N) (w : Turn N) → offer S q a w .quality ⊑ worth S q a
+  pub offer-new : (a : Act N) (w : Turn N) → offer S q a w .quality ⊑ worth S q a
   offer-new a w = go (better (worth S q a) (w .quality)) refl
     where
       go : (b : Bool) → better (worth S q a) (w .quality) ≡ b → offer S q a w .quality ⊑ worth S q a
@@ -54,10 +54,10 @@ module _ {N : Type 0} (S : System N) (q : N → Two) where
   all-keep I keeps [] w k = k
   all-keep I keeps (a ∷ l) w k = all-keep I keeps l (offer S q a w) (keeps a w k)
 
-  all-old : (l : List (Act N)) (w : Turn N) → offerAll S q l w .quality ⊑ w .quality
+  pub all-old : (l : List (Act N)) (w : Turn N) → offerAll S q l w .quality ⊑ w .quality
   all-old l w = all-keep (λ u. u .quality ⊑ w .quality) (λ a u k. ⊑-trans (offer S q a u .quality) (u .quality) (w .quality) (offer-old a u) k) l w (⊑-refl (w .quality))
 
-  all-new : (l : List (Act N)) (w : Turn N) (a : Act N) → In a l → offerAll S q l w .quality ⊑ worth S q a
+  pub all-new : (l : List (Act N)) (w : Turn N) (a : Act N) → In a l → offerAll S q l w .quality ⊑ worth S q a
   unfolding offerAll
   all-new (b ∷ l) w a here = ⊑-trans (offerAll S q l (offer S q a w) .quality) (offer S q a w .quality) (worth S q a) (all-old l (offer S q a w)) (offer-new a w)
   all-new (b ∷ l) w a (there i) = all-new l (offer S q b w) a i
