@@ -8,7 +8,7 @@ use lib.Dec.{T, leb, eqb}
 use lib.ListN.{length}
 use borrow.Author.Tests.{leb-true}
 use Rattle.spec.specs.Bytes as bytes
-use Rattle.spec.specs.Bytes.{both, either, refused}
+use Rattle.spec.specs.Bytes.{either, refused}
 use Rattle.spec.specs.Run.{documentLimits}
 use Rattle.spec.specs.Merge.{mergeUnder, mergeOf, outputAfter}
 use Rattle.laws.specs.Tests.{both-true}

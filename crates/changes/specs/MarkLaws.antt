@@ -11,6 +11,7 @@ use lib.Seq.{slice, take-length}
 use Rattle.spec.specs.Bytes.{pick, both, either, any, each, upFrom, Two}
 use Rattle.spec.specs.Image.{Tables, Operation, Member, NO-IDENTITY, theClass, theMember, membersOf, childrenOf}
 use Rattle.spec.specs.Monomial.{classes}
+use Rattle.laws.specs.Tests.{either-false}
 use Rattle.laws.specs.Valid.{Valid}
 use Rattle.laws.specs.AcceptedLists.{any-cons}
 use Rattle.laws.specs.AcceptedTurns.{any-append}
@@ -49,10 +50,6 @@ module _ (t : Tables) (v : Valid t) (marks : List ℕ) (x : Span) where
 either-true : (b : Bool) → either b true ≡ true
 either-true true = refl
 either-true false = refl
-
-either-false : (b : Bool) → either b false ≡ b
-either-false true = refl
-either-false false = refl
 
 -- ---- identities
 -- an operation whose identity passes

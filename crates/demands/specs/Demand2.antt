@@ -1,14 +1,12 @@
 -- Demand 2, of a call of `merge` that is not refused, from its contract: the formula's readings, its size and mass. Then, of the definitions: the transport plans that turns take.
 use mathlib.Core.Path.{_≡_, refl, sym, ap, _∙_, subst}
-use mathlib.Core.Bool.{Bool, true, false}
-use mathlib.Core.List.{List, [], _∷_, map, append-assoc}
-use mathlib.Core.Option.{Option, none, some}
+use mathlib.Core.Bool.{Bool}
+use mathlib.Core.List.{List, _∷_, map, append-assoc}
 use Prim.Native.Nat.{ℕ, _<_}
 use lib.ListN.{length, take}
 use lib.Seq.{take-at}
-use Rattle.spec.specs.Bytes.{pick, Two, ok}
+use Rattle.spec.specs.Bytes.{Two, ok}
 use Rattle.spec.specs.Image.{Tables, tablesOf}
-use Rattle.spec.specs.Transport.{Problem, solveCells}
 use Rattle.spec.specs.Action.{Action, TransportAction, structural, transports, cellPairs}
 use Rattle.spec.specs.System as system
 use Rattle.spec.specs.System.{worth}

@@ -12,6 +12,7 @@ use Rattle.spec.specs.Pool.{Pool, Interned, startingTerm}
 use Rattle.spec.specs.Pairs as P
 use Rattle.spec.specs.Round.{startingQuality, Terms}
 use Rattle.spec.specs.Run.{startingTerms}
+use Rattle.laws.specs.Lists.{map-snoc}
 use Rattle.laws.specs.Valid.{Valid}
 use Rattle.pools.specs.Refused.{start-only}
 use Rattle.laws.specs.BestMembers.{IsPair}
@@ -73,10 +74,6 @@ StartsAll lim t ps whole from pairs terms runs S.Full = whole ≡ refused 13
 pub starting-none : (lim : Limits) (t : Tables) (ps : List Two) (b : ℕ) (pairs terms runs : List ℕ) → Holds terms runs → countIn terms ≤ lim .terms → Starting lim t ps (startingTerms lim t ps b (poolOf terms runs)) (poolOf terms runs) pairs terms runs 0 b
 unfolding qualitiesFrom termsFrom
 starting-none lim t ps b pairs terms runs h w = record { sofar = starting-begin (P.making lim t) ps (0, 0) b (poolOf terms runs); midway = midway-begin (poolOf terms runs) (h .valid); qualities = refl; holds = h; within = w }
-
-map-snoc : (f : Two → Two) (l : List Two) (x : Two) → map f (l ++ (x ∷ [])) ≡ map f l ++ (f x ∷ [])
-map-snoc f [] x = refl
-map-snoc f (y ∷ l) x = ap (λ (z : List Two). f y ∷ z) (map-snoc f l x)
 
 module _ (lim : Limits) (t : Tables) (ps : List Two) (whole : Res (Checked Terms)) (from : Pool) (pairs terms runs : List ℕ) (k b : ℕ) (h : k < length ps) (X : Starting lim t ps whole from pairs terms runs k b) where
   pub start-cut : b ≡ 0 → CutStarting lim whole from terms runs

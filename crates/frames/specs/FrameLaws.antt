@@ -1,13 +1,13 @@
 -- What the test of a frame says, and a refusal's line piece by piece.
 use mathlib.Core.Path.{_≡_, refl, sym}
-use mathlib.Core.Bool.{Bool, true, false}
+use mathlib.Core.Bool.{true, false}
 use mathlib.Core.List.{List, [], _∷_, _++_}
 use Prim.Native.Nat.{ℕ, _+_, _≤_, _<_}
 use native.Mathlib.Omega.{arith}
 use lib.Dec.{leb, eqb}
 use lib.ListN.{length, length-append}
 use borrow.Author.Tests.{le-leb, lt-leb, leb-true, eqb-true}
-use Rattle.spec.specs.Bytes.{both, be2, be4, text, decimal}
+use Rattle.spec.specs.Bytes.{be2, be4, text, decimal}
 use Rattle.spec.specs.Listing.{line}
 use Rattle.spec.specs.Merge.{INPUT}
 use Rattle.laws.specs.Tests.{both-true}

@@ -1,14 +1,12 @@
 -- What is printed of an answer.
-use mathlib.Core.Path.{_≡_, refl, sym, ap, _∙_}
+use mathlib.Core.Path.{_≡_, ap, _∙_}
 use mathlib.Core.List.{List, _++_}
 use Prim.Native.Nat.{ℕ, _+_}
 use native.Mathlib.Omega.{arith}
 use lib.ListN.{length, drop}
-use Rattle.spec.specs.Bytes.{Res, ok, refused}
 use Rattle.decimals.specs.Writing.{Wrote}
 use Rattle.contract.specs.declared.Answer.{Answer}
 use Rattle.contract.specs.declared.Answer.the-variants.{Listing, Refused, Doubled}
-use Rattle.contract.specs.Answers.{answerOf}
 use Rattle.frames.specs.Frame.{refusalBytes}
 
 -- the bytes of l stand at the output's front; past them it is as it was

@@ -1,9 +1,8 @@
 -- What holds of a graph that is built in full: "it holds the queried pair and, with each pair, every pair of classes that an action of it joins. Its n pairs are counted once each."
 use mathlib.Core.Path.{_≡_, refl, ap, _∙_}
-use mathlib.Core.Bool.{Bool, true, false}
-use mathlib.Core.List.{List, [], _∷_}
+use mathlib.Core.Bool.{false}
+use mathlib.Core.List.{List}
 use Prim.Native.Nat.{ℕ, zero, suc, _+_, _*_, _≤_, _<_}
-use native.Mathlib.Nat.{not-suc-le-zero}
 use native.Mathlib.Omega.{arith}
 use lib.ListN.{length, getD, take, replicate, length-replicate, getD-replicate}
 use Rattle.spec.specs.Bytes.{Limits, Two, any, place, sameTwo, Res, ok, refused, passed, cutShort, Checked}

@@ -11,6 +11,7 @@ use borrow.Author.Tests.{eqb-true, eqb-false, eq-eqb, ne-eqb}
 use lib.ListN.{length, getD, set, take, drop, length-append}
 use lib.Seq.{getD-append-add, getD-drop, set-split, drop-drop, drop-append-add}
 use Rattle.spec.specs.Bytes.{pick, sum, Two}
+use Rattle.laws.specs.Lists.{map-snoc}
 use Rattle.spec.specs.Pool.{joinTo, joinRuns, opNode}
 use Rattle.terms.specs.Buffers.{part, unpack, nodeOf}
 use Rattle.joining.specs.Joining.{appendNumber, joinNumbers, over, Begins, joinedIn}
@@ -69,10 +70,6 @@ pub joinNumbers-snoc : (a l : List ℕ) (x : ℕ) → joinNumbers a (l ++ (x ∷
 unfolding joinNumbers
 joinNumbers-snoc a [] x = refl
 joinNumbers-snoc a (y ∷ l) x = joinNumbers-snoc (appendNumber a y) l x
-
-map-snoc : {A B : Type 0} (f : A → B) (l : List A) (x : A) → map f (l ++ (x ∷ [])) ≡ map f l ++ (f x ∷ [])
-map-snoc f [] x = refl
-map-snoc {A} {B} f (y ∷ l) x = ap (λ (t : List B). f y ∷ t) (map-snoc f l x)
 
 joined-part : (list : List ℕ) (n : ℕ) → map unpack (joinedIn list n) ≡ joinRuns (map unpack (part list 0 n))
 unfolding joinNumbers joinRuns part

@@ -76,6 +76,10 @@ pub map-ext : {A B : Type 0} (f g : A → B) (l : List A) → ((x : A) → In x 
 map-ext f g [] h = refl
 map-ext f g (x ∷ l) h = let e = h x here in let r = map-ext f g l (λ y i. h y (there i)) in λ i. e i ∷ r i
 
+pub map-snoc : {A B : Type 0} (f : A → B) (l : List A) (x : A) → map f (l ++ (x ∷ [])) ≡ map f l ++ (f x ∷ [])
+map-snoc f [] x = refl
+map-snoc {A} {B} f (y ∷ l) x = ap (λ (z : List B). f y ∷ z) (map-snoc f l x)
+
 pub length-map : {A B : Type 0} (f : A → B) (l : List A) → length (map f l) ≡ length l
 length-map f [] = refl
 length-map f (x ∷ l) = ap suc (length-map f l)

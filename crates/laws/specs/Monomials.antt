@@ -1,15 +1,15 @@
 -- The monomial of a list of children is sorted, free of repeats, and adds counts; padding makes totals equal.
-use mathlib.Core.Path.{_≡_, refl, sym, ap, _∙_}
+use mathlib.Core.Path.{_≡_, refl}
 use mathlib.Core.Logic.{_≢_, _⊎_, inl, inr}
 use mathlib.Core.Bool.{Bool, true, false}
-use mathlib.Core.List.{List, [], _∷_, map}
-use Prim.Native.Nat.{ℕ, zero, suc, _+_, _-_, _≤_, _<_}
+use mathlib.Core.List.{List, [], _∷_}
+use Prim.Native.Nat.{ℕ, zero, suc, _+_, _-_, _≤_}
 use native.Mathlib.Omega.{arith}
-use lib.Dec.{ltb, eqb, ltb→lt, nltb→le, eqb→eq}
+use lib.Dec.{ltb, eqb}
 use borrow.Author.Tests.{ltb-true, ltb-false, eqb-true, eqb-false}
 use Rattle.spec.specs.Bytes.{pick, sum, Two}
 use Rattle.spec.specs.Image.{NO-IDENTITY}
-use Rattle.spec.specs.Monomial.{Monomial, insertAdd, addAll, monomial, classes, total, MonomialPair, pairOf, padPair}
+use Rattle.spec.specs.Monomial.{Monomial, insertAdd, addAll, monomial, total, MonomialPair, pairOf, padPair}
 use Rattle.spec.specs.Meaning.{In, here, there, countIn}
 
 -- ---- "Classes rising": each class above the one before, so that none stands twice

@@ -24,3 +24,7 @@ either-true false b = (λ e. inr e, λ h. elim h [ inl e ↦ absurd (clash (sym 
 pub either-else : (a b : Bool) → either a b ≡ true ↔ (a ≡ false → b ≡ true)
 either-else true b = (λ e f. absurd (clash f), λ h. refl)
 either-else false b = (λ e f. e, λ h. h refl)
+
+pub either-false : (b : Bool) → either b false ≡ b
+either-false true = refl
+either-false false = refl

@@ -6,7 +6,7 @@ use mathlib.Core.List.{List, map}
 use Prim.Native.Nat.{ℕ, zero, suc, _+_, _≤_, _<_}
 use lib.ListN.{length, getD, take}
 use Rattle.spec.specs.Bytes.{Two, pick, sum, be4}
-use Rattle.spec.specs.Image.{Tables, Class, Member, arities, FREE, MSet, Lit, NO-IDENTITY, HEADER, OPERATIONS, CLASSES, MEMBERS, CHILDREN, BEST-SIZE, isAC, isCommutative, theOperation, theClass, theMember, kindOf, identityOf, bestSize, membersOf, childrenOf, bestMember, sizeOver, tablesOf, imageEnd}
+use Rattle.spec.specs.Image.{Tables, Member, arities, FREE, MSet, Lit, NO-IDENTITY, HEADER, OPERATIONS, CLASSES, MEMBERS, CHILDREN, BEST-SIZE, isAC, isCommutative, theOperation, theClass, theMember, kindOf, identityOf, bestSize, membersOf, childrenOf, bestMember, sizeOver, tablesOf, imageEnd}
 use Rattle.spec.specs.Meaning.{In}
 
 -- 4: "operations (1 to 64), classes (1 to 256), members (1 to 1,024), children (0 to 4,096)"

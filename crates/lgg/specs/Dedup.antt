@@ -7,13 +7,13 @@ use Prim.Native.Nat.{ℕ, _+_, _*_}
 use native.Mathlib.Omega.{arith}
 use lib.Dec.{eqb}
 use Rattle.spec.specs.Bytes as S
-use Rattle.spec.specs.Bytes.{Limits, any, In, here, there, each, Two, Res, ok, refused, _>>=_}
+use Rattle.spec.specs.Bytes.{Limits, any, In, here, each, Two, Res, ok, refused, _>>=_}
 use Rattle.spec.specs.Image.{Tables, identityOf}
 use Rattle.spec.specs.Monomial.{Monomial, MonomialPair, monomialsOf, padPair, bothItself, representationPairs, narrow, narrowPairs}
 use Rattle.spec.specs.Transport.{planSize, planMass}
 use Rattle.spec.specs.Action.{Action, TransportAction, structural, acOps, transports, cellPairs, joins}
 use Rattle.spec.specs.System as system
-use Rattle.spec.specs.System.{System, better, stay, worth, offer, offerAll}
+use Rattle.spec.specs.System.{System, stay, worth, offer, offerAll}
 use Rattle.spec.specs.Pairs.{solvedPlans, offersOf, pairs}
 use Rattle.spec.specs.Graph.{enterAll}
 use Rattle.spec.specs.Round.{ones, Act, ofAction, Turn, turnOf}

@@ -4,7 +4,7 @@ use mathlib.Core.List.{List}
 use Prim.Native.Nat.{ℕ, _*_, _≤_}
 use lib.Dec.{leb}
 use lib.ListN.{length}
-use Rattle.spec.specs.Bytes.{Limits, Res, ok, refused, _>>=_, rule}
+use Rattle.spec.specs.Bytes.{Limits, Res, ok, _>>=_, rule}
 use Rattle.spec.specs.System as system
 use Rattle.spec.specs.Run.{runOf}
 use Rattle.spec.specs.Listing.{listingOf}

@@ -1,10 +1,9 @@
 -- Laws of truth values and lists that the search rests on. Assumes nothing.
 use mathlib.Core.Path.{_≡_, refl, ap, _∙_}
-use mathlib.Core.Bool.{Bool, true, false, not, _||_}
+use mathlib.Core.Bool.{Bool, true, false, not}
 use mathlib.Core.List.{List, [], _∷_}
 use Prim.Native.Nat.{ℕ, zero, suc, _<_, min}
 use native.Mathlib.Nat.{zero-min, min-zero, suc-min-suc, not-suc-le-zero, le-of-suc-le-suc}
-use native.Mathlib.Omega.{arith}
 use lib.Dec.{T}
 use lib.ListN.{length, getD, take, drop}
 use Rattle.spec.specs.Bytes.{either}
@@ -21,10 +20,6 @@ is-false false _ = refl
 pub or-either : (a b c : Bool) → b ≡ c → (a || b) ≡ either a c
 or-either true b c e = refl
 or-either false b c e = e
-
-pub either-false : (t : Bool) → either t false ≡ t
-either-false true = refl
-either-false false = refl
 
 module _ {A : Type 0} where
   -- ---- reading and taking

@@ -5,10 +5,8 @@ use mathlib.Core.List.{List, [], _∷_}
 use Prim.Native.Nat.{ℕ, zero, suc, _≤_, _<_}
 use native.Mathlib.Nat.{not-suc-le-zero, le-of-suc-le-suc}
 use native.Mathlib.Omega.{arith}
-use lib.Dec.{eqb}
 use lib.ListN.{length, getD, take, set}
-use borrow.Author.Tests.{eqb-true}
-use Rattle.spec.specs.Bytes.{any, place, Two, sameTwo}
+use Rattle.spec.specs.Bytes.{any, place}
 use Rattle.laws.specs.Tests.{clash}
 
 module _ {A : Type 0} where

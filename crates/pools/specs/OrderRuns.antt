@@ -14,7 +14,7 @@ use Rattle.spec.specs.Bytes.{Two}
 use Rattle.spec.specs.Pool.{Order, less, equal, greater, then, past, runsCmp}
 use Rattle.spec.specs.Meaning.{In, here, there}
 use Rattle.laws.specs.BagCount.{written}
-use Rattle.pools.specs.Pool.{Joined, none, one, more}
+use Rattle.pools.specs.Pool.{Joined, more, joined-tail}
 use Rattle.pools.specs.OrderTerms.{lex}
 use Rattle.laws.specs.Lists.{in-cons}
 
@@ -124,10 +124,6 @@ same-start (suc k) a s t e = same-start k a s t (tail e)
 
 heads : (a b : ℕ) (s t : List ℕ) → a ∷ s ≡ b ∷ t → a ≡ b
 heads a b s t e = cc
-
-joined-tail : {r : Two} {l : List Two} → Joined (r ∷ l) → Joined l
-joined-tail one = none
-joined-tail (more h j) = j
 
 -- what follows a run does not begin with its child
 no-more : (r : Two) (l : List Two) (s : List ℕ) → Joined (r ∷ l) → Counted l → written l ≡ r .0 ∷ s → ⊥

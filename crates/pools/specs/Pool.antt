@@ -77,7 +77,7 @@ unfolding joinRuns
 join-below i [] b = b
 join-below i (r ∷ l) b = joinTo-below i r (joinRuns l) (b .earlier r here) (b .counted r here) (join-below i l (runs-below-tail b))
 
-joined-tail : {r : Two} {l : List Two} → Joined (r ∷ l) → Joined l
+pub joined-tail : {r : Two} {l : List Two} → Joined (r ∷ l) → Joined l
 joined-tail one = none
 joined-tail (more h j) = j
 

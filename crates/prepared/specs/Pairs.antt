@@ -1,7 +1,5 @@
 -- The pairs of a graph that is built in full: how many there are, and where their keys begin.
-use mathlib.Core.List.{List}
 use Prim.Native.Nat.{ℕ, _*_}
-use Rattle.image.specs.declared.Image.{Image}
 use Rattle.prepared.specs.declared.Begun.{Begun}
 use Rattle.prepared.specs.declared.Begun.the-variants as B
 use Rattle.prepared.specs.declared.Prepared.{Prepared}

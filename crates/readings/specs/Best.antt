@@ -8,19 +8,19 @@ use native.Mathlib.Omega.{arith}
 use lib.Dec.{eqb}
 use borrow.Author.Tests.{eqb-true, eqb-false}
 use lib.ListN.{length}
-use Rattle.spec.specs.Bytes.{Limits, Two, pick, sum, Res, ok, refused, _>>=_}
+use Rattle.spec.specs.Bytes.{Limits, Two, sum, Res, ok, refused, _>>=_}
 use Rattle.spec.specs.Image.{Tables, Member, MSet, Lit, arities, isCommutative, kindOf, bestSize, membersOf, childrenOf, bestMember, sizeOver}
 use Rattle.spec.specs.Monomial.{classes, counts}
 use Rattle.spec.specs.Transport.{planSize, planMass}
-use Rattle.spec.specs.Pool.{Pool, joinRuns, opNode, litNode, variantsNode, Interned, intern, Children, childTerms, bestTermIn, bestTerm}
+use Rattle.spec.specs.Pool.{Pool, opNode, litNode, Interned, intern, Children, childTerms, bestTermIn, bestTerm}
 use Rattle.spec.specs.Round.{cellsOver, qualityOver}
-use Rattle.spec.specs.Meaning.{In, here, there, Term, lit, node, Runs, termQuality, runsQuality, expand, reading, runsOf, treeOf, treesAfter, treeAt, atLiteral, member, Belongs, literal}
+use Rattle.spec.specs.Meaning.{In, here, there, Term, lit, node, Runs, termQuality, expand, reading, treesAfter, treeAt, atLiteral, member, Belongs, literal}
 use Rattle.laws.specs.Tests.{clash}
 use Rattle.laws.specs.Scans.{nil-of-length}
 use Rattle.laws.specs.Valid.{Valid}
 use Rattle.laws.specs.Bag.{perm-of-eq}
 use Rattle.laws.specs.BagCount.{written, spread, map-spread, spread-written, occurs-written, written-ones}
-use Rattle.pools.specs.Pool.{RunsBelow, runs-below-nil, runs-below-cons, PoolValid, op-valid, lit-valid, variants-valid, numbered, tree-literal, tree-marked}
+use Rattle.pools.specs.Pool.{RunsBelow, runs-below-nil, runs-below-cons, PoolValid, op-valid, lit-valid, tree-literal}
 use Rattle.pools.specs.PoolIntern.{Extends, extends-refl, extends-trans, extends-within, extends-tree, Interns, intern-enters, op-means}
 use Rattle.steps.specs.Readings.{Makes}
 use Rattle.readings.specs.ReadingsNode.{Covers, inOrder, anyOrder, TermFor, TermsFor, noTerm, andTerm, good-node}

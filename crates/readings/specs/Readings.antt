@@ -1,7 +1,7 @@
 -- Demand 2, of a run: the term that the steps build has the reported quality, belongs to the left class read by the first branch at every marked place, and to the right class read by the second.
 use mathlib.Core.Path.{_≡_, refl}
 use mathlib.Core.Logic.{_⊎_, inl, inr}
-use mathlib.Core.List.{List, [], map}
+use mathlib.Core.List.{List, map}
 use mathlib.Core.Option.{Option, none, some}
 use Prim.Native.Nat.{ℕ, zero, suc, _<_}
 use native.Mathlib.Omega.{arith}

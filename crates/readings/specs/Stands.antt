@@ -1,10 +1,9 @@
 -- The states of a run over pairs stand: every pair has a term of the pool, and a quality whose mass is at most its size and whose numbers have 32 bits.
 use mathlib.Core.Bool.{Bool, true, false}
-use mathlib.Core.List.{List}
 use Prim.Native.Nat.{ℕ, _+_, _^_, _≤_, _<_}
 use native.Mathlib.Omega.{arith}
 use lib.Dec.{eqb}
-use Rattle.spec.specs.Bytes.{In, Limits, pick, Two, ok}
+use Rattle.spec.specs.Bytes.{In, Limits, pick, Two}
 use Rattle.spec.specs.Image.{Tables, BEST-SIZE, bestSize}
 use Rattle.spec.specs.Action.{joins}
 use Rattle.spec.specs.Pairs.{startingQuality, pairs, making}
@@ -13,7 +12,7 @@ use Rattle.laws.specs.Valid.{Valid}
 use Rattle.laws.specs.BestMembers.{IsPair}
 use Rattle.pools.specs.PoolSort.{action-enters}
 use Rattle.steps.specs.Bounds.{Low, over-low, turn-low, turn-small}
-use Rattle.steps.specs.Standing.{Standing, Keeps, Begins}
+use Rattle.steps.specs.Standing.{Keeps, Begins}
 use Rattle.lgg.specs.Moves.{pair-reads}
 use Rattle.readings.specs.Starting.{starting-made}
 

@@ -48,7 +48,7 @@ module _ (lim : Limits) (t : Tables) where
   marked-good c ts a b g h =
       let r = runsOf ts (joinRuns ((a, 1) ∷ (b, 1) ∷ [])) in
       let s : runsQuality r .0 ≡ bestSize t (c .0) + bestSize t (c .1) =
-          runs-size r ∙ ap (λ (l : List Term). sum (map size l)) (two-branches ts a b) ∙ omega (arith, ap (λ (z : Two). z .0) (g .quality), ap (λ (z : Two). z .0) (h .quality)) in record {
+      runs-size r ∙ ap (λ (l : List Term). sum (map size l)) (two-branches ts a b) ∙ omega (arith, ap (λ (z : Two). z .0) (g .quality), ap (λ (z : Two). z .0) (h .quality)) in record {
         quality = ap termQuality (tree-marked ts (variantsNode a b) refl) ∙ ap₂ (λ (x y : ℕ). (x, y)) s s;
         branched = rw (tree-marked ts (variantsNode a b) refl) (atPlace (ap length (two-branches ts a b)) (rw (two-branches ts a b) (andBranch (g .branched) (andBranch (h .branched) noBranch))));
         reads = two-ways (λ k. Belongs t (reading k (treeOf ts (variantsNode a b))) (sides c k)) (rw (read-variants ts a b .0) (g .reads 0 (omega arith))) (rw (read-variants ts a b .1) (h .reads 1 (omega arith)));

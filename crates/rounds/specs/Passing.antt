@@ -1,16 +1,17 @@
 -- Pairs that are not live are passed over: a check each, as if each had its turn.
-use mathlib.Core.Path.{_≡_, refl, sym, ap, _∙_}
-use mathlib.Core.Bool.{Bool, true, false}
+use mathlib.Core.Path.{_≡_, refl, sym}
+use mathlib.Core.Bool.{Bool, false}
 use mathlib.Core.List.{List}
 use Prim.Native.Nat.{ℕ, zero, suc, _+_, _-_, _≤_, _<_}
 use native.Mathlib.Decide.{decLt}
 use native.Mathlib.Omega.{arith}
 use lib.ListN.{length, getD}
-use Rattle.spec.specs.Bytes.{Limits, either, Two, Res, Checked}
+use Rattle.spec.specs.Bytes.{Limits, Two, Res, Checked}
 use Rattle.spec.specs.Image.{Tables}
 use Rattle.spec.specs.Round.{Terms}
 use Rattle.spec.specs.Run.{State}
 use Rattle.laws.specs.Firsts.{first-within, first-skips}
+use Rattle.laws.specs.Tests.{either-false}
 use Rattle.steps.specs.Standing.{Standing}
 use Rattle.readings.specs.Stands.{Fits}
 use Rattle.live_pairs.specs.Live.{liveIn, nextLive, dueOf}
@@ -31,10 +32,6 @@ due-before : (k j b i : ℕ) → b < dueOf k j → k ≤ i → i < k + b → Dec
 due-before k j b i h l m (yes q) = omega (arith, due-idle k j q)
 due-before k j b i h l m (no q) = absurd (omega (arith, due-live k j (omega arith)))
 
-either-false : (c : Bool) → c ≡ either c false
-either-false true = refl
-either-false false = refl
-
 module _ (lim : Limits) (t : Tables) (ps : List Two) (s : State) (whole : Res (Checked Terms)) (pairs terms runs : List ℕ) (changed : Bool) (w : ℕ) (graph : List ℕ) (G : Graphs lim t w ps (length ps) graph) (S : Standing Fits ps s) (llive rlive : List ℕ) (Q : Quiet t ps (s .qualities) llive rlive) where
   -- pair k is not live
   pass-one : (k b c : ℕ) → k < length ps → b ≡ c + 1 → Idles ps pairs llive rlive k → liveIn llive rlive (getD ps k (0, 0)) ≡ false → Turning lim t ps s whole pairs terms runs k b changed → Turning lim t ps s whole pairs terms runs (k + 1) c changed
@@ -42,7 +39,7 @@ module _ (lim : Limits) (t : Tables) (ps : List Two) (s : State) (whole : Res (C
       let p = getD ps k (0, 0) in
       turn-moved lim t ps s whole pairs terms runs k b changed h X w graph G p refl S c pairs terms runs false changed e
       (idle-moved lim t w graph pairs p k terms runs (number-here lim t w ps (length ps) graph G k h p refl) (quiet-here lim t w ps (length ps) graph G k h p refl s pairs (X .reads) llive rlive Q q) (X .holds) (I k (omega arith) h q))
-      (either-false changed)
+      (sym (either-false changed))
 
   -- m pairs from k on are not live
   pass-over : (m k b : ℕ) → k + m ≤ length ps → m ≤ b → Idles ps pairs llive rlive k → ((i : ℕ) → k ≤ i → i < k + m → liveIn llive rlive (getD ps i (0, 0)) ≡ false) → Turning lim t ps s whole pairs terms runs k b changed → Turning lim t ps s whole pairs terms runs (k + m) (b - m) changed

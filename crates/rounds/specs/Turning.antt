@@ -9,10 +9,10 @@ use lib.ListN.{length, getD, take}
 use lib.Seq.{take-suc, take-all}
 use Rattle.spec.specs.Bytes.{Limits, any, either, Two, Res, ok, refused, Checked, passed, cutShort}
 use Rattle.spec.specs.Image.{Tables}
-use Rattle.spec.specs.Pool.{Interned}
 use Rattle.spec.specs.Pairs as P
 use Rattle.spec.specs.Round.{lookUp, Turn, changes, turnOf, Terms}
 use Rattle.spec.specs.Run.{State}
+use Rattle.laws.specs.Lists.{map-snoc}
 use Rattle.steps.specs.Refusals.{choice-only}
 use Rattle.pools.specs.PoolIntern.{Extends}
 use Rattle.pools.specs.PoolLimits.{choice-within}
@@ -76,10 +76,6 @@ turning-none lim t ps s b pairs terms runs r e h l = record {
   holds = h;
   within = l;
 }
-
-map-snoc : (f : Turn → Two) (l : List Turn) (x : Turn) → map f (l ++ (x ∷ [])) ≡ map f l ++ (f x ∷ [])
-map-snoc f [] x = refl
-map-snoc f (y ∷ l) x = ap (λ (z : List Two). f y ∷ z) (map-snoc f l x)
 
 module _ (lim : Limits) (t : Tables) (ps : List Two) (s : State) (whole : Res (Checked Terms)) (pairs terms runs : List ℕ) (k b : ℕ) (changed : Bool) (h : k < length ps) (X : Turning lim t ps s whole pairs terms runs k b changed) where
   pub turn-cut : b ≡ 0 → Stays lim ps s whole pairs terms runs

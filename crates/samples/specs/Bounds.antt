@@ -14,7 +14,7 @@ use Rattle.spec.specs.Graph.{enter, buildFrom}
 use Rattle.spec.specs.Pool.{Pool, litNode, intern, interned}
 use Rattle.spec.specs.Round.{Turn, act, turnsTerms}
 use Rattle.spec.specs.Run.{documentLimits}
-use Rattle.spec.specs.Transport.{Cell, cost, Problem, Solution, solveTransport}
+use Rattle.spec.specs.Transport.{cost, solveTransport}
 use Rattle.spec.specs.Merge.{mergeOf, programOf, OUTPUT}
 use Rattle.spec.specs.Asked.{hex}
 

@@ -7,7 +7,7 @@ use lib.ListN.{replicate}
 use Rattle.spec.specs.Bytes.{Limits, text, Two, upFrom, ok, refused, workAfter}
 use Rattle.spec.specs.System as system
 use Rattle.spec.specs.Graph.{enter}
-use Rattle.spec.specs.Pool.{Pool, Node, opNode, litNode, joinRuns, intern, interned}
+use Rattle.spec.specs.Pool.{Pool, opNode, litNode, joinRuns, intern, interned}
 use Rattle.spec.specs.Transport.{Problem, Cell, cost, solveTransport, planAfter}
 use Rattle.spec.specs.Run.{documentLimits}
 use Rattle.spec.specs.Merge.{mergeUnder, mergeOf, outputAfter}

@@ -15,7 +15,6 @@ use Rattle.spec.specs.Round.{lookUp, stay, Turn, turnOf, turnsOf}
 use Rattle.spec.specs.Meaning.{In}
 use Rattle.laws.specs.Tests.{clash}
 use Rattle.laws.specs.Valid.{Valid}
-use Rattle.laws.specs.Buffers.{over}
 use Rattle.laws.specs.BestMembers.{IsPair}
 use Rattle.laws.specs.Lists.{get-in, map-map, look-up, place-in}
 use Rattle.lgg.specs.Parts.{partsOf, stays}

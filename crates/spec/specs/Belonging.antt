@@ -3,12 +3,11 @@ use mathlib.Core.Path.{_≡_, refl, _∙_, ap, sym, subst}
 use mathlib.Core.Logic.{_≢_, _⊎_, inl, inr}
 use mathlib.Core.Bool.{Bool, true, false}
 use mathlib.Core.List.{List, [], _∷_}
-use Prim.Native.Nat.{ℕ, zero, suc, _+_, _*_, _≤_, _<_}
+use Prim.Native.Nat.{ℕ, zero, suc, _+_, _≤_, _<_}
 use native.Mathlib.Omega.{arith}
 use lib.Dec.{eqb}
-use lib.ListN.{length}
-use Rattle.spec.specs.Bytes.{pick, Two, ok, sum, sumTo}
-use Rattle.spec.specs.Image.{Tables, Operation, Class, Member, tablesRules, kindOf, membersOf, childrenOf}
+use Rattle.spec.specs.Bytes.{pick, Two, ok, sumTo}
+use Rattle.spec.specs.Image.{Tables, Class, Member, tablesRules, kindOf, membersOf, childrenOf}
 use Rattle.spec.specs.Monomial.{classes}
 use Rattle.spec.specs.Transport.{Cell, cost, forbidden, Problem, allowed, cellAt, supplyAt, demandAt, moved, rowFlow, colFlow, planSize, planMass}
 use Rattle.spec.specs.Action.{Action, TransportAction, structural, transports, cellPairs, joins}
@@ -16,7 +15,7 @@ use Rattle.spec.specs.Pool.{litNode, opNode, variantsNode, joinRuns}
 use Rattle.spec.specs.System as system
 use Rattle.spec.specs.Pairs.{offersOf}
 use Rattle.spec.specs.Round.{startingQuality, qualityOver, ones, problemOver, qualitiesAfter}
-use Rattle.spec.specs.Meaning.{In, here, there, Term, lit, node, variants, Runs, done, run, termQuality, expand, readFirst, readSecond, reading, Branched, atLiteral, atNode, atPlace, AllBranched, noBranch, andBranch, treeAt, treesAfter, Belongs, literal, ordered, unordered, AllBelong, noMore, andThen, Side, member, itself, padded, occurs, countIn, Plan, _⊑_, Derivation, Move, aligned, planned, start, action, Places, noPlace, andPlace, Reachable, queried, joined, HoldsDoubled}
+use Rattle.spec.specs.Meaning.{In, here, there, Term, lit, node, variants, Runs, done, run, termQuality, expand, readFirst, readSecond, reading, Branched, atLiteral, atNode, atPlace, AllBranched, noBranch, andBranch, treeAt, treesAfter, Belongs, literal, ordered, unordered, AllBelong, noMore, andThen, Side, member, itself, padded, occurs, countIn, Plan, _⊑_, Derivation, aligned, planned, start, action, Places, noPlace, andPlace, Reachable, queried, joined, HoldsDoubled}
 
 -- ---- terms as trees
 -- a marked place of two branches

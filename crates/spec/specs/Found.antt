@@ -6,12 +6,12 @@ use Prim.Native.Nat.{ℕ, _*_}
 use Prim.Native.String.{String}
 use lib.ListN.{length}
 use Rattle.spec.specs.Bytes.{text, Two, Res, ok, refused}
-use Rattle.spec.specs.Image.{Tables, Operation, Class, Member, tablesRules}
+use Rattle.spec.specs.Image.{Tables, Class, Member, tablesRules}
 use Rattle.spec.specs.Monomial.{pairOf, padPair, representationPairs, narrowPairs}
-use Rattle.spec.specs.Transport.{Cell, cost, forbidden, Problem, Solution, solveTransport}
+use Rattle.spec.specs.Transport.{Cell, cost, forbidden, Solution, solveTransport}
 use Rattle.spec.specs.Run.{documentLimits}
-use Rattle.spec.specs.Pool.{Pool, opNode, litNode, variantsNode, joinRuns, intern, Interned, Order, less, greater, structuralCmp, sortRuns}
-use Rattle.spec.specs.Action.{Action, alignments, joins}
+use Rattle.spec.specs.Pool.{Pool, opNode, litNode, variantsNode, joinRuns, intern, Interned, less, greater, structuralCmp, sortRuns}
+use Rattle.spec.specs.Action.{alignments, joins}
 use Rattle.spec.specs.Merge.{programOf}
 use Rattle.spec.specs.Asked.{hex}
 

@@ -5,7 +5,7 @@ use Prim.Native.Nat.{ℕ}
 use Prim.Native.String.{String}
 use Rattle.spec.specs.Bytes.{text}
 use Rattle.spec.specs.Merge.{programOf}
-use Rattle.spec.specs.Asked.{Asked, asked, frame, cut, answers, expected, hex, put}
+use Rattle.spec.specs.Asked.{Asked, asked, frame, answers, expected, hex}
 
 -- slip: sorted best terms
 abbrev slip-sorted-best-terms-image : String

@@ -1,16 +1,13 @@
 -- "Rounds. All pairs read the previous round; a strictly better action replaces; structural actions come before transport.": System's rounds at the pairs.
-use mathlib.Core.Bool.{Bool}
-use mathlib.Core.List.{List, map}
-use mathlib.Core.Option.{Option}
+use mathlib.Core.List.{List}
 use Prim.Native.Nat.{ℕ}
-use Rattle.spec.specs.Bytes.{each, Two, sameTwo, Limits, Res, Checked}
+use Rattle.spec.specs.Bytes.{Two, sameTwo, Limits, Res, Checked}
 use Rattle.spec.specs.Image.{Tables}
-use Rattle.spec.specs.Action.{Action, TransportAction}
 use Rattle.spec.specs.Pool.{Pool, Interned}
 use Rattle.spec.specs.System as system
 pub use Rattle.spec.specs.System.{better, stay, act, changes, Terms, prepend}
 unfoldable pub use Rattle.spec.specs.System.{planRuns}
-use Rattle.spec.specs.Pairs.{ofSolved, solvedPlans, pairs, making}
+use Rattle.spec.specs.Pairs.{pairs, making}
 pub use Rattle.spec.specs.Pairs.{startingQuality, cellsOver, qualityOver, ones, problemOver, ofAction, ofPlan}
 unfoldable pub use Rattle.spec.specs.Pairs.{actionTerm}
 

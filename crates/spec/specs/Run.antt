@@ -1,5 +1,4 @@
 -- A run over pairs of classes (`run`, `run_in`): System's run at the pairs.
-use mathlib.Core.Bool.{Bool}
 use mathlib.Core.List.{List}
 use Prim.Native.Nat.{ℕ}
 use Rattle.spec.specs.Bytes.{Two, Limits, Res, Checked}

@@ -1,9 +1,9 @@
 -- Demand 3 of the definitions, for nodes of any kind: what a run gives, for every query and every budget. Sentences in quotation marks are document 01's.
 -- Without any law of the actions: the graph, what is reported, budgets. From `Backs`: the bound. From `Moves`: the least derivations.
 use mathlib.Core.Path.{_≡_, refl, sym, ap, _∙_}
-use mathlib.Core.Logic.{_≢_, _⊎_, inl, inr, _↔_}
+use mathlib.Core.Logic.{_≢_, inl, inr, _↔_}
 use mathlib.Core.Bool.{Bool, true, false}
-use mathlib.Core.List.{List, [], _∷_}
+use mathlib.Core.List.{List, _∷_}
 use Prim.Native.Nat.{ℕ, zero, suc, _+_, _*_, _-_, _/_, _≤_, _<_, min}
 use native.Mathlib.Omega.{arith}
 use native.Mathlib.Nat.{eq-or-lt-of-le, suc-inj}
@@ -12,7 +12,6 @@ use lib.ListN.{length}
 use Rattle.spec.specs.Bytes.{In, Two, Res, ok, refused, passed, cutShort}
 use Rattle.spec.specs.Pool.{Interned}
 use Rattle.spec.specs.System.{System, Making, build, qualitiesAfter, Outcome, started, runOf, Reachable, Derivation}
-use Rattle.spec.specs.Listing.{listingOf}
 use Rattle.spec.specs.Meaning.{_⊑_}
 use Rattle.laws.specs.Tests.{clash}
 use Rattle.laws.specs.Lists.{Distinct}

@@ -2,12 +2,12 @@
 use mathlib.Core.Path.{_≡_, refl}
 use mathlib.Core.Bool.{Bool, true, false}
 use mathlib.Core.List.{List, [], _∷_, _++_}
-use Prim.Native.Nat.{ℕ, zero, suc, _≤_, _<_}
+use Prim.Native.Nat.{ℕ, zero, suc, _≤_}
 use native.Mathlib.Omega.{arith}
 use lib.Dec.{ltb}
 use lib.ListN.{length, getD}
 use borrow.Author.Tests.{ltb-true, lt-ltb}
-use Rattle.spec.specs.Bytes.{any, Two, Res, ok, refused, _>>=_, Checked, passed, cutShort}
+use Rattle.spec.specs.Bytes.{any, Two, ok, _>>=_, Checked, passed, cutShort}
 use Rattle.spec.specs.Pool.{Pool, Interned}
 use Rattle.spec.specs.System.{System, Making, enter, enterAll, buildFrom, build, lookUp, Choice, stay, act, Turn, changes, turnsOf, planRuns, choiceTerm, Terms, turnsTerms, startingTerms, Outcome, State, outcome, stateAfter, afterRound, roundTerms, roundsFrom, startState, afterStarting, afterBuilding, runOf}
 use Rattle.laws.specs.Results.{Kept, kept-bind, kept-ok, kept-room}

@@ -2,15 +2,15 @@
 use mathlib.Core.Path.{_≡_, refl, sym, ap, _∙_}
 use mathlib.Core.Logic.{_⊎_, inl, inr}
 use mathlib.Core.List.{List, [], _∷_, map}
-use Prim.Native.Nat.{ℕ, zero, suc, _+_, _*_, _≤_, _<_}
+use Prim.Native.Nat.{ℕ, zero, suc, _+_, _*_}
 use native.Mathlib.Omega.{arith}
 use Rattle.spec.specs.Bytes.{In, here, there, Two}
 use Rattle.spec.specs.Transport.{planSize, planMass}
-use Rattle.spec.specs.System.{System, Act, turnOf}
+use Rattle.spec.specs.System.{System, turnOf}
 use Rattle.spec.specs.Round.{qualityOver}
 use Rattle.spec.specs.Meaning.{_⊑_}
 use Rattle.steps.specs.Quality.{_⊏_, ⊑-or, ⊑-antisym, ⊑-of-eq, ⊑-trans, ⊏-not, two-eq, Total}
-use Rattle.steps.specs.Turn.{turn-new, turn-from, Won}
+use Rattle.steps.specs.Turn.{turn-from, Won}
 use Rattle.steps.specs.Rounds.{Backs, NoMore, Moves, turn-move}
 
 -- Where f is never above g: the totals are equal, or at a place with a count above 0 f is strictly better, with both numbers at most the total's.

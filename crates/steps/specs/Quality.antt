@@ -2,7 +2,7 @@
 use mathlib.Core.Path.{_≡_, refl, sym, ap, _∙_}
 use mathlib.Core.Logic.{_⊎_, inl, inr}
 use mathlib.Core.Bool.{Bool, true, false}
-use mathlib.Core.List.{List, [], _∷_, map}
+use mathlib.Core.List.{List, [], _∷_}
 use Prim.Native.Nat.{ℕ, zero, suc, _+_, _*_, _≤_, _<_}
 use native.Mathlib.Omega.{arith}
 use native.Mathlib.Nat.{le-refl, mul-le-mul-left}
@@ -11,7 +11,7 @@ use borrow.Author.Tests.{ltb-true, ltb-false, eqb-true, eqb-false}
 use Rattle.spec.specs.Bytes.{Two}
 use Rattle.spec.specs.Transport.{planSize, planMass}
 use Rattle.spec.specs.Round.{better, cellsOver, qualityOver}
-use Rattle.spec.specs.Meaning.{In, here, there, _⊑_}
+use Rattle.spec.specs.Meaning.{_⊑_}
 use Rattle.laws.specs.Tests.{clash}
 
 pub two-eq : {a b c d : ℕ} → a ≡ c → b ≡ d → _≡_ {A = Two} (a, b) (c, d)

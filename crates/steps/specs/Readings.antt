@@ -8,7 +8,7 @@ use native.Mathlib.Omega.{arith}
 use lib.ListN.{length, getD}
 use Rattle.spec.specs.Bytes.{In, here, there, Two, any, place, Res, ok, refused, _>>=_, Checked, passed, cutShort}
 use Rattle.spec.specs.Pool.{Pool, Interned, interned}
-use Rattle.spec.specs.System.{System, Making, Act, build, lookUp, stay, act, Turn, changes, worth, turnOf, turnsOf, planRuns, choiceTerm, Terms, prepend, turnsTerms, startingTerms, Outcome, State, outcome, stateAfter, afterRound, roundTerms, roundsFrom, started, startState, afterStarting, afterBuilding, runOf, joined}
+use Rattle.spec.specs.System.{System, Making, Act, build, lookUp, Turn, changes, worth, turnOf, turnsOf, planRuns, choiceTerm, Terms, prepend, turnsTerms, startingTerms, Outcome, State, outcome, stateAfter, afterRound, roundTerms, roundsFrom, started, startState, afterStarting, afterBuilding, runOf, joined}
 use Rattle.spec.specs.Meaning.{Term, treeAt}
 use Rattle.laws.specs.Tests.{clash}
 use Rattle.laws.specs.Lists.{in-cons}

@@ -1,12 +1,12 @@
 -- The refusals of a run: 12 from building, 13 from the pool, and no other number, where the system's terms are refused by 13 only.
-use mathlib.Core.Path.{_≡_, sym, refl}
+use mathlib.Core.Path.{_≡_, refl}
 use mathlib.Core.Logic.{_⊎_, inl, inr}
 use mathlib.Core.Bool.{Bool, true, false}
-use mathlib.Core.List.{List, [], _∷_, map}
+use mathlib.Core.List.{List, [], _∷_}
 use Prim.Native.Nat.{ℕ, zero, suc, _≤_, _<_}
 use native.Mathlib.Omega.{arith}
 use lib.ListN.{length}
-use Rattle.spec.specs.Bytes.{any, Two, Res, ok, refused, _>>=_, Checked, passed, cutShort}
+use Rattle.spec.specs.Bytes.{any, Two, ok, refused, _>>=_, Checked, passed, cutShort}
 use Rattle.spec.specs.Pool.{Pool, Interned, interned}
 use Rattle.spec.specs.System.{System, Making, lookUp, Choice, stay, act, Turn, changes, turnsOf, build, choiceTerm, Terms, prepend, turnsTerms, startingTerms, Outcome, State, outcome, stateAfter, afterRound, roundTerms, roundsFrom, started, startState, afterStarting, afterBuilding, runOf}
 use Rattle.laws.specs.Results.{bind-refused, Only13, only-ok, only-bind}

@@ -2,14 +2,14 @@
 use mathlib.Core.Path.{_≡_, refl, sym, ap, _∙_}
 use mathlib.Core.Logic.{_⊎_, inl, inr}
 use mathlib.Core.Bool.{Bool, true, false}
-use mathlib.Core.List.{List, [], _∷_, map}
+use mathlib.Core.List.{List, [], map}
 use Prim.Native.Nat.{ℕ, zero, suc, _+_, _*_, _-_, _≤_, _<_}
 use native.Mathlib.Omega.{arith}
 use native.Mathlib.Nat.{eq-or-lt-of-le, suc-inj}
 use lib.ListN.{length, getD}
 use Rattle.spec.specs.Bytes.{any, Two, Res, ok, refused, _>>=_, Checked, passed, cutShort}
 use Rattle.spec.specs.Pool.{Interned}
-use Rattle.spec.specs.System.{System, Making, build, Turn, changes, turnsOf, next, qualitiesAfter, Terms, startingTerms, Outcome, State, outcome, stateAfter, afterRound, roundTerms, roundsFrom, started, startState, afterStarting, afterBuilding, runOf}
+use Rattle.spec.specs.System.{System, Making, build, Turn, changes, turnsOf, next, qualitiesAfter, Terms, startingTerms, Outcome, State, outcome, stateAfter, afterRound, roundTerms, roundsFrom, started, afterStarting, afterBuilding, runOf}
 use Rattle.laws.specs.Tests.{clash}
 use Rattle.laws.specs.Results.{Later, refused-ok, ok-inj, bind-ok}
 use Rattle.steps.specs.Rounds.{changed}

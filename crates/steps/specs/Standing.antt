@@ -1,13 +1,13 @@
 -- What holds of the state between two rounds, and of the pool in the middle of one.
 use mathlib.Core.Path.{_≡_, refl, sym, _∙_}
 use mathlib.Core.Logic.{_⊎_, inl, inr}
-use mathlib.Core.Bool.{Bool, true, false}
-use mathlib.Core.List.{List, [], _∷_, _++_, map}
+use mathlib.Core.Bool.{Bool, false}
+use mathlib.Core.List.{List, [], _∷_, _++_}
 use Prim.Native.Nat.{ℕ, zero, suc, _+_, _≤_, _<_}
 use native.Mathlib.Nat.{not-suc-le-zero, eq-or-lt-of-le}
 use native.Mathlib.Omega.{arith}
 use lib.ListN.{length, getD, length-append, List·getD-append}
-use Rattle.spec.specs.Bytes.{In, here, there, place, Two, Res, ok, refused, Checked, passed, cutShort}
+use Rattle.spec.specs.Bytes.{In, place, Two, Res, ok, refused, Checked, passed, cutShort}
 use Rattle.spec.specs.Pool.{Pool, Interned}
 use Rattle.spec.specs.System.{System, Making, Act, lookUp, stay, act, Choice, turnOf, planRuns, choiceTerm, Terms, State, outcome, stateAfter, started, startState}
 use Rattle.spec.specs.Listing.{listingOf}

@@ -1,19 +1,17 @@
 -- The loops over runs that `structural_cmp` needs, and what the first differing children decide.
 use mathlib.Core.Path.{_≡_, refl, sym, ap, ap₂, _∙_}
 use mathlib.Core.Logic.{_≢_}
-use mathlib.Core.Bool.{Bool, true, false}
-use mathlib.Core.List.{List, [], _∷_, _++_, map}
-use Prim.Native.Nat.{ℕ, zero, suc, _+_, _*_, _-_, _/_, _%_, _^_, _≤_, _<_}
-use native.Mathlib.Nat.{not-suc-le-zero, lt-of-not-le}
+use mathlib.Core.List.{List, [], _∷_, map}
+use Prim.Native.Nat.{ℕ, zero, suc, _+_, _-_, _/_, _%_, _≤_, _<_}
+use native.Mathlib.Nat.{lt-of-not-le}
 use native.Mathlib.Decide.{ℕ-discrete, decLt}
 use native.Mathlib.Omega.{arith}
-use lib.Dec.{eqb, ltb}
-use borrow.Author.Tests.{eqb-true, eqb-false, eq-eqb, ne-eqb, lt-ltb, le-ltb, ltb-true, ltb-false}
+use borrow.Author.Tests.{eq-eqb, ne-eqb, lt-ltb, le-ltb}
 use lib.ListN.{length, getD}
-use Rattle.spec.specs.Bytes.{pick, sum, Two}
-use Rattle.spec.specs.Pool.{Order, less, equal, greater, past, runsCmp, expandedLength}
-use Rattle.spec.specs.Meaning.{In, here, there}
-use Rattle.pools.specs.Pool.{Joined, none, one, more, RunsBelow, runs-below-tail}
+use Rattle.spec.specs.Bytes.{sum, Two}
+use Rattle.spec.specs.Pool.{Order, past, runsCmp, expandedLength}
+use Rattle.spec.specs.Meaning.{here, there}
+use Rattle.pools.specs.Pool.{Joined, more, joined-tail, RunsBelow, runs-below-tail}
 use Rattle.terms.specs.Buffers.{part, unpack}
 use Rattle.term_order.specs.Comparing.{timesOf, headChild, apartNumbers, diffNumbers, Differs}
 use Rattle.terms.specs.PartLaws.{part-cons, part-over}
@@ -90,10 +88,6 @@ pub record Decides (f : ℕ) (cmp : ℕ → ℕ → Order) (l m : List ℕ) (i j
   pub left : d .0 < i
   pub right : d .1 < j
   pub apart : d .0 ≢ d .1
-
-joined-tail : {r : Two} {l : List Two} → Joined (r ∷ l) → Joined l
-joined-tail one = none
-joined-tail (more h j) = j
 
 joined-apart : {r s : Two} {l : List Two} → Joined (r ∷ s ∷ l) → r .0 ≢ s .0
 joined-apart (more h j) = h

@@ -1,18 +1,15 @@
 -- One step of `structural_cmp`: the heads decide, or the first children that differ do.
 use mathlib.Core.Path.{_≡_, refl, sym, ap, ap₂, _∙_}
-use mathlib.Core.Logic.{_≢_, _⊎_, inl, inr}
-use mathlib.Core.Bool.{Bool, true, false}
-use mathlib.Core.List.{List, [], _∷_, map}
-use Prim.Native.Nat.{ℕ, zero, suc, _+_, _*_, _-_, _/_, _%_, _≤_, _<_}
+use mathlib.Core.Logic.{_≢_}
+use mathlib.Core.List.{List}
+use Prim.Native.Nat.{ℕ, zero, suc, _+_, _-_, _/_, _%_, _<_}
 use native.Mathlib.Decide.{decLt}
 use native.Mathlib.Omega.{arith}
-use lib.Dec.{eqb, ltb}
 use borrow.Author.Tests.{eq-eqb, ne-eqb, lt-ltb, le-ltb}
-use lib.ListN.{length, getD, length-map}
-use Rattle.spec.specs.Bytes.{pick, sum, Two}
+use lib.ListN.{length, length-map}
 use Rattle.spec.specs.Pool.{Pool, Node, nodeAt, Order, less, equal, greater, then, compareℕ, runsCmp, structuralCmp, expandedLength}
-use Rattle.pools.specs.Pool.{PoolValid, NodeValid}
-use Rattle.terms.specs.Buffers.{part, unpack, poolOf, nodesIn, nodeIn, nodeOf, partIn, headIn, valueIn, countIn}
+use Rattle.pools.specs.Pool.{NodeValid}
+use Rattle.terms.specs.Buffers.{unpack, poolOf, nodeIn, partIn, headIn, valueIn, countIn}
 use Rattle.terms.specs.Chains.{Holds}
 use Rattle.term_order.specs.Comparing.{timesOf, diffNumbers, orderOf}
 use Rattle.term_order.specs.declared.Order.the-variants as O

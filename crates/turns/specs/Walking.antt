@@ -1,11 +1,11 @@
 -- The walk through a pair's transports: each action found is offered in its turn.
 use mathlib.Core.Path.{_≡_, refl, sym, ap, _∙_}
-use mathlib.Core.Bool.{Bool, true, false}
+use mathlib.Core.Bool.{true}
 use mathlib.Core.List.{List, [], _∷_, _++_}
 use Prim.Native.Nat.{ℕ, _*_, _≤_, _<_}
 use native.Mathlib.Omega.{arith}
 use lib.ListN.{length}
-use Rattle.spec.specs.Bytes.{Two, Limits, both, each}
+use Rattle.spec.specs.Bytes.{Two, Limits, each}
 use Rattle.spec.specs.Image.{Tables}
 use Rattle.spec.specs.Monomial.{pairOf, narrow}
 use Rattle.spec.specs.Action.{TransportAction, transports, cellPairs}

@@ -15,7 +15,7 @@ use denote.Triple.Walked.{needs}
 use denote.Struct.Laws as LL
 use Rattle.spec.specs.Bytes.{either, sameTwo}
 use Rattle.pair_search.specs.Records.{none, twoOf}
-use Rattle.pair_search.specs.Lists.{either-false}
+use Rattle.laws.specs.Tests.{either-false}
 use Rattle.pair_search.specs.Search.{anyFrom, any-step}
 use Rattle.pair_search.specs.declared.Pair.{Pair}
 use Rattle.walks.specs.Numbers.{offset-fits, lt-le, below-from, end-from, next-from, step-from}
