@@ -19,7 +19,7 @@ use Rattle.laws.specs.Results.{bind-ok, ok-inj}
 use Rattle.pools.specs.Pool.{RunsBelow, runs-below-nil, runs-below-cons, PoolValid, op-valid, lit-valid}
 use Rattle.pools.specs.PoolIntern.{Extends, extends-refl, extends-trans, extends-within, Interns, intern-enters, intern-there}
 use Rattle.laws.specs.BestMembers.{best-in, best-falls, child-within, child-counted}
-use Rattle.readings.specs.Best.{best-fuel}
+use Rattle.pools.specs.BestFuel.{best-fuel}
 
 grown-node : {p q : Pool} → Extends p q → (a : ℕ) → a < length p → nodeAt q a ≡ nodeAt p a
 grown-node {p} g a h = rw (g .is) (List·getD-append p (g .later) _ a h)

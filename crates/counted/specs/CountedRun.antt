@@ -32,7 +32,7 @@ use Rattle.steps.specs.Outcomes.{root-in}
 use Rattle.pools.specs.Pool.{PoolValid, empty-valid}
 use Rattle.pools.specs.PoolIntern.{Extends, extends-refl, extends-trans, extends-within, extends-tree}
 use Rattle.laws.specs.BestMembers.{IsClass, IsPair}
-use Rattle.readings.specs.ReadingsWithin.{reach-within}
+use Rattle.lgg.specs.Within.{reach-within}
 use Rattle.counted.specs.Counted.{treeRuns, bestTree, startingTree, choiceTree, termAfter, Improved, Counted, best, starting, final, Beyond}
 use Rattle.counted.specs.CountedFew.{best-runs, starting-runs, counted-few}
 use Rattle.counted.specs.CountedPool.{Kept, Goes, fine, full, goes-bind, Entered, starting-goes, choice-goes}

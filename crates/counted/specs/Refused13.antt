@@ -23,7 +23,7 @@ use Rattle.steps.specs.Graph.{NodeCount, build-whole, build-passed, build-same,
 use Rattle.lgg.specs.Moves.{pair-backs}
 use Rattle.lgg.specs.TurnPlaces.{turn-choice}
 use Rattle.laws.specs.BestMembers.{IsPair}
-use Rattle.readings.specs.ReadingsWithin.{reach-within}
+use Rattle.lgg.specs.Within.{reach-within}
 use Rattle.steps.specs.Demand3.{FirstQuiet, settled}
 use Rattle.counted.specs.Counted.{Improved, Counted, Beyond}
 use Rattle.counted.specs.CountedFew.{Ends, FinalRuns, final-runs, counted-few}

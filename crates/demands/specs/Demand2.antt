@@ -15,6 +15,7 @@ use Rattle.spec.specs.Round.{lookUp, problemOver, ofAction, ofPlan, stay, act, 
 use Rattle.spec.specs.Run.{documentLimits, Outcome, runOf}
 use Rattle.spec.specs.Listing.{firstLine, listingOf}
 use Rattle.spec.specs.Meaning.{In, here, there, Plan, _⊑_, termQuality, readFirst, readSecond, Branched, treeAt, Belongs}
+use Rattle.laws.specs.Lists.{map-in}
 use Rattle.laws.specs.Valid.{Valid}
 use Rattle.laws.specs.Accepted as A
 use Rattle.flow.specs.Theorems.{margins, least, totals}
@@ -100,12 +101,8 @@ module _ (t : Tables) (q : Two → Two) (p : Two) where
           (λ b j x e c k. planned b j x c k (margins _ x e) (λ y Y. least _ x e y Y)) a i c k
 
 -- So each turn of round r, over any pairs ps. In a run (`roundsFrom`, spec/Run) ps are the pairs of its graph.
-each-in-map : {X Y : Type 0} (f : X → Y) (l : List X) (y : Y) → In y (map f l) → (x : X) × In x l × (y ≡ f x)
-each-in-map f (x ∷ l) y here = (x, here, refl)
-each-in-map f (x ∷ l) y (there i) = let (z, j, e) = each-in-map f l y i in (z, there j, e)
-
 pub round-plans : (t : Tables) (ps : List Two) (r : ℕ) (w : Turn) → In w (turnsOf t ps (qualitiesAfter r t ps)) → (p : Two) × In p ps × Chose t (lookUp (0, 0) ps (qualitiesAfter r t ps)) p w
 unfolding system.turnsOf
 round-plans t ps r w i =
-    let (p, j, e) = each-in-map (turnOf t (lookUp (0, 0) ps (qualitiesAfter r t ps))) ps w i in
-    (p, j, subst (λ (z : Turn). Chose t (lookUp (0, 0) ps (qualitiesAfter r t ps)) p z) (sym e) (turn-plans t (lookUp (0, 0) ps (qualitiesAfter r t ps)) p))
+    let (p, j, e) = map-in (turnOf t (lookUp (0, 0) ps (qualitiesAfter r t ps))) ps w i in
+    (p, j, subst (λ (z : Turn). Chose t (lookUp (0, 0) ps (qualitiesAfter r t ps)) p z) e (turn-plans t (lookUp (0, 0) ps (qualitiesAfter r t ps)) p))

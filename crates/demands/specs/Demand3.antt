@@ -51,8 +51,7 @@ module _ (image : List ℕ) (left right budget : ℕ) (fit : Bool) (out out′ :
     where
       whole : (ps : List Two) (c : ℕ) → build documentLimits t (left, right) budget ≡ ok (passed ps c) → (ps : List Two) × (c : ℕ) × (build documentLimits t (left, right) budget ≡ ok (passed ps c)) × (o .quality ≡ qualityAfter t ps (o .rounds) (left, right)) × ((r : ℕ) → LeastOf t r (left, right) (qualityAfter t ps r (left, right)))
       whole ps c e =
-          let (R, l, q) = D.first-quiet (pairs t) (documentLimits .pairs) (pair-backs t) (left, right) budget c ps e in
-          (ps, c, e, D.reported (pairs t) (making documentLimits t) (left, right) budget c ps e R q budget o ran .quality, λ r. D.least-after-rounds (pairs t) (making documentLimits t) (Move t) (pair-moves t) (left, right) budget c ps e r (left, right) (root-in (pairs t) (documentLimits .pairs) (left, right) budget c ps e))
+          (ps, c, e, D.quality-at (pairs t) (making documentLimits t) (left, right) budget c ps e budget o ran, λ r. D.least-after-rounds (pairs t) (making documentLimits t) (Move t) (pair-moves t) (left, right) budget c ps e r (left, right) (root-in (pairs t) (documentLimits .pairs) (left, right) budget c ps e))
 
       go : Ends (pairs t) (making documentLimits t) (left, right) budget o → (ps : List Two) × (c : ℕ) × (build documentLimits t (left, right) budget ≡ ok (passed ps c)) × (o .quality ≡ qualityAfter t ps (o .rounds) (left, right)) × ((r : ℕ) → LeastOf t r (left, right) (qualityAfter t ps r (left, right)))
       go (inBuilding root e s) = absurd (omega (arith, build-cut (pairs t) (documentLimits .pairs) (left, right) k n budget e))

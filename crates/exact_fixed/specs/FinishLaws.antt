@@ -16,7 +16,7 @@ use Rattle.laws.specs.BestMembers.{IsPair}
 use Rattle.pools.specs.Pool.{empty-valid}
 use Rattle.pools.specs.PoolIntern.{extends-refl}
 use Rattle.pools.specs.PoolLimits.{starting-within}
-use Rattle.readings.specs.Stands.{pair-begins}
+use Rattle.readings.specs.Starting.{pair-begins}
 use Rattle.steps.specs.RunFrom.{run-no-root, run-no-graph, run-cut-building}
 use Rattle.budget.specs.Budget.{budgetOf}
 use Rattle.budget.specs.declared.Budget.{Budget}

@@ -6,7 +6,7 @@ use Rattle.spec.specs.Bytes.{Limits, Res}
 use Rattle.spec.specs.Image.{Tables}
 use Rattle.spec.specs.Run.{Outcome}
 use Rattle.lgg.specs.Pairs.{roundsOf}
-use Rattle.readings.specs.Stands.{Fits}
+use Rattle.lgg.specs.Stands.{Fits}
 use Rattle.steps.specs.Standing.{Standing}
 use Rattle.arrays.specs.Arrays.{pairsIn}
 use Rattle.terms.specs.Buffers.{countIn}

@@ -17,7 +17,9 @@ use Rattle.pools.specs.PoolIntern.{Extends, extends-within}
 use Rattle.pools.specs.Pool.{PoolValid}
 use Rattle.lgg.specs.Pairs.{roundsOf}
 use Rattle.laws.specs.BestMembers.{IsPair}
-use Rattle.readings.specs.Stands.{Fits, pair-begins}
+use Rattle.lgg.specs.Stands.{Fits}
+use Rattle.readings.specs.Starting.{pair-begins}
+use Rattle.steps.specs.RunFrom.{built-refused, built-cut, built-rounds}
 use Rattle.steps.specs.Standing.{Standing, standing-started, listing-started}
 use Rattle.arrays.specs.Arrays.{termsIn}
 use Rattle.terms.specs.Buffers.{poolOf, countIn}
@@ -53,14 +55,6 @@ module _ (lim : Limits) (t : Tables) (p : Two) (ps : List Two) (n : ℕ) (many :
   abbrev built : Res run.Outcome
   built = afterBuilding lim t p (interned from root) (passed ps b)
 
-  by-starting : (x : Res (Checked Terms)) → whole ≡ x → built ≡ (x >>= afterStarting lim t p (interned from root) ps)
-  unfolding system.afterBuilding
-  by-starting x e = ap (λ (z : Res (Checked Terms)). z >>= afterStarting lim t p (interned from root) ps) e
-
-  cut-is : whole ≡ ok cutShort → built ≡ ok (run.started t p (interned from root) (length ps))
-  unfolding system.afterStarting
-  cut-is e = by-starting (ok cutShort) e
-
   module _ (pairs terms runs : List ℕ) (c : ℕ) (X : Starting lim t ps whole from pairs terms runs (length ps) c) where
     same : startState t ps (record { pool = poolOf terms runs; terms = termsIn pairs 0 (length ps) }) c ≡ stateIn pairs terms runs n 0 c
     same = rw (← many) (λ i. record { pool = poolOf terms runs; qualities = sym (start-qualities lim t ps whole from pairs terms runs c X) i; terms = termsIn pairs 0 (length ps); rounds = 0; budget = c })
@@ -68,20 +62,21 @@ module _ (lim : Limits) (t : Tables) (p : Two) (ps : List Two) (n : ℕ) (many :
     built-stands : Valid t → InRange t ps → Standing Fits ps (stateIn pairs terms runs n 0 c)
     built-stands v i = rw (← same) (standing-started (P.pairs t) (P.making lim t) (IsPair t) Fits (pair-begins lim t v) ps i from (termsIn pairs 0 (length ps)) (poolOf terms runs) c (X .midway))
 
-    built-rounds : built ≡ roundsOf lim t ps (stateIn pairs terms runs n 0 c)
-    unfolding system.afterStarting
-    built-rounds = by-starting (ok (passed (record { pool = poolOf terms runs; terms = termsIn pairs 0 (length ps) }) c)) (start-done lim t ps whole from pairs terms runs c X) ∙ ap (roundsOf lim t ps) same
+    to-rounds : built ≡ roundsOf lim t ps (stateIn pairs terms runs n 0 c)
+    to-rounds =
+        built-rounds (P.pairs t) (P.making lim t) p (interned from root) ps b (record { pool = poolOf terms runs; terms = termsIn pairs 0 (length ps) }) c (start-done lim t ps whole from pairs terms runs c X)
+        ∙ ap (roundsOf lim t ps) same
 
   -- ---- by what the code answers: the starting terms x, the outcome o
   module _ (pairs terms runs : List ℕ) (x : Started) (Y : StartsAll lim t ps whole from pairs terms runs x) where
     pub starts-full : (marks : List ℕ) → x ≡ S.Full → RanTo built marks terms runs (R.Stopped 13)
-    starts-full marks e = by-starting (refused 13) (rw e at Y)
+    starts-full marks e = built-refused (P.pairs t) (P.making lim t) p (interned from root) ps b 13 (rw e at Y)
 
     pub starts-cut : (marks : List ℕ) → 2 * lim .terms ≤ length marks → PoolValid from → root < length from → x ≡ S.Cut → (o : Outcome) → o ≡ startedIn t p n root → RanTo built marks terms runs (R.Done o)
     starts-cut marks room v w e o q = go (rw e at Y)
       where
         go : CutStarting lim whole from terms runs → RanTo built marks terms runs (R.Done o)
-        go C = rw (q, ← many) (ran-started t p built (interned from root) (length ps) marks terms runs (cut-is (C .is)) v w (C .holds) (C .grown) (omega (arith, C .within)))
+        go C = rw (q, ← many) (ran-started t p built (interned from root) (length ps) marks terms runs (built-cut (P.pairs t) (P.making lim t) p (interned from root) ps b (C .is)) v w (C .holds) (C .grown) (omega (arith, C .within)))
 
     module _ (c : Budget) (e : x ≡ S.All c) where
       begun : Starting lim t ps whole from pairs terms runs (length ps) (c .left)
@@ -97,4 +92,4 @@ module _ (lim : Limits) (t : Tables) (p : Two) (ps : List Two) (n : ℕ) (many :
       starts-stands = built-stands pairs terms runs (c .left) begun
 
       pub starts-rounds : built ≡ roundsOf lim t ps (stateIn pairs terms runs n 0 (c .left))
-      starts-rounds = built-rounds pairs terms runs (c .left) begun
+      starts-rounds = to-rounds pairs terms runs (c .left) begun

@@ -20,7 +20,8 @@ use Rattle.pools.specs.PoolIntern.{Extends}
 use Rattle.pools.specs.PoolLimits.{starting-within}
 use Rattle.steps.specs.TurnsFrom.{StartingAt, starting-begin, starting-cut, starting-turn, starting-refused, starting-end}
 use Rattle.steps.specs.Standing.{Midway, midway-begin, starting-midway}
-use Rattle.readings.specs.Stands.{Fits, pair-begins}
+use Rattle.lgg.specs.Stands.{Fits}
+use Rattle.readings.specs.Starting.{pair-begins}
 use Rattle.arrays.specs.Arrays.{qualitiesFrom, termsFrom, qualitiesIn, termsIn, given}
 use Rattle.arrays.specs.ArrayLaws.{qualities-more, terms-more}
 use Rattle.terms.specs.Buffers.{poolOf, countIn}

@@ -13,7 +13,7 @@ use Rattle.spec.specs.Meaning.{In}
 use Rattle.laws.specs.Valid.{Valid}
 use Rattle.laws.specs.Lists.{get-in, place-at, apart-at, Distinct}
 use Rattle.laws.specs.BestMembers.{IsPair}
-use Rattle.readings.specs.ReadingsWithin.{reach-within}
+use Rattle.lgg.specs.Within.{reach-within}
 use Rattle.steps.specs.Graph.{Closed}
 use Rattle.steps.specs.Graph as L
 use Rattle.arrays.specs.Arrays.{placeOf, numberIn, keyOf, pairsIn}

@@ -13,7 +13,7 @@ use Rattle.spec.specs.Action.{Action, TransportAction, structural, transports, 
 use Rattle.laws.specs.Valid.{Valid}
 use Rattle.laws.specs.Lists.{in-left, in-right}
 use Rattle.laws.specs.BestMembers.{IsPair}
-use Rattle.readings.specs.ReadingsWithin.{joins-within}
+use Rattle.lgg.specs.Within.{joins-within}
 use Rattle.image.specs.Loaded.{Loaded}
 use Rattle.image.specs.declared.Image.{Image}
 use Rattle.actions.specs.declared.State.{State}

@@ -21,7 +21,7 @@ use Rattle.laws.specs.Results.{refused-ok, ok-inj}
 use Rattle.steps.specs.BuildFrom.{build-stop, build-turn, build-done}
 use Rattle.steps.specs.Enter.{Entered, grown, overfull, enterAll-says}
 use Rattle.laws.specs.BestMembers.{IsPair}
-use Rattle.readings.specs.ReadingsWithin.{joins-within}
+use Rattle.lgg.specs.Within.{joins-within}
 use Rattle.arrays.specs.Arrays.{unkey, unkeyed, pairsIn}
 use Rattle.arrays.specs.ArrayLaws.{unkeyed-length, unkeyed-at}
 use Rattle.budget.specs.declared.Budget.{Budget}

@@ -4,18 +4,15 @@ use mathlib.Core.Logic.{_⊎_, inl, inr}
 use mathlib.Core.List.{List, [], _∷_, _++_, map}
 use Prim.Native.Nat.{ℕ, zero, suc, _+_, _≤_, _<_}
 use native.Mathlib.Omega.{arith}
-use native.Mathlib.Decide.{decLt}
 use lib.ListN.{length, getD}
 use Rattle.spec.specs.Bytes.{each, Two}
 use Rattle.spec.specs.Image.{Tables, Operation, NO-IDENTITY}
-use Rattle.spec.specs.Action.{joins}
 use Rattle.spec.specs.Pairs.{pairs}
 use Rattle.spec.specs.Meaning.{In, here, there, Reachable}
-use Rattle.laws.specs.Lists.{get-in, in-left, in-right, in-map, in-each, pigeon}
+use Rattle.laws.specs.Lists.{get-in, in-left, in-right, in-map, in-each}
 use Rattle.laws.specs.Bag.{span-in}
 use Rattle.lgg.specs.Within.{reachable-in}
-use Rattle.steps.specs.Enter.{grow}
-use Rattle.steps.specs.Graph.{Some, Good, good-start, good-next, good-reach, NodeCount, count-unique}
+use Rattle.steps.specs.Graph.{NodeCount, node-count}
 
 -- the classes at hand
 universe : Tables → Two → List ℕ
@@ -53,21 +50,6 @@ module _ (t : Tables) (root : Two) where
       identity (inl e) = rw e (there (there (there here)))
       identity (inr i) = there (there (there (there (in-right (map (λ c. c .0) (t .children)) i))))
 
-  few : (ps : List Two) → Some (pairs t) root ps → length ps ≤ length grid
-  few ps s = pigeon ps grid (s .once) (λ x i. reachable-grid x (s .reached x i))
-
-  -- the work-list without a limit
-  explore : (f i : ℕ) (ps : List Two) → Good (pairs t) root ps i → length grid < i + f → (qs : List Two) × Good (pairs t) root qs (length qs)
-  explore zero i ps g h = absurd (omega (arith, few ps (g .some), g .upTo))
-  explore (suc f) i ps g h = go (decLt i (length ps)) (λ qs k. explore f (suc i) qs k (omega arith))
-    where
-      go : Dec (i < length ps) → ((qs : List Two) → Good (pairs t) root qs (suc i) → (rs : List Two) × Good (pairs t) root rs (length rs)) → (rs : List Two) × Good (pairs t) root rs (length rs)
-      go (yes l) ih = let (qs, d) = grow (pairs t) (joins t (getD ps i (0, 0))) ps in ih qs (good-next (pairs t) root ps qs i l g d)
-      go (no l) ih = let e : i ≡ length ps = omega (arith, g .upTo) in (ps, rw e at g)
-
   -- Every query has one n, the number of its reachable pairs, whether or not a budget builds them all.
   pub pair-count : (n : ℕ) × NodeCount (pairs t) root n × ((m : ℕ) → NodeCount (pairs t) root m → m ≡ n)
-  pair-count =
-      let (ps, g) = explore (suc (length grid)) 0 (root ∷ []) (good-start (pairs t) root) (omega arith) in
-      let c : NodeCount (pairs t) root (length ps) = (ps, record { once = g .some .once; exactly = λ q. (g .some .reached q, good-reach (pairs t) root ps g q) }, refl) in
-      (length ps, c, λ m d. count-unique (pairs t) root m (length ps) d c)
+  pair-count = node-count (pairs t) root grid reachable-grid

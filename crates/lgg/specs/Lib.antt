@@ -11,3 +11,4 @@ pub mod TurnRead
 pub mod Count
 pub mod Limits
 pub mod Pairs
+pub mod Stands

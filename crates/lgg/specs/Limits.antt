@@ -13,7 +13,7 @@ use Rattle.spec.specs.Run.{Outcome, runOf}
 use Rattle.spec.specs.Listing.{listingOf}
 use Rattle.spec.specs.Merge.{mergeUnder}
 use Rattle.laws.specs.Results.{Kept, kept-ok}
-use Rattle.pools.specs.Refused.{NoLess, start-only, action-only, start-kept, action-kept}
+use Rattle.pools.specs.Refused.{NoLess, start-only, action-only, start-larger, action-larger}
 use Rattle.steps.specs.Refusals.{Refuses13, run-refused}
 use Rattle.steps.specs.Limits.{Wider, run-kept}
 
@@ -23,7 +23,7 @@ refuses13 lim t = record { start = start-only lim t; action = action-only lim t 
 
 module _ (l m : Limits) (h : NoLess l m) where
   wider : (t : Tables) → Wider (making l t) (making m t)
-  wider t = record { nodes = h .pairs; start = start-kept l m h t; action = action-kept l m h t }
+  wider t = record { nodes = h .pairs; start = start-larger l m h t; action = action-larger l m h t }
 
   kept : (t : Tables) (p : Two) (b : ℕ) → Kept (runOf l t p b) (runOf m t p b)
   kept t p b = run-kept (pairs t) (making l t) (making m t) (wider t) p b

@@ -112,7 +112,7 @@ module _ (t : Tables) where
   unfolding offersOf solvedPlans
   pair-reads = record {
     offered = λ q q′ p h. ap (λ (l : List Act). map ofAction (structural t (p .0) (p .1)) ++ l) (plans q q′ (transports t (p .0) (p .1)) (λ a i c j. h c (transport-joins t p a i c j)));
-    joined = λ q p. each-offer (λ a. (c : Two) → In c (a .places) → In c (joins t p)) t q p (action-joins t p) (λ a i x e. transport-joins t p a i);
+    inside = λ q p. each-offer (λ a. (c : Two) → In c (a .places) → In c (joins t p)) t q p (action-joins t p) (λ a i x e. transport-joins t p a i);
   }
     where
       plans : (q q′ : Two → Two) (l : List TransportAction) → ((a : TransportAction) → In a l → (c : Two) → In c (cellPairs (a .sides)) → q c ≡ q′ c) → each (solvedPlans q) l ≡ each (solvedPlans q′) l

@@ -10,4 +10,4 @@ use Rattle.steps.specs.Bounds.{Low, over-low}
 use Rattle.lgg.specs.Moves.{pair-reads}
 
 pub turn-small : (t : Tables) (q : Two → Two) (p : Two) (b : ℕ) → q p .0 < b → Low (q p) → ((c : Two) → In c (joins t p) → Low (q c)) → (turnOf t q p .quality .0 < b) × (turnOf t q p .quality .1 < b)
-turn-small t = bounds.turn-small (pairs t) (pair-reads t .joined) over-low
+turn-small t = bounds.turn-small (pairs t) (pair-reads t .inside) over-low

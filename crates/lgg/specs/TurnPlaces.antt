@@ -41,7 +41,7 @@ module _ (P : Act → Type 0) where
 
 -- the places that a turn chose are joined
 pub choice-joins : (t : Tables) (q : Two → Two) (p : Two) (a : Act) → turnOf t q p .choice ≡ act a → (c : Two) → In c (a .places) → In c (joins t p)
-choice-joins t = turn.choice-joins (pairs t) (pair-reads t .joined)
+choice-joins t = turn.choice-joins (pairs t) (pair-reads t .inside)
 
 -- ---- what the actions of a pair are made of
 zip-length : (xs ys : List ℕ) → length (zip xs ys) ≤ length xs

@@ -12,7 +12,11 @@ use Rattle.spec.specs.Bytes.{pick, either, filter, each, Two}
 use Rattle.spec.specs.Image.{Tables, Member, NO-IDENTITY, SPair, Lit, isAC, kindOf, identityOf, membersOf, childrenOf}
 use Rattle.spec.specs.Monomial.{Monomial, MonomialPair, pairOf, insertAdd, addAll, monomial, classes, itself, total, monomialsOf, padPair, bothItself, representationPairs, narrowPairs}
 use Rattle.spec.specs.Action.{Action, TransportAction, zip, byPosition, straightAndCrossed, alignments, alignMembers, structural, acOps, transports, cellPairs, joins}
-use Rattle.spec.specs.Meaning.{In, here, there, Reachable, queried, joined}
+use Rattle.spec.specs.Pairs.{pairs}
+use Rattle.spec.specs.Meaning.{In, here, there, Reachable}
+use Rattle.laws.specs.Valid.{Valid}
+use Rattle.laws.specs.BestMembers.{IsClass, IsPair, identity-class, child-within}
+use Rattle.steps.specs.Graph.{reach-all}
 use Rattle.laws.specs.Lists.{in-nil, in-cons, in-append, map-in}
 use Rattle.laws.specs.Bag.{each-in, filter-in}
 
@@ -227,6 +231,19 @@ module _ (t : Tables) (K : ℕ → Type 0) (zero-in : K 0) (children-in : (c : �
     identity = identity-in;
   }
 
+  -- what such a pair joins is one
+  pub joined-in : (q : Two) → Both K K q → (c : Two) → In c (joins t q) → Both K K c
+  joined-in q (a, b) c i = joins-in K K t q (over-all (q .0) a) (over-all (q .1) b) c i
+
   pub reachable-in : (root : Two) → Both K K root → (p : Two) → Reachable t root p → Both K K p
-  reachable-in root h p (queried e) = rw e h
-  reachable-in root h p (joined {p = q} r i) = let (a, b) = reachable-in root h q r in joins-in K K t q (over-all (q .0) a) (over-all (q .1) b) p i
+  reachable-in root h p r = reach-all (pairs t) (Both K K) (λ q c k i. joined-in q k c i) root h p r
+
+-- ---- classes of the image
+module _ (t : Tables) (v : Valid t) where
+  -- What a pair of classes of the image joins are pairs of classes of the image.
+  pub joins-within : (p : Two) → IsPair t p → (c : Two) → In c (joins t p) → IsPair t c
+  joins-within = joined-in t (IsClass t) (v .counts .someClass) (λ c m i r j. child-within t v m c i r j) (identity-class t v)
+
+  -- so every reachable pair is one
+  pub reach-within : (p q : Two) → IsPair t p → Reachable t p q → IsPair t q
+  reach-within p q h r = reach-all (pairs t) (IsPair t) (λ x c k i. joins-within x k c i) p h q r

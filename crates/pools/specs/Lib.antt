@@ -10,3 +10,4 @@ pub mod OrderListing
 pub mod OrderSort
 pub mod PoolLimits
 pub mod Refused
+pub mod BestFuel

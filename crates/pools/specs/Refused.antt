@@ -94,9 +94,9 @@ module _ (l m : Limits) (h : NoLess l m) where
       go true ih = intern-kept p (litNode (e .op) (e .value))
       go false ih = kept-bind (childTerms (bestTermIn l f t) p (childrenOf t e)) (childTerms (bestTermIn m f t) p (childrenOf t e)) _ _ (child-kept (bestTermIn l f t) (bestTermIn m f t) ih p (childrenOf t e)) (λ k. intern-kept (k .pool) (opNode (e .op) (k .runs)))
 
-  pub start-kept : (t : Tables) (p : Pool) (c : Two) → Kept (startingTerm l t p c) (startingTerm m t p c)
+  pub start-larger : (t : Tables) (p : Pool) (c : Two) → Kept (startingTerm l t p c) (startingTerm m t p c)
   unfolding startingTerm
-  start-kept t p c = go (eqb (c .0) (c .1))
+  start-larger t p c = go (eqb (c .0) (c .1))
     where
       go : (x : Bool) → Kept {A = Interned}
           (elim x [ true ↦ bestTerm l t p (c .0) | false ↦ (bestTerm l t p (c .0) >>= λ a. bestTerm l t (a .pool) (c .1) >>= λ b. intern l (b .pool) (variantsNode (a .term) (b .term))) ])
@@ -106,6 +106,6 @@ module _ (l m : Limits) (h : NoLess l m) where
           kept-bind (bestTerm l t p (c .0)) (bestTerm m t p (c .0)) _ _ (best-kept (bestSize t (c .0)) t p (c .0))
           (λ a. kept-bind (bestTerm l t (a .pool) (c .1)) (bestTerm m t (a .pool) (c .1)) _ _ (best-kept (bestSize t (c .1)) t (a .pool) (c .1)) (λ b. intern-kept (b .pool) (variantsNode (a .term) (b .term))))
 
-  pub action-kept : (t : Tables) (p : Pool) (o : ℕ) (r : List Two) → Kept (actionTerm l t p o r) (actionTerm m t p o r)
+  pub action-larger : (t : Tables) (p : Pool) (o : ℕ) (r : List Two) → Kept (actionTerm l t p o r) (actionTerm m t p o r)
   unfolding actionTerm
-  action-kept t p o r = intern-kept p (opNode o (pick (isCommutative (kindOf t o)) (sortRuns p r) r))
+  action-larger t p o r = intern-kept p (opNode o (pick (isCommutative (kindOf t o)) (sortRuns p r) r))

@@ -1,4 +1,4 @@
--- Best terms: the fuel suffices, the pool stays valid, and each has its quality and belongs to its class, read in every way.
+-- Best terms: the pool stays valid, and each has its quality and belongs to its class, read in every way.
 use mathlib.Core.Path.{_≡_, refl, sym, ap, ap₂, _∙_}
 use mathlib.Core.Logic.{_≢_}
 use mathlib.Core.Bool.{Bool, true, false}
@@ -28,48 +28,6 @@ use Rattle.laws.specs.BestMembers.{best-in, best-falls, child-within, child-cou
 use Rattle.laws.specs.Lists.{map-map}
 use Rattle.laws.specs.Results.{bind-ok, ok-inj}
 
-module _ (lim : Limits) (t : Tables) where
-  children-same : (best other : Pool → ℕ → Res Interned) (l : List Two) → ((c : Two) → In c l → (p : Pool) → best p (c .0) ≡ other p (c .0)) → (p : Pool) → childTerms best p l ≡ childTerms other p l
-  unfolding childTerms
-  children-same best other [] h p = refl
-  children-same best other (c ∷ l) h p = rw (h c here p) (go (other p (c .0)) (λ q. children-same best other l (λ d i. h d (there i)) q))
-    where
-      joined : Interned → Children → Res Children
-      joined a k = ok (record { pool = k .pool; runs = (a .term, c .1) ∷ k .runs })
-
-      go : (m : Res Interned) → ((q : Pool) → childTerms best q l ≡ childTerms other q l)
-          → (m >>= (λ a. childTerms best (a .pool) l >>= (λ k. joined a k))) ≡ (m >>= (λ a. childTerms other (a .pool) l >>= (λ k. joined a k)))
-      go (ok a) ih = rw (ih (a .pool)) refl
-      go (refused n) ih = refl
-
-  -- "fuel: the class's best size, for best sizes fall along the best members' children": more fuel changes nothing
-  fuel-same : Valid t → (f g : ℕ) (p : Pool) (c : ℕ) → c < length (t .classes) → bestSize t c ≤ f → bestSize t c ≤ g → bestTermIn lim f t p c ≡ bestTermIn lim g t p c
-  unfolding bestTermIn
-  fuel-same v zero g p c h a b = let z = v .best .bestRange c h .0 in absurd (omega arith)
-  fuel-same v (suc f) zero p c h a b = let z = v .best .bestRange c h .0 in absurd (omega arith)
-  fuel-same v (suc f) (suc g) p c h a b =
-      go (eqb (kindOf t (m .op)) Lit)
-      (children-same (bestTermIn lim f t) (bestTermIn lim g t) (childrenOf t m)
-      (λ d i q. let z = best-falls t v c h d i in fuel-same v f g q (d .0) (child-within t v m c (best-in t v c h) d i) (omega arith) (omega arith)) p)
-    where
-      m : Member
-      m = bestMember t c
-
-      rest : Children → Res Interned
-      rest k = intern lim (k .pool) (opNode (m .op) (k .runs))
-
-      by : Bool → Res Children → Res Interned
-      by b k = elim b [ true ↦ intern lim p (litNode (m .op) (m .value)) | false ↦ k >>= rest ]
-
-      go : (b : Bool) → childTerms (bestTermIn lim f t) p (childrenOf t m) ≡ childTerms (bestTermIn lim g t) p (childrenOf t m)
-          → by b (childTerms (bestTermIn lim f t) p (childrenOf t m)) ≡ by b (childTerms (bestTermIn lim g t) p (childrenOf t m))
-      go true e = refl
-      go false e = ap (λ (z : Res Children). z >>= rest) e
-
-  pub best-fuel : Valid t → (f : ℕ) (p : Pool) (c : ℕ) → c < length (t .classes) → bestSize t c ≤ f → bestTermIn lim f t p c ≡ bestTerm lim t p c
-  best-fuel v f p c h a = fuel-same v f (bestSize t c) p c h a (omega arith)
-
--- ---- best terms
 module _ (t : Tables) where
   pub best-size : (l : List Two) → planSize (counts l) (cellsOver (map (λ c. (bestSize t (c .0), 0)) l)) ≡ sum (map (λ c. c .1 * bestSize t (c .0)) l)
   unfolding planSize sum
@@ -97,9 +55,6 @@ abbrev pub Itself : ℕ → ℕ → ℕ
 Itself c k = c
 
 module _ (lim : Limits) (t : Tables) (ways : ℕ) where
-  abbrev pub Good : ℕ → Two → Term → Type 0
-  Good = TermFor t ways Itself
-
   -- the children of a best term: their pool, their runs along the member's children, their trees
   record MakesChildren (p : Pool) (l : List Two) (k : Children) : Type 0 where
     valid : PoolValid (k .pool)
@@ -108,7 +63,7 @@ module _ (lim : Limits) (t : Tables) (ways : ℕ) where
     same : counts (k .runs) ≡ counts l
     good : TermsFor t ways Itself (map (λ c. c .0) l) (map (λ c. (bestSize t (c .0), 0)) l) (map (treeAt (k .pool)) (classes (k .runs)))
 
-  children-made : (best : Pool → ℕ → Res Interned) (l : List Two) → ((c : Two) → In c l → (p : Pool) (r : Interned) → PoolValid p → best p (c .0) ≡ ok r → Makes Good p (c .0) (bestSize t (c .0), 0) r)
+  children-made : (best : Pool → ℕ → Res Interned) (l : List Two) → ((c : Two) → In c l → (p : Pool) (r : Interned) → PoolValid p → best p (c .0) ≡ ok r → Makes (TermFor t ways Itself) p (c .0) (bestSize t (c .0), 0) r)
       → ((c : Two) → In c l → 1 ≤ c .1) → (p : Pool) (k : Children) → PoolValid p → childTerms best p l ≡ ok k → MakesChildren p l k
   unfolding childTerms
   children-made best [] h n p k v e = rw (← ok-inj e) (record { valid = v; grown = extends-refl p; below = runs-below-nil (length p); same = refl; good = noTerm })
@@ -161,7 +116,7 @@ module _ (lim : Limits) (t : Tables) (ways : ℕ) where
       best-is : (bestSize t c, 0) ≡ qualityOver (counts l) (map (λ d. (bestSize t (d .0), 0)) l)
       best-is = ap₂ (λ (x y : ℕ). (x, y)) (v .best .bestEquation c h ∙ ap (λ (z : ℕ). 1 + z) (sym (best-size t l))) (sym (best-mass t l))
 
-  best-made : Valid t → (f : ℕ) (p : Pool) (c : ℕ) (r : Interned) → c < length (t .classes) → bestSize t c ≤ f → PoolValid p → bestTermIn lim f t p c ≡ ok r → Makes Good p c (bestSize t c, 0) r
+  best-made : Valid t → (f : ℕ) (p : Pool) (c : ℕ) (r : Interned) → c < length (t .classes) → bestSize t c ≤ f → PoolValid p → bestTermIn lim f t p c ≡ ok r → Makes (TermFor t ways Itself) p c (bestSize t c, 0) r
   unfolding bestTermIn
   best-made v zero p c r h a w e = let z = v .best .bestRange c h .0 in absurd (omega arith)
   best-made v (suc f) p c r h a w e = go (eqb (kindOf t (bestMember t c .op)) Lit) refl e (λ d i q s. let z = best-falls t v c h d i in best-made v f q (d .0) s (child-within t v (bestMember t c) c (best-in t v c h) d i) (omega arith))
@@ -172,7 +127,7 @@ module _ (lim : Limits) (t : Tables) (ways : ℕ) where
       l : List Two
       l = childrenOf t m
 
-      asLiteral : kindOf t (m .op) ≡ Lit → Interns p (litNode (m .op) (m .value)) r → Makes Good p c (bestSize t c, 0) r
+      asLiteral : kindOf t (m .op) ≡ Lit → Interns p (litNode (m .op) (m .value)) r → Makes (TermFor t ways Itself) p c (bestSize t c, 0) r
       asLiteral k E = record {
         valid = E .valid;
         grown = E .grown;
@@ -181,7 +136,7 @@ module _ (lim : Limits) (t : Tables) (ways : ℕ) where
             (literal-good v c h k);
       }
 
-      asNode : kindOf t (m .op) ≢ Lit → (k : Children) → MakesChildren p l k → Interns (k .pool) (opNode (m .op) (k .runs)) r → Makes Good p c (bestSize t c, 0) r
+      asNode : kindOf t (m .op) ≢ Lit → (k : Children) → MakesChildren p l k → Interns (k .pool) (opNode (m .op) (k .runs)) r → Makes (TermFor t ways Itself) p c (bestSize t c, 0) r
       asNode w k M E =
           let (means, children) = op-means (k .pool) (m .op) (k .runs) r E in record {
             valid = E .valid;
@@ -193,8 +148,8 @@ module _ (lim : Limits) (t : Tables) (ways : ℕ) where
 
       go : (b : Bool) → eqb (kindOf t (m .op)) Lit ≡ b
           → (elim b [ true ↦ intern lim p (litNode (m .op) (m .value)) | false ↦ childTerms (bestTermIn lim f t) p l >>= (λ k. intern lim (k .pool) (opNode (m .op) (k .runs))) ]) ≡ ok r
-          → ((d : Two) → In d l → (q : Pool) (s : Interned) → PoolValid q → bestTermIn lim f t q (d .0) ≡ ok s → Makes Good q (d .0) (bestSize t (d .0), 0) s)
-          → Makes Good p c (bestSize t c, 0) r
+          → ((d : Two) → In d l → (q : Pool) (s : Interned) → PoolValid q → bestTermIn lim f t q (d .0) ≡ ok s → Makes (TermFor t ways Itself) q (d .0) (bestSize t (d .0), 0) s)
+          → Makes (TermFor t ways Itself) p c (bestSize t c, 0) r
       go true k e ih = asLiteral (eqb-true _ _ k) (intern-enters lim p (litNode (m .op) (m .value)) r w (lit-valid (length p) (m .op) (m .value)) e)
       go false b e ih =
           let (k, ek, e′) = bind-ok (childTerms (bestTermIn lim f t) p l) _ r e in
@@ -202,5 +157,5 @@ module _ (lim : Limits) (t : Tables) (ways : ℕ) where
           asNode (eqb-false _ _ b) k M (intern-enters lim (k .pool) (opNode (m .op) (k .runs)) r (M .valid) (op-valid (length (k .pool)) (m .op) (k .runs) (M .below)) e′)
 
   -- The best term of a class has the class's best size and mass 0, and belongs to the class, read in every way.
-  pub best-term : Valid t → (p : Pool) (c : ℕ) (r : Interned) → c < length (t .classes) → PoolValid p → bestTerm lim t p c ≡ ok r → Makes Good p c (bestSize t c, 0) r
+  pub best-term : Valid t → (p : Pool) (c : ℕ) (r : Interned) → c < length (t .classes) → PoolValid p → bestTerm lim t p c ≡ ok r → Makes (TermFor t ways Itself) p c (bestSize t c, 0) r
   best-term v p c r h w e = best-made v (bestSize t c) p c r h (omega arith) w e

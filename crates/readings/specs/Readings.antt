@@ -21,11 +21,12 @@ use Rattle.laws.specs.BagCount.{spread}
 use Rattle.laws.specs.BestMembers.{IsPair}
 use Rattle.flow.specs.Theorems.{margins}
 use Rattle.pools.specs.Pool.{PoolValid}
+use Rattle.lgg.specs.Moves.{each-offer, pair-reads}
 use Rattle.steps.specs.Readings.{Builds, RunGood}
 use Rattle.steps.specs.Readings as steps
 use Rattle.readings.specs.ReadingsNode.{Covers}
 use Rattle.readings.specs.ReadingsActions.{Legal, structural-legal, transport-legal}
-use Rattle.readings.specs.ReadingsWithin.{joins-within}
+use Rattle.lgg.specs.Within.{joins-within}
 use Rattle.readings.specs.ReadingsMade.{action-made}
 use Rattle.readings.specs.Starting.{sides, Good, starting-made}
 
@@ -33,34 +34,25 @@ module _ (t : Tables) (v : Valid t) where
   abbrev Lawful : Two → Act Two → Type 0
   Lawful p a = Legal t p (a .op) (a .places) (a .counts)
 
-  pub offers-legal : (q : Two → Two) (p : Two) (a : Act Two) → In a (offersOf t q p) → Lawful p a
-  unfolding offersOf solvedPlans
-  offers-legal q p a i = go (in-append (map ofAction (structural t (p .0) (p .1))) i)
-    where
-      by-plan : (b : TransportAction) → In b (transports t (p .0) (p .1)) → (s : Option (List ℕ)) → solveCells (problemOver b (map q (cellPairs (b .sides)))) ≡ s → In a (ofSolved b s) → Lawful p a
-      by-plan b j none e k = absurd (in-nil k)
-      by-plan b j (some x) e k = elim (in-cons k) [ inl z ↦ rw z (transport-legal t v p b j (map q (cellPairs (b .sides))) x (margins _ x e)) | inr l ↦ absurd (in-nil l) ]
-
-      go : In a (map ofAction (structural t (p .0) (p .1))) ⊎ In a (each (solvedPlans q) (transports t (p .0) (p .1))) → Lawful p a
-      go (inl j) = let (b, k, e) = map-in ofAction (structural t (p .0) (p .1)) a j in rw (← e) (structural-legal t v p b k)
-      go (inr j) = let (b, k, l) = each-in (solvedPlans q) (transports t (p .0) (p .1)) a j in by-plan b k (solveCells (problemOver b (map q (cellPairs (b .sides))))) refl l
+  offers-legal : (q : Two → Two) (p : Two) (a : Act Two) → In a (offersOf t q p) → Lawful p a
+  offers-legal q p = each-offer (Lawful p) t q p (structural-legal t v p) (λ b j x e. transport-legal t v p b j (map q (cellPairs (b .sides))) x (margins _ x e))
 
   covers-of : (p : Two) (a : Act Two) → Lawful p a → (k : ℕ) → k < 2 → Covers t (a .op) (sides p k) (spread (map (λ c. sides c k) (a .places)) (a .counts))
   covers-of p a G zero h = G .left
   covers-of p a G (suc k) h = G .right
 
 module _ (lim : Limits) (t : Tables) (v : Valid t) where
-  pub pair-builds : Builds (pairs t) (making lim t) (IsPair t) (Good lim t)
+  pub pair-builds : Builds (pairs t) (making lim t) (IsPair t) (Good t)
   pair-builds = record {
     start = λ pool c r h w e. starting-made lim t v pool c r (h .0) (h .1) w e;
     action = λ pool p q of a r u i h e. action-made lim t 2 sides pool p q of (a .op) (a .places) (a .counts) r u (covers-of t v p a (offers-legal t v q p a i)) h e;
-    inside = λ q p a i c j. offers-legal t v q p a i .joined c j;
+    inside = pair-reads t .inside;
     onward = λ p c h i. joins-within t v p h c i;
   }
 
   module _ (p : Two) (h : IsPair t p) where
-    good : (b : ℕ) (o : Outcome) → runOf lim t p b ≡ ok o → RunGood (pairs t) (making lim t) (IsPair t) (Good lim t) pair-builds p h o
-    good b o e = steps.run-good (pairs t) (making lim t) (IsPair t) (Good lim t) pair-builds p h b o e
+    good : (b : ℕ) (o : Outcome) → runOf lim t p b ≡ ok o → RunGood (Good t) p o
+    good b o e = steps.run-good (pairs t) (making lim t) (IsPair t) (Good t) pair-builds p h b o e
 
     -- The pool that a run leaves is valid, and the root is one of its terms.
     pub run-pool : (b : ℕ) (o : Outcome) → runOf lim t p b ≡ ok o → PoolValid (o .pool) × (o .root < length (o .pool))

@@ -18,18 +18,17 @@ use Rattle.spec.specs.Meaning as M
 use Rattle.laws.specs.Tests.{both-true, clash}
 use Rattle.laws.specs.Valid.{Valid}
 use Rattle.laws.specs.Monomials.{count-insert, monomial-counts, Padded, level, left, right, padded}
-use Rattle.laws.specs.Bag.{each-in, each-in, filter-in}
+use Rattle.laws.specs.Bag.{each-in, filter-in}
 use Rattle.laws.specs.BagCount.{insert-all, monomial-all, spread, spread-ones, occurs-written, written-ones}
 use Rattle.lgg.specs.BagPlan.{plan-rows, plan-columns}
 use Rattle.readings.specs.ReadingsNode.{Covers, inOrder, anyOrder}
 use Rattle.laws.specs.BestMembers.{IsClass, identity-class, child-within, child-single, member-arity}
 use Rattle.laws.specs.Lists.{map-in, in-append, in-cons, in-each, in-left, in-nil, in-right}
 
--- operation o over the places ps, with counts x, is an action of pair p: its left classes cover the left class, its right ones the right, and it joins the places
+-- operation o over the places ps, with counts x, is an action of pair p: its left classes cover the left class, its right ones the right
 pub record Legal (t : Tables) (p : Two) (o : ℕ) (ps : List Two) (x : List ℕ) : Type 0 where
   pub left : Covers t o (p .0) (spread (map (λ c. c .0) ps) x)
   pub right : Covers t o (p .1) (spread (map (λ c. c .1) ps) x)
-  pub joined : (c : Two) → In c ps → In c (joins t p)
 
 -- ---- lists of the two sides
 zip-left : (xs ys : List ℕ) → length xs ≡ length ys → map (λ c. c .0) (zip xs ys) ≡ xs
@@ -171,20 +170,14 @@ module _ (t : Tables) (v : Valid t) where
       legal A = record {
         left = rw (once (a .pairs) (λ c. c .0)) (A .left);
         right = rw (once (a .pairs) (λ c. c .1)) (A .right);
-        joined = λ c i. in-left (each (λ b. cellPairs (b .sides)) (transports t (p .0) (p .1))) (in-each (λ b. b .pairs) (structural t (p .0) (p .1)) a c h i);
       }
 
   -- ---- transports
-  -- every class of a monomial is a class of the image
-  abbrev pub AllClasses : Monomial → Type 0
-  AllClasses m = (r : Two) → In r m → IsClass t (r .0)
-
   -- monomial m is what class c is under operation o
   pub record Stands (c o : ℕ) (m : Monomial) : Type 0 where
     pub of : List Two
     pub side : Side t c o of
     pub count : (k : ℕ) → countIn k m ≡ countIn k of
-    pub within : IsClass t c → AllClasses m
 
   monomial-stands : (c o : ℕ) (m : Monomial) → In m (monomialsOf t c o) → Stands c o m
   unfolding monomialsOf
@@ -193,7 +186,7 @@ module _ (t : Tables) (v : Valid t) where
       its : (b : Bool) → eqb (identityOf t o) NO-IDENTITY ≡ b → In m (pick b [] (itself c ∷ [])) → Stands c o m
       its true z h = absurd (in-nil h)
       its false z h = elim (in-cons h) [
-        | inl e ↦ rw e (record { of = itself c; side = M.itself (eqb-false _ _ z); count = λ k. refl; within = λ k r j. elim (in-cons j) [ inl x ↦ rw x k | inr y ↦ absurd (in-nil y) ] })
+        | inl e ↦ rw e (record { of = itself c; side = M.itself (eqb-false _ _ z); count = λ k. refl })
         | inr j ↦ absurd (in-nil j)
       ]
 
@@ -201,7 +194,7 @@ module _ (t : Tables) (v : Valid t) where
       go (inl h) =
           let (n, i, e) = map-in (λ n. monomial (childrenOf t n)) (filter (λ n. eqb (n .op) o) (membersOf t c)) m h in
           let (j, f) = filter-in (λ n. eqb (n .op) o) (membersOf t c) i in
-          rw (← e) (record { of = childrenOf t n; side = member n j (eqb-true _ _ f) refl; count = λ k. monomial-counts k (childrenOf t n); within = λ k. monomial-all (IsClass t) (childrenOf t n) (child-within t v n c j) })
+          rw (← e) (record { of = childrenOf t n; side = member n j (eqb-true _ _ f) refl; count = λ k. monomial-counts k (childrenOf t n) })
       go (inr h) = its (eqb (identityOf t o) NO-IDENTITY) refl h
 
   -- "identity children may be added"
@@ -211,7 +204,6 @@ module _ (t : Tables) (v : Valid t) where
     of = (identityOf t o, n) ∷ s .of;
     side = M.padded n h refl (s .side);
     count = λ k. omega (arith, count-insert k (identityOf t o) n m, s .count k);
-    within = λ k. insert-all (IsClass t) (identityOf t o) n m (identity-class t v o h) (s .within k);
   }
 
   pair-stands : (l r o : ℕ) (a b : Monomial) → Stands l o a → Stands r o b → (m : MonomialPair) → Padded (identityOf t o) a b m → Stands l o (m .rows) × Stands r o (m .cols)
@@ -279,5 +271,4 @@ module _ (t : Tables) (v : Valid t) where
       legal C = record {
         left = anyOrder (C .rows .of) (C .rows .side) (C .free) (λ k. plan-rows a qs x plan k ∙ C .rows .count k);
         right = anyOrder (C .cols .of) (C .cols .side) (C .free) (λ k. plan-columns a qs x plan k ∙ C .cols .count k);
-        joined = λ c i. in-right (each (λ b. b .pairs) (structural t (p .0) (p .1))) (in-each (λ b. cellPairs (b .sides)) (transports t (p .0) (p .1)) a c h i);
       }

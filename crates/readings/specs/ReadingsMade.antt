@@ -18,15 +18,12 @@ use Rattle.steps.specs.Readings.{Makes, TermAt}
 use Rattle.readings.specs.ReadingsNode.{Covers, TermFor, TermsFor, noTerm, andTerm, good-node}
 
 module _ (lim : Limits) (t : Tables) {N : Type 0} (ways : ℕ) (class : N → ℕ → ℕ) where
-  abbrev Good : N → Two → Term → Type 0
-  Good = TermFor t ways class
-
-  places-good : (pool : Pool) (q : N → Two) (of : N → ℕ) (ps : List N) → ((c : N) → In c ps → TermAt Good pool q of c) → TermsFor t ways class ps (map q ps) (map (treeAt pool) (map of ps))
+  places-good : (pool : Pool) (q : N → Two) (of : N → ℕ) (ps : List N) → ((c : N) → In c ps → TermAt (TermFor t ways class) pool q of c) → TermsFor t ways class ps (map q ps) (map (treeAt pool) (map of ps))
   places-good pool q of [] h = noTerm
   places-good pool q of (c ∷ ps) h = andTerm (h c here .1) (places-good pool q of ps (λ d i. h d (there i)))
 
   pub action-made : (pool : Pool) (p : N) (q : N → Two) (of : N → ℕ) (o : ℕ) (ps : List N) (x : List ℕ) (r : Interned) → PoolValid pool → ((k : ℕ) → k < ways → Covers t o (class p k) (spread (map (λ c. class c k) ps) x))
-      → ((c : N) → In c ps → TermAt Good pool q of c) → actionTerm lim t pool o (planRuns of ps x) ≡ ok r → Makes Good pool p (qualityOver x (map q ps)) r
+      → ((c : N) → In c ps → TermAt (TermFor t ways class) pool q of c) → actionTerm lim t pool o (planRuns of ps x) ≡ ok r → Makes (TermFor t ways class) pool p (qualityOver x (map q ps)) r
   action-made pool p q of o ps x r u covers h e = record {
     valid = E .valid;
     grown = E .grown;

@@ -14,7 +14,7 @@ use Rattle.spec.specs.Meaning.{In}
 use Rattle.laws.specs.Valid.{Valid}
 use Rattle.laws.specs.BestMembers.{IsPair}
 use Rattle.lgg.specs.Pairs.{Closed, turnTerm}
-use Rattle.readings.specs.Stands.{Fits}
+use Rattle.lgg.specs.Stands.{Fits}
 use Rattle.laws.specs.Lists.{get-in, place-in, place-at, Distinct}
 use Rattle.steps.specs.Standing.{Standing, Midway}
 use Rattle.pools.specs.PoolIntern.{extends-within}

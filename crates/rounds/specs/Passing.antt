@@ -13,7 +13,7 @@ use Rattle.spec.specs.Run.{State}
 use Rattle.laws.specs.Firsts.{first-within, first-skips}
 use Rattle.laws.specs.Tests.{either-false}
 use Rattle.steps.specs.Standing.{Standing}
-use Rattle.readings.specs.Stands.{Fits}
+use Rattle.lgg.specs.Stands.{Fits}
 use Rattle.live_pairs.specs.Live.{liveIn, nextLive, dueOf}
 use Rattle.live_pairs.specs.LiveLaws.{due-idle, due-live}
 use Rattle.settling.specs.Quiet.{Quiet}

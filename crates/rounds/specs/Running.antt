@@ -17,7 +17,7 @@ use Rattle.spec.specs.Listing.{listingOf}
 use Rattle.laws.specs.Valid.{Valid}
 use Rattle.pools.specs.PoolIntern.{Extends, extends-refl, extends-within}
 use Rattle.lgg.specs.Pairs.{Closed, turnsAt, roundAt, roundsOf}
-use Rattle.readings.specs.Stands.{Fits, pair-keeps}
+use Rattle.lgg.specs.Stands.{Fits, pair-keeps}
 use Rattle.steps.specs.RoundsFrom.{rounds-expired, rounds-refused, rounds-cut, rounds-quiet, rounds-next, round-left as rounds-left}
 use Rattle.steps.specs.Standing.{Standing, standing-next, listing-cut}
 use Rattle.arrays.specs.Arrays.{NEW, pairsIn, qualitiesIn, termsIn}

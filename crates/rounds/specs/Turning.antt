@@ -19,7 +19,7 @@ use Rattle.pools.specs.PoolLimits.{choice-within}
 use Rattle.steps.specs.TurnsFrom.{turns-length, turn-at, changedBy, changed-begin, changed-turn, changed-end, RoundAt, round-begin, round-cut, round-turn, round-refused, round-end}
 use Rattle.lgg.specs.Pairs.{turnsAt, roundAt, turnTerm}
 use Rattle.lgg.specs.Limits.{refuses13}
-use Rattle.readings.specs.Stands.{Fits, pair-keeps}
+use Rattle.lgg.specs.Stands.{Fits, pair-keeps}
 use Rattle.steps.specs.Standing.{Midway, midway-begin, turn-midway, Standing}
 use Rattle.arrays.specs.Arrays.{NEW, qualitiesFrom, termsFrom, qualitiesIn, termsIn, qualityIn, termIn}
 use Rattle.arrays.specs.ArrayLaws.{given-length, qualities-more, terms-more, old-kept}

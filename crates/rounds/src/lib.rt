@@ -16,7 +16,7 @@ ghost use Rattle.image.specs.Loaded.{Loaded};
 ghost use Rattle.spec.specs.Bytes as bytes;
 ghost use Rattle.lgg.specs.Pairs.{roundAt, roundsOf};
 ghost use Rattle.steps.specs.Standing.{Standing};
-ghost use Rattle.readings.specs.Stands.{Fits};
+ghost use Rattle.lgg.specs.Stands.{Fits};
 ghost use Rattle.query.specs.Settings.{limitsOf};
 ghost use Rattle.arrays.specs.Arrays.{pairsIn, qualitiesIn, Scratch};
 ghost use Rattle.terms.specs.Buffers.{countIn};

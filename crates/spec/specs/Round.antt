@@ -31,9 +31,6 @@ turnOf t q p = system.turnOf (pairs t) q p
 abbrev pub turnsOf : Tables → List Two → List Two → List Turn
 turnsOf t ps qs = system.turnsOf (pairs t) ps qs
 
-abbrev pub next : Tables → List Two → List Two → List Two
-next t ps qs = system.next (pairs t) ps qs
-
 -- the qualities after r rounds
 abbrev pub qualitiesAfter : ℕ → Tables → List Two → List Two
 qualitiesAfter r t ps = system.qualitiesAfter (pairs t) r ps

@@ -1,5 +1,5 @@
 -- A run of rounds over nodes of any kind: pairs of classes (document 01), triples (02, Paper 10). Graph, turns, rounds, checks and terms are said once, here;
--- what a node joins, what its actions offer and what terms they make are the system's. Graph, Round and Run have all of it for pairs.
+-- what a node joins and what its actions offer are the system's, the terms that they make the making's. Graph, Round and Run have all of it for pairs.
 use mathlib.Core.Path.{_≡_}
 use mathlib.Core.Bool.{Bool, true, false}
 use mathlib.Core.List.{List, [], _∷_, _++_, map}
@@ -40,7 +40,7 @@ pub record Making (N : Type 0) : Type 0 where
   pub actionTerm : Pool → ℕ → List Two → Res Interned
 
 -- ---- "Graph. Built in full, it holds the queried pair and, with each pair, every pair of classes that an action of it joins." (`build_graph`)
--- "Its pairs are counted once each"; "a pair beyond 4,096 would be entered": 12
+-- "Its n pairs are counted once each"; "a pair beyond 4,096 would be entered": 12
 unfoldable pub enter : {N : Type 0} → (N → N → Bool) → ℕ → List N → N → Res (List N)
 unfolding any
 enter same limit ps p = pick (any (same p) ps) (ok ps) (pick (ltb (length ps) limit) (ok (ps ++ (p ∷ []))) (refused 12))

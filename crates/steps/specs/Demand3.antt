@@ -22,17 +22,13 @@ use Rattle.steps.specs.Graph.{NodeCount, build-closed, build-whole, buil
 use Rattle.steps.specs.Run.{Status, Ended, Ends, inBuilding, inStarting, inRounds, run-ends, Stays, run-later}
 use Rattle.steps.specs.Outcomes.{root-in, root-quality, started-says, started-least, quiet-if-complete, complete-if, rounds-reported, rounds-grow}
 
--- ---- 5. the graph
+-- ---- the graph
 -- "Built in full, it holds the queried pair and, with each pair, every pair of classes that an action of it joins. Its n pairs are counted once each."
 pub graph : {N : Type 0} (S : System N) (lim : ℕ) (p : N) (b c : ℕ) (ps : List N) → build S lim p b ≡ ok (passed ps c)
     → ((rest : List N) × (ps ≡ p ∷ rest)) × Distinct ps × ((q : N) → In q ps ↔ Reachable S p q)
 graph {N = N} S lim p b c ps e = let w = build-whole S lim p b c ps e in (build-first S lim p b c ps e, w .once, w .exactly)
 
--- It is the same list for every budget that builds it in full; so n is the same.
-pub graph-same : {N : Type 0} (S : System N) (lim : ℕ) (p : N) (b b′ c c′ : ℕ) (ps ps′ : List N) → build S lim p b ≡ ok (passed ps c) → build S lim p b′ ≡ ok (passed ps′ c′) → ps ≡ ps′
-graph-same S lim p b b′ c c′ ps ps′ e e′ = build-same S lim p b c b′ c′ ps ps′ e e′
-
--- "one [check] a pair in building": with n pairs, 4,096 at most, the first budget that builds in full is n.
+-- "one [check] a pair in building": with n nodes, the limit at most, the first budget that builds in full is n.
 pub graph-checks : {N : Type 0} (S : System N) (lim : ℕ) (p : N) (n : ℕ) → NodeCount S p n → n ≤ lim
     → (ps : List N) × (length ps ≡ n) × ((b : ℕ) → (b < n → build S lim p b ≡ ok cutShort) × (n ≤ b → build S lim p b ≡ ok (passed ps (b - n))))
 graph-checks S lim p n count few =
@@ -40,12 +36,12 @@ graph-checks S lim p n count few =
     (ps, l, λ b. ((λ h. build-short S lim p n 0 ps e b (omega arith)), λ h. build-enough S lim p n 0 ps e b (b - n) (omega arith)))
 
 module _ {N : Type 0} (S : System N) (M : Making N) (Move : N → List N → List ℕ → Type 0) (L : Moves S Move) (p : N) where
-  -- ---- 6. least of height r
+  -- ---- least of height r
   -- After r finished rounds every node of the graph has the quality of one of its derivations of height at most r, and every such derivation has at least as much.
   pub least-after-rounds : (b c : ℕ) (ps : List N) → build S (M .limit) p b ≡ ok (passed ps c) → (r : ℕ) (q : N) → In q ps → LeastOf S Move r q (qualityAfter S ps r q)
   least-after-rounds b c ps e r q i = (attained S Move L ps (build-closed S (M .limit) p b c ps e) r q i, least S Move L ps (build-closed S (M .limit) p b c ps e) r q i)
 
-  -- A run that reports r rounds has the quality of one of the queried pair's derivations of height at most r, and every such derivation has at least as much.
+  -- A run that reports r rounds has the quality of one of the queried node's derivations of height at most r, and every such derivation has at least as much.
   pub least-of-height : (b : ℕ) (o : Outcome) → runOf S M p b ≡ ok o → LeastOf S Move (o .rounds) p (o .quality)
   least-of-height b o e = go (run-ends S M p b o e)
     where
@@ -54,7 +50,7 @@ module _ {N : Type 0} (S : System N) (M : Making N) (Move : N → List N → Lis
       go (inStarting root ps c k h z) = started-least S Move p root (length ps) o z
       go (inRounds ps c d k h f) = rw (root-quality S (M .limit) p b c d ps o k f) (least-after-rounds b c ps k (o .rounds) p (root-in S (M .limit) p b c ps k))
 
-  -- ---- 7. a complete run is least among the derivations of every height
+  -- ---- a complete run is least among the derivations of every height
   pub least-of-every-height : (b : ℕ) (o : Outcome) → runOf S M p b ≡ ok o → o .complete ≡ true → (h : ℕ) (z : Two) → Derivation S Move h p z → o .quality ⊑ z
   least-of-every-height b o e full h z d = go (run-ends S M p b o e)
     where
@@ -67,7 +63,7 @@ module _ {N : Type 0} (S : System N) (M : Making N) (Move : N → List N → Lis
       go (inRounds ps c m k l f) =
           rw (root-quality S (M .limit) p b c m ps o k f) (least-every S Move L ps (build-closed S (M .limit) p b c ps k) (o .rounds) (quiet-if-complete S ps m o f full) p (root-in S (M .limit) p b c ps k) h z d)
 
--- ---- 8. the bound
+-- ---- the bound
 -- The round with index n, and every later one, changes nothing.
 pub settled : {N : Type 0} (S : System N) (lim : ℕ) (B : Backs S) (p : N) (b c : ℕ) (ps : List N) → build S lim p b ≡ ok (passed ps c) → (d : ℕ) → length ps ≤ d → qualitiesAfter S (suc d) ps ≡ qualitiesAfter S d ps
 settled S lim B p b c ps e d h = quiet-same S ps d (go (changed S ps d) refl)
@@ -77,7 +73,7 @@ settled S lim B p b c ps e d h = quiet-same S ps d (go (changed S ps d) refl)
     go false k = k
 
 module _ {N : Type 0} (S : System N) (M : Making N) (B : Backs S) (p : N) where
-  -- A run whose full graph has n pairs and that is not refused is complete with 2n + (n + 1)(n + 1) checks.
+  -- A run whose full graph has n nodes and that is not refused is complete with 2n + (n + 1)(n + 1) checks.
   pub completes : (n : ℕ) → NodeCount S p n → (b : ℕ) (o : Outcome) → 2 * n + (n + 1) * (n + 1) ≤ b → runOf S M p b ≡ ok o → o .complete ≡ true
   completes n count b o h e = go (run-ends S M p b o e)
     where
@@ -88,7 +84,7 @@ module _ {N : Type 0} (S : System N) (M : Making N) (B : Backs S) (p : N) where
           let (x, y) = build-passed S (M .limit) p n count b c ps k in
           complete-if S B ps m o (build-closed S (M .limit) p b c ps k) f (omega (arith, ap (λ (z : ℕ). suc z * suc z) x))
 
--- ---- 9. budgets
+-- ---- budgets
 -- the quality is the queried node's after the rounds reported
 pub quality-at : {N : Type 0} (S : System N) (M : Making N) (p : N) (B C : ℕ) (ps : List N) → build S (M .limit) p B ≡ ok (passed ps C) → (b : ℕ) (o : Outcome) → runOf S M p b ≡ ok o → o .quality ≡ qualityAfter S ps (o .rounds) p
 quality-at {N = N} S M p B C ps g b o e = go (run-ends S M p b o e)
@@ -143,7 +139,7 @@ nodes-reported S M p n count b o e = go (run-ends S M p b o e)
     go (inStarting root ps c k l s) = let (x, y) = build-passed S (M .limit) p n count b c ps k in ((λ h. absurd (omega arith)), λ h. started-says S p root (length ps) o s .0 ∙ x)
     go (inRounds ps c m k l f) = let (x, y) = build-passed S (M .limit) p n count b c ps k in ((λ h. absurd (omega arith)), λ h. f .nodes ∙ x)
 
--- The rounds of a run with b checks that gets past its starting terms, where ps is its full graph and n its number of pairs.
+-- The rounds of a run with b checks that gets past its starting terms, where ps is its full graph and n its number of nodes.
 pub record Finished {N : Type 0} (S : System N) (ps : List N) (n b : ℕ) (o : Outcome) : Type 0 where
   -- "The rounds reported are the finished ones that changed a quality": each of them did, and its checks passed
   pub changing : (r : ℕ) → r < o .rounds → qualitiesAfter S (suc r) ps ≢ qualitiesAfter S r ps
@@ -200,7 +196,7 @@ first-quiet {N = N} S lim B p b c ps e = go (length ps) 0 (omega arith) (λ r h.
         by false k f = (r, omega arith, record { earlier = h; quiet = quiet-same S ps r k })
         by true k f = f (λ j l. elim (eq-or-lt-of-le l) [ inl m ↦ rw (suc-inj m) (changed-differs S ps r k) | inr m ↦ h j (omega arith) ])
 
--- What a run with b checks reports that is not refused, where ps is its full graph, n its number of pairs, and R its first quiet round.
+-- What a run with b checks reports that is not refused, where ps is its full graph, n its number of nodes, and R its first quiet round.
 pub record Reported {N : Type 0} (S : System N) (p : N) (ps : List N) (n R b : ℕ) (o : Outcome) : Type 0 where
   -- "A run cut short in building reports 1 pair"
   pub cutInBuilding : b < n → (o .nodes ≡ 1) × (o .rounds ≡ 0) × (o .complete ≡ false)
@@ -208,7 +204,7 @@ pub record Reported {N : Type 0} (S : System N) (p : N) (ps : List N) (n R b : �
   pub cutInStarting : n ≤ b → b < 2 * n → (o .nodes ≡ n) × (o .rounds ≡ 0) × (o .complete ≡ false)
   -- "The rounds reported are the finished ones that changed a quality." "The run is complete at the first finished round without change."
   pub pastStarting : 2 * n ≤ b → (o .nodes ≡ n) × (o .rounds ≡ min R ((b - 2 * n) / (n + 1))) × ((o .complete ≡ true) ↔ (2 * n + (R + 1) * (n + 1) ≤ b))
-  -- the quality is the queried pair's after the rounds reported
+  -- the quality is the queried node's after the rounds reported
   pub quality : o .quality ≡ qualityAfter S ps (o .rounds) p
 
 pub reported : {N : Type 0} (S : System N) (M : Making N) (p : N) (B C : ℕ) (ps : List N) → build S (M .limit) p B ≡ ok (passed ps C) → (R : ℕ) → FirstQuiet S ps R
@@ -218,18 +214,18 @@ reported {N = N} S M p B C ps g R q b o e = go (run-ends S M p b o e)
     count : NodeCount S p (length ps)
     count = (ps, build-whole S (M .limit) p B C ps g, refl)
 
-    cut : (root : Interned) (n : ℕ) → o ≡ started S p root n → o .quality ≡ qualityAfter S ps (o .rounds) p
-    cut root n s = let (x, r, c, k) = started-says S p root n o s in rw (r, k) (sym (q-start S ps p (root-in S (M .limit) p B C ps g)))
+    whole : o .quality ≡ qualityAfter S ps (o .rounds) p
+    whole = quality-at S M p B C ps g b o e
 
     go : Ends S M p b o → Reported S p ps (length ps) R b o
     go (inBuilding root k s) =
         let l = build-cut S (M .limit) p (length ps) count b k in
         let (x, r, c, z) = started-says S p root 1 o s in
-        record { cutInBuilding = λ i. (x, r, c); cutInStarting = λ i. absurd (omega arith); pastStarting = λ i. absurd (omega arith); quality = cut root 1 s }
+        record { cutInBuilding = λ i. (x, r, c); cutInStarting = λ i. absurd (omega arith); pastStarting = λ i. absurd (omega arith); quality = whole }
     go (inStarting root qs d k h s) =
         let (n, l) = build-passed S (M .limit) p (length ps) count b d qs k in
         let (x, r, c, z) = started-says S p root (length qs) o s in
-        record { cutInBuilding = λ i. absurd (omega arith); cutInStarting = λ i j. (x ∙ n, r, c); pastStarting = λ i. absurd (omega arith); quality = cut root (length qs) s }
+        record { cutInBuilding = λ i. absurd (omega arith); cutInStarting = λ i j. (x ∙ n, r, c); pastStarting = λ i. absurd (omega arith); quality = whole }
     go (inRounds qs d m k l f) = by (rw (build-same S (M .limit) p b d B C qs ps k g) at f) (build-passed S (M .limit) p (length ps) count b d qs k)
       where
         by : Ended S ps m o → (length qs ≡ length ps) × (b ≡ length ps + d) → Reported S p ps (length ps) R b o
@@ -240,7 +236,7 @@ reported {N = N} S M p B C ps g R q b o e = go (run-ends S M p b o e)
               cutInBuilding = λ i. absurd (omega arith);
               cutInStarting = λ i j. absurd (omega arith);
               pastStarting = λ i. (f .nodes, rw (left, add-one (length ps)) u, ((λ w. omega (arith, v .0 w)), λ w. v .1 (omega arith)));
-              quality = root-quality S (M .limit) p B C m ps o g f;
+              quality = whole;
             }
 
 -- ---- refused runs

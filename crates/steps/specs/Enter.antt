@@ -98,16 +98,16 @@ pub data Entered {N : Type 0} (lim : ℕ) (ps l : List N) : Res (List N) → Typ
 
 pub enter-says : {N : Type 0} (S : System N) (lim : ℕ) (ps : List N) (p : N) → Entered lim ps (p ∷ []) (enter (S .same) lim ps p)
 unfolding enter
-enter-says {N = N} S lim ps p = go (any (S .same p) ps) refl (ltb (length ps) (lim)) refl
+enter-says {N = N} S lim ps p = go (any (S .same p) ps) refl (ltb (length ps) lim) refl
   where
-    go : (x : Bool) → any (S .same p) ps ≡ x → (y : Bool) → ltb (length ps) (lim) ≡ y → Entered lim ps (p ∷ []) (pick x (ok ps) (pick y (ok (ps ++ (p ∷ []))) (refused 12)))
+    go : (x : Bool) → any (S .same p) ps ≡ x → (y : Bool) → ltb (length ps) lim ≡ y → Entered lim ps (p ∷ []) (pick x (ok ps) (pick y (ok (ps ++ (p ∷ []))) (refused 12)))
     go true a y b = grown (grown-old ps p (is-in (S .decides) p ps a)) (λ h. h)
-    go false a true b = grown (grown-new ps p (not-in (S .decides) p ps a)) (λ h. omega (arith, ltb-true (length ps) (lim) b, length-append ps (p ∷ [])))
+    go false a true b = grown (grown-new ps p (not-in (S .decides) p ps a)) (λ h. omega (arith, ltb-true (length ps) lim b, length-append ps (p ∷ [])))
     go false a false b = overfull refl (record {
       nodes = ps ++ (p ∷ []);
       some = λ x i. in-append ps i;
       once = λ d. distinct-last ps p d (not-in (S .decides) p ps a);
-      many = omega (arith, ltb-false (length ps) (lim) b, length-append ps (p ∷ []));
+      many = omega (arith, ltb-false (length ps) lim b, length-append ps (p ∷ []));
     })
 
 pub enterAll-says : {N : Type 0} (S : System N) (lim : ℕ) (l ps : List N) → Entered lim ps l (enterAll (S .same) lim ps l)

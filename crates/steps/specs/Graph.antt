@@ -4,6 +4,7 @@ use mathlib.Core.Logic.{_⊎_, inl, inr, _↔_}
 use mathlib.Core.Bool.{Bool, true, false}
 use mathlib.Core.List.{List, [], _∷_}
 use Prim.Native.Nat.{ℕ, zero, suc, _+_, _-_, _≤_, _<_, zero-le}
+use native.Mathlib.Decide.{decLt}
 use native.Mathlib.Omega.{arith}
 use native.Mathlib.Nat.{not-suc-le-zero, eq-or-lt-of-le, suc-inj, add-comm}
 use lib.Dec.{ltb}
@@ -13,7 +14,7 @@ use Rattle.spec.specs.Bytes.{pick, In, here, Res, ok, refused, _>>=_, Checked, 
 use Rattle.spec.specs.System.{System, enter, enterAll, buildFrom, build, Reachable, queried, joined}
 use Rattle.laws.specs.Lists.{in-nil, in-cons, get-in, in-get, get-append, Distinct, none, more, pigeon}
 use Rattle.laws.specs.Results.{Later, refused-ok, refused-inj, ok-inj, passed-inj, cut-passed}
-use Rattle.steps.specs.Enter.{Starts, starts-refl, starts-trans, starts-in, starts-length, Grown, Entered, grown, overfull, enterAll-says}
+use Rattle.steps.specs.Enter.{grow, Starts, starts-refl, starts-trans, starts-in, starts-length, Grown, Entered, grown, overfull, enterAll-says}
 
 -- the nodes hold every node that one of them joins
 abbrev pub Closed : {N : Type 0} → System N → List N → Type 0
@@ -31,20 +32,20 @@ pub record Some {N : Type 0} (S : System N) (root : N) (ps : List N) : Type 0 wh
   pub reached : (x : N) → In x ps → Reachable S root x
 
 -- the list in building, when the first i nodes have had their turn
-pub record Good {N : Type 0} (S : System N) (root : N) (ps : List N) (i : ℕ) : Type 0 where
-  pub starts : Starts (root ∷ []) ps
-  pub some : Some S root ps
-  pub done : (k : ℕ) → k < i → (c : N) → In c (S .joins (getD ps k (S .other))) → In c ps
-  pub upTo : i ≤ length ps
+record Good {N : Type 0} (S : System N) (root : N) (ps : List N) (i : ℕ) : Type 0 where
+  starts : Starts (root ∷ []) ps
+  some : Some S root ps
+  done : (k : ℕ) → k < i → (c : N) → In c (S .joins (getD ps k (S .other))) → In c ps
+  upTo : i ≤ length ps
 
 -- what building with m checks in all comes to
-pub data Built {N : Type 0} (S : System N) (lim : ℕ) (root : N) (m : ℕ) : Res (Checked (List N)) → Type 0 where
+data Built {N : Type 0} (S : System N) (lim : ℕ) (root : N) (m : ℕ) : Res (Checked (List N)) → Type 0 where
   full : {ps : List N} {c : ℕ} → Good S root ps (length ps) → m ≡ length ps + c → length ps ≤ lim → Built S lim root m (ok (passed ps c))
   short : (ps : List N) → Some S root ps → m < length ps → length ps ≤ lim → Built S lim root m (ok cutShort)
   over : {n : ℕ} → n ≡ 12 → (ps : List N) → Some S root ps → lim < length ps → Built S lim root m (refused n)
 
 module _ {N : Type 0} (S : System N) (root : N) where
-  pub good-next : (ps qs : List N) (i : ℕ) → i < length ps → Good S root ps i → Grown ps (S .joins (getD ps i (S .other))) qs → Good S root qs (suc i)
+  good-next : (ps qs : List N) (i : ℕ) → i < length ps → Good S root ps i → Grown ps (S .joins (getD ps i (S .other))) qs → Good S root qs (suc i)
   good-next ps qs i h d g = record {
     starts = starts-trans (root ∷ []) ps qs (d .starts) (g .starts);
     some = record { once = g .apart (d .some .once); reached = λ x j. from x (g .only x j) };
@@ -69,7 +70,7 @@ module _ {N : Type 0} (S : System N) (root : N) where
           go (inl e) = g .all c (subst (λ z. In c (S .joins (getD ps z (S .other)))) (suc-inj e) j′)
           go (inr b) = starts-in ps qs c (g .starts) (d .done k (omega arith) c j′)
 
-  pub good-start : Good S root (root ∷ []) 0
+  good-start : Good S root (root ∷ []) 0
   good-start = record {
     starts = starts-refl (root ∷ []);
     some = record { once = more in-nil none; reached = λ x i. elim (in-cons i) [ inl e ↦ queried e | inr j ↦ absurd (in-nil j) ] };
@@ -81,7 +82,7 @@ module _ {N : Type 0} (S : System N) (root : N) where
   good-closed : (ps : List N) → Good S root ps (length ps) → Closed S ps
   good-closed ps g p c i j = let k = in-get (S .other) p ps i in g .done (k .0) (k .1) c (subst (λ z. In c (S .joins z)) (sym (k .2)) j)
 
-  pub good-reach : (ps : List N) → Good S root ps (length ps) → (x : N) → Reachable S root x → In x ps
+  good-reach : (ps : List N) → Good S root ps (length ps) → (x : N) → Reachable S root x → In x ps
   good-reach ps g x (queried e) = rw e (starts-in (root ∷ []) ps root (g .starts) here)
   good-reach ps g x (joined {p = y} r j) = good-closed ps g y x (good-reach ps g y r) j
 
@@ -89,7 +90,7 @@ module _ {N : Type 0} (S : System N) (lim : ℕ) (root : N) where
   good-done : (ps : List N) (i m c : ℕ) → Good S root ps i → length ps ≤ lim → length ps ≤ i → m ≡ i + c → Built S lim root m (ok (passed ps c))
   good-done ps i m c g f h e = let z : i ≡ length ps = omega (arith, g .upTo) in full {ps = ps} {c = c} (rw z at g) (omega arith) f
 
-  pub build-says : (b : ℕ) (ps : List N) (i m : ℕ) → Good S root ps i → length ps ≤ lim → m ≡ i + b → Built S lim root m (buildFrom S lim b ps i)
+  build-says : (b : ℕ) (ps : List N) (i m : ℕ) → Good S root ps i → length ps ≤ lim → m ≡ i + b → Built S lim root m (buildFrom S lim b ps i)
   unfolding buildFrom
   build-says zero ps i m g f e = go (ltb i (length ps)) refl
     where
@@ -110,22 +111,13 @@ module _ {N : Type 0} (S : System N) (lim : ℕ) (root : N) where
       go true p ih = next (ltb-true i (length ps) p) (enterAll (S .same) lim ps (S .joins (getD ps i (S .other)))) (enterAll-says S lim (S .joins (getD ps i (S .other))) ps) ih
       go false p ih = good-done ps i m (suc b) g f (ltb-false i (length ps) p) e
 
-  pub built : (b : ℕ) → Built S lim root b (build S lim root b)
+  built : (b : ℕ) → Built S lim root b (build S lim root b)
   unfolding build enter
-  built b = go (ltb 0 (lim)) refl
+  built b = go (ltb 0 lim) refl
     where
-      go : (x : Bool) → ltb 0 (lim) ≡ x → Built S lim root b (pick x (ok (root ∷ [])) (refused 12) >>= λ ps. buildFrom S lim b ps 0)
-      go true e = build-says b (root ∷ []) 0 b (good-start S root) (omega (arith, ltb-true 0 (lim) e)) (omega arith)
-      go false e = over refl (root ∷ []) (good-start S root .some) (omega (arith, ltb-false 0 (lim) e))
-
-  -- with room for a node, building starts from the queried one
-  pub build-is : 0 < lim → (b : ℕ) → build S lim root b ≡ buildFrom S lim b (root ∷ []) 0
-  unfolding build enter
-  build-is h b = go (ltb 0 (lim)) refl
-    where
-      go : (x : Bool) → ltb 0 (lim) ≡ x → (pick x (ok (root ∷ [])) (refused 12) >>= λ ps. buildFrom S lim b ps 0) ≡ buildFrom S lim b (root ∷ []) 0
-      go true e = refl
-      go false e = absurd (omega (arith, ltb-false 0 (lim) e))
+      go : (x : Bool) → ltb 0 lim ≡ x → Built S lim root b (pick x (ok (root ∷ [])) (refused 12) >>= λ ps. buildFrom S lim b ps 0)
+      go true e = build-says b (root ∷ []) 0 b (good-start S root) (omega (arith, ltb-true 0 lim e)) (omega arith)
+      go false e = over refl (root ∷ []) (good-start S root .some) (omega (arith, ltb-false 0 lim e))
 
   -- more checks: the same list, or the same refusal
   from-later : (b c e : ℕ) (ps : List N) (i : ℕ) → c ≡ b + e → Later e (buildFrom S lim b ps i) (buildFrom S lim c ps i)
@@ -281,3 +273,23 @@ module _ {N : Type 0} (S : System N) (lim : ℕ) (root : N) where
       go (ok (passed ps c)) e = let (l, k) = build-passed n count n c ps e in let z : c ≡ 0 = omega arith in (ps, l, e ∙ ap (λ (m : ℕ). ok (passed ps m)) z)
       go (ok cutShort) e = absurd (omega (arith, build-cut n count n e))
       go (refused k) e = let (z, (ps, s, l)) = build-refused n k e in absurd (omega (arith, some-count S root n count ps s))
+
+-- ---- Every node has its n, where the reachable nodes are among a finite list.
+module _ {N : Type 0} (S : System N) (root : N) (grid : List N) (among : (x : N) → Reachable S root x → In x grid) where
+  few : (ps : List N) → Some S root ps → length ps ≤ length grid
+  few ps s = pigeon ps grid (s .once) (λ x i. among x (s .reached x i))
+
+  -- the work-list without a limit
+  explore : (f i : ℕ) (ps : List N) → Good S root ps i → length grid < i + f → (qs : List N) × Good S root qs (length qs)
+  explore zero i ps g h = absurd (omega (arith, few ps (g .some), g .upTo))
+  explore (suc f) i ps g h = go (decLt i (length ps)) (λ qs k. explore f (suc i) qs k (omega arith))
+    where
+      go : Dec (i < length ps) → ((qs : List N) → Good S root qs (suc i) → (rs : List N) × Good S root rs (length rs)) → (rs : List N) × Good S root rs (length rs)
+      go (yes l) ih = let (qs, d) = grow S (S .joins (getD ps i (S .other))) ps in ih qs (good-next S root ps qs i l g d)
+      go (no l) ih = let e : i ≡ length ps = omega (arith, g .upTo) in (ps, rw e at g)
+
+  pub node-count : (n : ℕ) × NodeCount S root n × ((m : ℕ) → NodeCount S root m → m ≡ n)
+  node-count =
+      let (ps, g) = explore (suc (length grid)) 0 (root ∷ []) (good-start S root) (omega arith) in
+      let c : NodeCount S root (length ps) = (ps, record { once = g .some .once; exactly = λ q. (g .some .reached q, good-reach S root ps g q) }, refl) in
+      (length ps, c, λ m d. count-unique S root m (length ps) d c)

@@ -23,8 +23,8 @@ module _ {N : Type 0} (S : System N) (l m : ℕ) (h : l ≤ m) where
   enter-kept : (ps : List N) (p : N) → Kept (enter (S .same) l ps p) (enter (S .same) m ps p)
   unfolding enter
   enter-kept ps p =
-      kept-room 12 ps (ps ++ (p ∷ [])) (any (S .same p) ps) (ltb (length ps) (l)) (ltb (length ps) (m))
-      (λ e. lt-ltb (length ps) (m) (omega (arith, ltb-true (length ps) (l) e, h)))
+      kept-room 12 ps (ps ++ (p ∷ [])) (any (S .same p) ps) (ltb (length ps) l) (ltb (length ps) m)
+      (λ e. lt-ltb (length ps) m (omega (arith, ltb-true (length ps) l e, h)))
 
   all-kept : (qs ps : List N) → Kept (enterAll (S .same) l ps qs) (enterAll (S .same) m ps qs)
   unfolding enterAll
@@ -108,7 +108,3 @@ module _ {N : Type 0} (S : System N) (L M : Making N) (W : Wider L M) where
   pub run-kept : (p : N) (b : ℕ) → Kept (runOf S L p b) (runOf S M p b)
   unfolding runOf
   run-kept p b = kept-bind (L .startingTerm [] p) (M .startingTerm [] p) _ _ (W .start [] p) (λ root. kept-bind (build S (L .limit) p b) (build S (M .limit) p b) _ _ (build-kept S (L .limit) (M .limit) (W .nodes) p b) (λ g. after-kept p root g))
-
-  -- A run that is not refused has the same outcome under larger limits: status, pairs, rounds, quality, pool and term.
-  pub run-same : (p : N) (b : ℕ) (o : Outcome) → runOf S L p b ≡ ok o → runOf S M p b ≡ ok o
-  run-same p b o e = kept-ok (runOf S L p b) (runOf S M p b) o (run-kept p b) e

@@ -40,6 +40,12 @@ module _ {N : Type 0} (Good : N → Two → Term → Type 0) where
     grown : Extends pool (r .pool)
     holds : Holds (r .pool) ps qs (r .terms)
 
+-- what is shown of a run: its pool is valid, and its root is a term of the pool that is good for the queried node and the reported quality
+pub record RunGood {N : Type 0} (Good : N → Two → Term → Type 0) (p : N) (o : Outcome) : Type 0 where
+  pub valid : PoolValid (o .pool)
+  pub within : o .root < length (o .pool)
+  pub good : Good p (o .quality) (treeAt (o .pool) (o .root))
+
 -- the laws: `Okay` holds of the nodes that a run meets
 pub record Builds {N : Type 0} (S : System N) (M : Making N) (Okay : N → Type 0) (Good : N → Two → Term → Type 0) : Type 0 where
   pub start : (pool : Pool) (c : N) (r : Interned) → Okay c → PoolValid pool → M .startingTerm pool c ≡ ok r → Makes Good pool c (S .startingQuality c) r
@@ -125,11 +131,6 @@ module _ {N : Type 0} (S : System N) (M : Making N) (Okay : N → Type 0) (Good 
 
   -- ---- the run
   module _ (p : N) (h : Okay p) where
-    pub record RunGood (o : Outcome) : Type 0 where
-      pub valid : PoolValid (o .pool)
-      pub within : o .root < length (o .pool)
-      pub good : Good p (o .quality) (treeAt (o .pool) (o .root))
-
     record Graphed (ps : List N) : Type 0 where
       whole : Whole S p ps
       first : Starts (p ∷ []) ps
@@ -149,7 +150,7 @@ module _ {N : Type 0} (S : System N) (M : Making N) (Okay : N → Type 0) (Good 
       valid : PoolValid (s .pool)
       holds : Holds Good (s .pool) ps (s .qualities) (s .terms)
 
-    outcome-good : (ps : List N) → Graphed ps → (s : State) → StateGood ps s → (complete : Bool) → RunGood (outcome complete ps s)
+    outcome-good : (ps : List N) → Graphed ps → (s : State) → StateGood ps s → (complete : Bool) → RunGood Good p (outcome complete ps s)
     outcome-good ps B s G complete = let (valid, within, good) = go (rw (B .first .1) at (G .holds)) in record { valid = valid; within = within; good = good }
       where
         go : {qs : List Two} {l : List ℕ} → Holds Good (s .pool) (p ∷ B .first .0) qs l → PoolValid (s .pool) × (getD l 0 0 < length (s .pool)) × Good p (getD qs 0 (0, 0)) (treeAt (s .pool) (getD l 0 0))
@@ -163,7 +164,7 @@ module _ {N : Type 0} (S : System N) (M : Making N) (Okay : N → Type 0) (Good 
         turns-done (lookUp (S .same) (0, 0) ps (s .qualities)) (lookUp (S .same) 0 ps (s .terms)) ps b (s .pool) r left (G .valid)
         (λ c i. (holds-look (G .holds) c i, λ d j. holds-look (G .holds) d (B .whole .exactly d .1 (joined (B .whole .exactly c .0 i) j)))) e
 
-    rounds-good : (f : ℕ) (ps : List N) → Graphed ps → (s : State) → StateGood ps s → (o : Outcome) → roundsFrom S M f ps s ≡ ok o → RunGood o
+    rounds-good : (f : ℕ) (ps : List N) → Graphed ps → (s : State) → StateGood ps s → (o : Outcome) → roundsFrom S M f ps s ≡ ok o → RunGood Good p o
     unfolding roundsFrom afterRound
     rounds-good zero ps B s G o e = rw (← ok-inj e) (outcome-good ps B s G false)
     rounds-good (suc f) ps B s G o e =
@@ -174,19 +175,19 @@ module _ {N : Type 0} (S : System N) (M : Making N) (Okay : N → Type 0) (Good 
         ws = turnsOf S ps (s .qualities)
 
         after : (r : Checked Terms) → roundTerms S M ps s ws (s .budget) ≡ ok r → afterRound (λ u. roundsFrom S M f ps u) ps s ws r ≡ ok o
-            → ((u : State) → StateGood ps u → roundsFrom S M f ps u ≡ ok o → RunGood o) → RunGood o
+            → ((u : State) → StateGood ps u → roundsFrom S M f ps u ≡ ok o → RunGood Good p o) → RunGood Good p o
         after (passed r left) er e ih = go (any changes ws) e
           where
-            go : (b : Bool) → (elim b [ false ↦ ok (outcome true ps s) | true ↦ roundsFrom S M f ps (stateAfter s ws r left) ]) ≡ ok o → RunGood o
+            go : (b : Bool) → (elim b [ false ↦ ok (outcome true ps s) | true ↦ roundsFrom S M f ps (stateAfter s ws r left) ]) ≡ ok o → RunGood Good p o
             go false e = rw (← ok-inj e) (outcome-good ps B s G true)
             go true e = let D = round-good ps B s G (s .budget) r left er in ih (stateAfter s ws r left) (record { valid = D .valid; holds = D .holds }) e
         after cutShort er e ih = rw (← ok-inj e) (outcome-good ps B s G false)
 
-    root-good : (root : Interned) → Makes Good [] p (S .startingQuality p) root → (n : ℕ) → RunGood (started S p root n)
+    root-good : (root : Interned) → Makes Good [] p (S .startingQuality p) root → (n : ℕ) → RunGood Good p (started S p root n)
     unfolding started
     root-good root R n = record { valid = R .valid; within = R .within; good = R .good }
 
-    pub run-good : (b : ℕ) (o : Outcome) → runOf S M p b ≡ ok o → RunGood o
+    pub run-good : (b : ℕ) (o : Outcome) → runOf S M p b ≡ ok o → RunGood Good p o
     unfolding runOf afterBuilding afterStarting
     run-good b o e =
         let (root, er, e′) = bind-ok (M .startingTerm [] p) _ o e in
@@ -194,13 +195,13 @@ module _ {N : Type 0} (S : System N) (M : Making N) (Okay : N → Type 0) (Good 
         building root (L .start [] p root h empty-valid er) g eg e″
       where
         starting : (root : Interned) → Makes Good [] p (S .startingQuality p) root → (ps : List N) → Graphed ps → (left : ℕ) (r : Checked Terms) → startingTerms M ps left (root .pool) ≡ ok r
-            → afterStarting S M p root ps r ≡ ok o → RunGood o
+            → afterStarting S M p root ps r ≡ ok o → RunGood Good p o
         starting root R ps B left (passed r c) es e =
             let D = starting-done ps left (root .pool) r c (R .valid) (λ q i. reach-all S Okay (L .onward) p h q (B .whole .exactly q .0 i)) es in
             rounds-good c ps B (startState S ps r c) (record { valid = D .valid; holds = D .holds }) o e
         starting root R ps B left cutShort es e = rw (← ok-inj e) (root-good root R (length ps))
 
-        building : (root : Interned) → Makes Good [] p (S .startingQuality p) root → (g : Checked (List N)) → build S (M .limit) p b ≡ ok g → afterBuilding S M p root g ≡ ok o → RunGood o
+        building : (root : Interned) → Makes Good [] p (S .startingQuality p) root → (g : Checked (List N)) → build S (M .limit) p b ≡ ok g → afterBuilding S M p root g ≡ ok o → RunGood Good p o
         building root R (passed ps c) eg e =
             let (r, er, e′) = bind-ok (startingTerms M ps c (root .pool)) _ o e in
             starting root R ps (record { whole = build-whole S (M .limit) p b c ps eg; first = build-first S (M .limit) p b c ps eg }) c r er e′

@@ -15,7 +15,7 @@ use Rattle.steps.specs.Turn.{turn-new, all-stay, Inside, choice-joins}
 -- the law: what is offered depends on the qualities of the joined nodes alone
 pub record Reads {N : Type 0} (S : System N) : Type 0 where
   pub offered : (q q′ : N → Two) (p : N) → ((c : N) → In c (S .joins p) → q c ≡ q′ c) → S .offers q p ≡ S .offers q′ p
-  pub joined : Inside S
+  pub inside : Inside S
 
 all-agree : {N : Type 0} (S : System N) (q q′ : N → Two) (l : List (Act N)) (w : Turn N) → ((a : Act N) → In a l → (c : N) → In c (a .places) → q c ≡ q′ c) → offerAll S q l w ≡ offerAll S q′ l w
 unfolding offerAll
@@ -27,7 +27,7 @@ all-agree {N = N} S q q′ (a ∷ l) w h =
 module _ {N : Type 0} (S : System N) (R : Reads S) where
   -- the offers over q′, from a turn's beginning
   offers-agree : (q q′ : N → Two) (p : N) (w : Turn N) → ((c : N) → In c (S .joins p) → q c ≡ q′ c) → offerAll S q (S .offers q p) w ≡ offerAll S q′ (S .offers q′ p) w
-  offers-agree q q′ p w h = all-agree S q q′ (S .offers q p) w (λ a i c j. h c (R .joined q p a i c j)) ∙ ap (λ (l : List (Act N)). offerAll S q′ l w) (R .offered q q′ p h)
+  offers-agree q q′ p w h = all-agree S q q′ (S .offers q p) w (λ a i c j. h c (R .inside q p a i c j)) ∙ ap (λ (l : List (Act N)). offerAll S q′ l w) (R .offered q q′ p h)
 
   pub turn-agree : (q q′ : N → Two) (p : N) → q p ≡ q′ p → ((c : N) → In c (S .joins p) → q c ≡ q′ c) → turnOf S q p ≡ turnOf S q′ p
   unfolding turnOf
@@ -53,7 +53,7 @@ module _ {N : Type 0} (S : System N) (R : Reads S) where
 
       go : (c : Choice N) → turnOf S q p .choice ≡ c → choiceTerm M of pool (of′ p) c ≡ choiceTerm M of′ pool (of′ p) c
       go stay z = refl
-      go (act a) z = ap (λ (l : List Two). M .actionTerm pool (a .op) l) (runs-agree (a .places) (a .counts) (λ c i. h c (choice-joins S (R .joined) q p a z c i)))
+      go (act a) z = ap (λ (l : List Two). M .actionTerm pool (a .op) l) (runs-agree (a .places) (a .counts) (λ c i. h c (choice-joins S (R .inside) q p a z c i)))
 
 -- ---- over a list that holds every node it joins, a turn is read from any tables that agree with the list's qualities and terms
 module _ {N : Type 0} (S : System N) (R : Reads S) (ps : List N) (closed : Closed S ps) where

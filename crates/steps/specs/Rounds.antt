@@ -55,12 +55,12 @@ module _ {N : Type 0} (S : System N) (ps : List N) where
       ]
 
   -- rounds that change something, and rounds that do not
-  told : (r : ℕ) (p : N) → In p ps → Told (qualityAfter S ps r p) (turnOf S (qualityAfter S ps r) p)
-  told r p i = turn-told S (qualityAfter S ps r) p
+  told : (r : ℕ) (p : N) → Told (qualityAfter S ps r p) (turnOf S (qualityAfter S ps r) p)
+  told r p = turn-told S (qualityAfter S ps r) p
 
   pub quiet-same : (r : ℕ) → changed S ps r ≡ false → qualitiesAfter S (suc r) ps ≡ qualitiesAfter S r ps
   unfolding turnsOf
-  quiet-same r e = after-map r ∙ map-ext _ (qualityAfter S ps r) ps (λ p i. same p i (told r p i)) ∙ sym (by-node r)
+  quiet-same r e = after-map r ∙ map-ext _ (qualityAfter S ps r) ps (λ p i. same p i (told r p)) ∙ sym (by-node r)
     where
       same : (p : N) → In p ps → Told (qualityAfter S ps r p) (turnOf S (qualityAfter S ps r) p) → turnOf S (qualityAfter S ps r) p .quality ≡ qualityAfter S ps r p
       same p i (inl (n, k)) = k
@@ -71,7 +71,7 @@ module _ {N : Type 0} (S : System N) (ps : List N) where
   changed-some r e =
       let a = any-in changes (map (turnOf S (qualityAfter S ps r)) ps) e in
       let b = map-in (turnOf S (qualityAfter S ps r)) ps (a .0) (a .1) in
-      (b .0, b .1, rw (q-next r (b .0) (b .1)) (better (b .0) (told r (b .0) (b .1)) (ap (λ (w : Turn N). changes w) (b .2) ∙ a .2)))
+      (b .0, b .1, rw (q-next r (b .0) (b .1)) (better (b .0) (told r (b .0)) (ap (λ (w : Turn N). changes w) (b .2) ∙ a .2)))
     where
       better : (p : N) → Told (qualityAfter S ps r p) (turnOf S (qualityAfter S ps r) p) → changes (turnOf S (qualityAfter S ps r) p) ≡ true → turnOf S (qualityAfter S ps r) p .quality ⊏ qualityAfter S ps r p
       better p (inl (n, k)) z = absurd (clash (sym z ∙ n))

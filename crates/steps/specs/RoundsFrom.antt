@@ -103,7 +103,3 @@ module _ {N : Type 0} (S : System N) (M : Making N) (ps : List N) where
     rounds-next r c e q =
         by-turns (ok (passed r c)) e ∙ ap {B = Res Outcome} (λ (z : Bool). elim z [ false ↦ ok (outcome true ps s) | true ↦ roundsFrom S M b ps (stateAfter s (turnsAt S ps s) r c) ]) q
         ∙ rounds-of b (stateAfter s (turnsAt S ps s) r c) (omega (arith, round-left b c s r e))
-
-    -- the rounds are no more than the checks
-    pub rounds-counted : (B : ℕ) (r : Terms) (c : ℕ) → roundAt S M ps s b ≡ ok (passed r c) → s .rounds + s .budget ≤ B → suc (s .rounds) + c ≤ B
-    rounds-counted B r c e h = omega (arith, round-left b c s r e)

@@ -21,7 +21,7 @@ use Rattle.steps.specs.TurnsFrom.{turns-length}
 abbrev pub Status : {N : Type 0} → System N → List N → ℕ → Outcome → Type 0
 Status S ps b o = ((o .complete ≡ true) × (changed S ps (o .rounds) ≡ false) × (suc (o .rounds) * suc (length ps) ≤ b)) ⊎ ((o .complete ≡ false) × (b < suc (o .rounds) * suc (length ps)))
 
--- What rounds over the pairs ps, begun with b checks, end with: every round reported changed a quality, and its checks passed.
+-- What rounds over the nodes ps, begun with b checks, end with: every round reported changed a quality, and its checks passed.
 pub record Ended {N : Type 0} (S : System N) (ps : List N) (b : ℕ) (o : Outcome) : Type 0 where
   pub nodes : o .nodes ≡ length ps
   pub quality : o .quality ≡ getD (qualitiesAfter S (o .rounds) ps) 0 (0, 0)

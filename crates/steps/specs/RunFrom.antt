@@ -29,20 +29,21 @@ module _ {N : Type 0} (S : System N) (M : Making N) (p : N) (b : ℕ) where
     unfolding afterBuilding
     run-cut-building e = after-build (ok cutShort) e
 
-    module _ (ps : List N) (c : ℕ) (built : build S (M .limit) p b ≡ ok (passed ps c)) where
-      after-starting : (x : Res (Checked Terms)) → startingTerms M ps c (root .pool) ≡ x → runOf S M p b ≡ (x >>= afterStarting S M p root ps)
-      unfolding afterBuilding
-      after-starting x e = after-build (ok (passed ps c)) built ∙ ap (λ (z : Res (Checked Terms)). z >>= afterStarting S M p root ps) e
+-- ---- over a graph that is built in full
+module _ {N : Type 0} (S : System N) (M : Making N) (p : N) (root : Interned) (ps : List N) (c : ℕ) where
+  by-starting : (x : Res (Checked Terms)) → startingTerms M ps c (root .pool) ≡ x → afterBuilding S M p root (passed ps c) ≡ (x >>= afterStarting S M p root ps)
+  unfolding afterBuilding
+  by-starting x e = ap (λ (z : Res (Checked Terms)). z >>= afterStarting S M p root ps) e
 
-      -- a starting term is refused, or the starting terms are cut short
-      pub run-no-starting : (n : ℕ) → startingTerms M ps c (root .pool) ≡ refused n → runOf S M p b ≡ refused n
-      run-no-starting n e = after-starting (refused n) e
+  -- a starting term is refused, or the starting terms are cut short
+  pub built-refused : (n : ℕ) → startingTerms M ps c (root .pool) ≡ refused n → afterBuilding S M p root (passed ps c) ≡ refused n
+  built-refused n e = by-starting (refused n) e
 
-      pub run-cut-starting : startingTerms M ps c (root .pool) ≡ ok cutShort → runOf S M p b ≡ ok (started S p root (length ps))
-      unfolding afterStarting
-      run-cut-starting e = after-starting (ok cutShort) e
+  pub built-cut : startingTerms M ps c (root .pool) ≡ ok cutShort → afterBuilding S M p root (passed ps c) ≡ ok (started S p root (length ps))
+  unfolding afterStarting
+  built-cut e = by-starting (ok cutShort) e
 
-      -- the rounds decide
-      pub run-rounds : (r : Terms) (d : ℕ) → startingTerms M ps c (root .pool) ≡ ok (passed r d) → runOf S M p b ≡ roundsOf S M ps (startState S ps r d)
-      unfolding afterStarting
-      run-rounds r d e = after-starting (ok (passed r d)) e
+  -- the rounds decide
+  pub built-rounds : (r : Terms) (d : ℕ) → startingTerms M ps c (root .pool) ≡ ok (passed r d) → afterBuilding S M p root (passed ps c) ≡ roundsOf S M ps (startState S ps r d)
+  unfolding afterStarting
+  built-rounds r d e = by-starting (ok (passed r d)) e

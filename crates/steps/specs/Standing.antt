@@ -19,7 +19,7 @@ use Rattle.pools.specs.PoolSort.{plan-below}
 use Rattle.pools.specs.OrderListing.{listing-larger}
 use Rattle.steps.specs.Graph.{Closed}
 use Rattle.steps.specs.Turn.{Inside, choice-joins}
-use Rattle.steps.specs.TurnsFrom.{get-map, quality-at, turns-length, RoundAt, turnTerm, round-begin, round-cut, round-turn, round-refused, round-end}
+use Rattle.steps.specs.TurnsFrom.{get-map, turn-quality, turns-length, RoundAt, turnTerm, round-begin, round-cut, round-turn, round-refused, round-end}
 use Rattle.steps.specs.RoundsFrom.{turnsAt, roundAt}
 
 -- the state between two rounds over the nodes ps: a quality that fits and a term for each node
@@ -139,7 +139,7 @@ module _ {N : Type 0} (S : System N) (M : Making N) (Fits : Two → Type 0) (L :
       named = W .many;
       valid = W .valid;
       within = W .within;
-      fits = λ k h. rw (quality-at S ps (s .qualities) k h) (turn-fits k h);
+      fits = λ k h. rw (turn-quality S ps (s .qualities) k h) (turn-fits k h);
     }
 
     -- a finished round

@@ -1,4 +1,4 @@
--- The turns of a round and the starting terms as a loop runs them: the terms so far, and what the rest from pair k on comes to.
+-- The turns of a round and the starting terms as a loop runs them: the terms so far, and what the rest from node k on comes to.
 use mathlib.Core.Path.{_≡_, refl, sym, ap, ap₂, _∙_}
 use mathlib.Core.Bool.{Bool, true, false}
 use mathlib.Core.List.{List, [], _∷_, _++_, map, append-nil, append-assoc}
@@ -28,9 +28,9 @@ unfolding turnsOf
 turn-at {N = N} S ps qs k d h = get-map (turnOf S (lookUp (S .same) (0, 0) ps qs)) ps k (S .other) d h
 
 -- node k's entry in the list of the round's qualities
-pub quality-at : {N : Type 0} (S : System N) (ps : List N) (qs : List Two) (k : ℕ) → k < length ps → getD (map (λ w. w .quality) (turnsOf S ps qs)) k (0, 0) ≡ turnOf S (lookUp (S .same) (0, 0) ps qs) (getD ps k (S .other)) .quality
+pub turn-quality : {N : Type 0} (S : System N) (ps : List N) (qs : List Two) (k : ℕ) → k < length ps → getD (map (λ w. w .quality) (turnsOf S ps qs)) k (0, 0) ≡ turnOf S (lookUp (S .same) (0, 0) ps qs) (getD ps k (S .other)) .quality
 unfolding turnsOf
-quality-at {N = N} S ps qs k h =
+turn-quality {N = N} S ps qs k h =
     ap (λ (l : List Two). getD l k (0, 0)) (map-map (turnOf S (lookUp (S .same) (0, 0) ps qs)) (λ w. w .quality) ps)
     ∙ get-map (λ p. turnOf S (lookUp (S .same) (0, 0) ps qs) p .quality) ps k (S .other) (0, 0) h
 

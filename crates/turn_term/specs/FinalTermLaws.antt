@@ -20,7 +20,7 @@ use Rattle.laws.specs.Valid.{Valid}
 use Rattle.laws.specs.Lists.{in-nil, in-cons}
 use Rattle.pools.specs.Pool.{RunsBelow}
 use Rattle.lgg.specs.TurnPlaces.{choice-joins}
-use Rattle.readings.specs.ReadingsWithin.{joins-within}
+use Rattle.lgg.specs.Within.{joins-within}
 use Rattle.terms.specs.Buffers.{part, unpack, countIn}
 use Rattle.terms.specs.Chains.{Holds}
 use Rattle.action_term.specs.Results.{actionList, ActionResult}

@@ -15,7 +15,7 @@ use Rattle.laws.specs.Valid.{Valid}
 use Rattle.laws.specs.Lists.{in-left, in-right}
 use Rattle.lgg.specs.Cells.{CellsFit}
 use Rattle.lgg.specs.Moves.{transport-joins}
-use Rattle.readings.specs.ReadingsWithin.{joins-within}
+use Rattle.lgg.specs.Within.{joins-within}
 use Rattle.monomial_terms.specs.Terms.{NUMBERS, held}
 use Rattle.ac_repr.specs.Walk.{walks, allWalks, afterOf, leftOf, Within, Stepped}
 use Rattle.ac_monomials.specs.Actions.{actionsAt, Answered}

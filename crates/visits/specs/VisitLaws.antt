@@ -14,8 +14,8 @@ use Rattle.spec.specs.Pairs as Q
 use Rattle.spec.specs.Round.{Turn, changes, choiceTerm}
 use Rattle.laws.specs.Valid.{Valid}
 use Rattle.laws.specs.BestMembers.{IsPair}
-use Rattle.readings.specs.ReadingsWithin.{joins-within}
-use Rattle.readings.specs.Stands.{Fits, pair-keeps}
+use Rattle.lgg.specs.Within.{joins-within}
+use Rattle.lgg.specs.Stands.{Fits, pair-keeps}
 use Rattle.lgg.specs.TurnPlaces.{choice-joins}
 use Rattle.steps.specs.Standing.{choice-grows}
 use Rattle.arrays.specs.Arrays.{given, numberIn, qualityIn, termIn, TermsBelow}
