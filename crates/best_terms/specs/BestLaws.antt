@@ -1,23 +1,19 @@
 -- Best terms: building one again changes nothing, and a child's may be built first.
-use mathlib.Core.Path.{_≡_, refl, sym, ap, ap₂, _∙_}
-use mathlib.Core.Logic.{_≢_, _⊎_, inl, inr}
-use mathlib.Core.Bool.{Bool, true, false}
+use mathlib.Core.Path.{_≡_, refl, sym, ap, _∙_}
 use mathlib.Core.List.{List, [], _∷_, _++_, map}
-use Prim.Native.Nat.{ℕ, zero, suc, _+_, _*_, _-_, _≤_, _<_}
-use native.Mathlib.Nat.{not-suc-le-zero}
+use Prim.Native.Nat.{ℕ, zero, suc, _-_, _≤_, _<_}
 use native.Mathlib.Decide.{ℕ-discrete}
 use native.Mathlib.Omega.{arith}
-use lib.Dec.{eqb}
 use borrow.Author.Tests.{eq-eqb, ne-eqb}
-use lib.ListN.{length, getD, List·getD-append}
-use Rattle.spec.specs.Bytes.{Limits, Two, pick, Res, ok, refused, _>>=_}
-use Rattle.spec.specs.Image.{Tables, Member, Lit, kindOf, bestSize, childrenOf, bestMember}
+use lib.ListN.{length, List·getD-append}
+use Rattle.spec.specs.Bytes.{Limits, Two, Res, ok, refused, _>>=_}
+use Rattle.spec.specs.Image.{Tables, Lit, kindOf, bestSize, childrenOf, bestMember}
 use Rattle.spec.specs.Pool.{Pool, Node, nodeAt, opNode, litNode, Interned, interned, intern, Children, childTerms, bestTermIn, bestTerm}
 use Rattle.spec.specs.Meaning.{In, here, there}
 use Rattle.laws.specs.Valid.{Valid}
 use Rattle.laws.specs.Results.{bind-ok, ok-inj}
 use Rattle.pools.specs.Pool.{RunsBelow, runs-below-nil, runs-below-cons, PoolValid, op-valid, lit-valid}
-use Rattle.pools.specs.PoolIntern.{Extends, extends-refl, extends-trans, extends-within, Interns, intern-enters, intern-there}
+use Rattle.pools.specs.PoolIntern.{Extends, extends-refl, extends-trans, extends-within, intern-enters, intern-there}
 use Rattle.laws.specs.BestMembers.{best-in, best-falls, child-within, child-counted}
 use Rattle.pools.specs.BestFuel.{best-fuel}
 

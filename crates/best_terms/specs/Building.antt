@@ -1,7 +1,6 @@
 -- `build_best_term`: the class at hand, the classes that wait for it, and what is left to do.
-use mathlib.Core.Path.{_≡_, refl, sym, ap, ap₂, _∙_}
-use mathlib.Core.Logic.{_≢_, _⊎_, inl, inr}
-use mathlib.Core.Bool.{Bool, true, false}
+use mathlib.Core.Path.{_≡_, refl, sym, ap, _∙_}
+use mathlib.Core.Logic.{_⊎_, inl, inr}
 use mathlib.Core.List.{List, [], _∷_, _++_, map}
 use Prim.Native.Nat.{ℕ, zero, suc, _+_, _*_, _-_, _≤_, _<_}
 use native.Mathlib.Nat.{not-suc-le-zero, eq-or-lt-of-le}
@@ -10,10 +9,10 @@ use native.Mathlib.Omega.{arith}
 use lib.Dec.{eqb}
 use borrow.Author.Tests.{eq-eqb, ne-eqb}
 use lib.ListN.{length, getD, set, take, drop, length-map}
-use lib.Seq.{getD-set-same, getD-set-other, split-at, getD-take, getD-drop, take-length}
+use lib.Seq.{getD-set-same, getD-set-other, split-at, take-length}
 use Rattle.spec.specs.Bytes.{Limits, Two, pick, Res, ok, refused, _>>=_}
-use Rattle.spec.specs.Image.{Tables, Member, Lit, arities, FREE, kindOf, bestSize, childrenOf, bestMember, theMember, theClass, tablesOf}
-use Rattle.spec.specs.Pool.{Pool, Node, opNode, litNode, Interned, interned, intern, childTerms, bestTerm, bestTermIn}
+use Rattle.spec.specs.Image.{Tables, Lit, arities, kindOf, bestSize, childrenOf, bestMember, theMember, theClass, tablesOf}
+use Rattle.spec.specs.Pool.{Pool, Interned, interned, intern, childTerms, bestTerm}
 use Rattle.spec.specs.Meaning.{In, here, there}
 use Rattle.laws.specs.Valid.{Valid}
 use Rattle.laws.specs.AcceptedUses.{membersWithin, childrenWithin, child-of-at, children-length-at}
@@ -24,17 +23,17 @@ use Rattle.laws.specs.Lists.{in-nil}
 use Rattle.pools.specs.Pool.{PoolValid}
 use Rattle.pools.specs.PoolIntern.{Extends, extends-refl}
 use Rattle.laws.specs.BestMembers.{best-in, best-falls, child-within, child-counted, member-arity, children-length}
-use Rattle.terms.specs.Buffers.{poolOf, nodesIn, countIn}
+use Rattle.terms.specs.Buffers.{poolOf, countIn}
 use Rattle.terms.specs.Chains.{Holds}
 use Rattle.interning.specs.Interning.{enteredOf, poolAfter}
 use Rattle.interning.specs.Growing.{Grows}
 use Rattle.interning.specs.GrowLaws.{grows-none, grows-then}
-use Rattle.best_terms.specs.Reaching.{mark, marksOf, reachAll, reachIn, reach}
+use Rattle.best_terms.specs.Reaching.{mark, marksOf, reach}
 use Rattle.best_terms.specs.ReachLaws.{reach-marked, reach-down, reach-built, mark-none, mark-some, marks-set, reachOn, reach-on-end, reach-on-next}
-use Rattle.op_terms.specs.Members.{Gives, Built, keptRun, memberNode, MemberReady}
+use Rattle.op_terms.specs.Members.{Gives, keptRun, memberNode, MemberReady}
 use Rattle.best_terms.specs.Bests.{Kept}
 use Rattle.terms.specs.PoolLaws.{pool-length}
-use Rattle.best_terms.specs.BestLaws.{Again, best-again, best-literal, best-node, children-built, down-ok, down-refused, onward, onward-end, onward-down, onward-up, onward-refused}
+use Rattle.best_terms.specs.BestLaws.{best-again, best-literal, best-node, children-built, down-ok, down-refused, onward, onward-end, onward-down, onward-up, onward-refused}
 use Rattle.interning.specs.declared.Entered.{Entered}
 use Rattle.interning.specs.declared.Entered.the-variants as E
 

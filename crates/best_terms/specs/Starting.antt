@@ -1,34 +1,32 @@
 -- `evaluate_generalize_action`: "the best term of one class; or the marked place Variants of two best terms".
 use mathlib.Core.Path.{_≡_, refl, sym, ap, ap₂, _∙_}
-use mathlib.Core.Bool.{Bool, true, false}
-use mathlib.Core.List.{List, [], _∷_, map}
-use Prim.Native.Nat.{ℕ, zero, suc, _+_, _-_, _≤_, _<_}
+use mathlib.Core.List.{List, map}
+use Prim.Native.Nat.{ℕ, zero, suc, _+_, _<_}
 use native.Mathlib.Nat.{not-suc-le-zero}
 use native.Mathlib.Decide.{ℕ-discrete, decLt}
 use native.Mathlib.Omega.{arith}
-use lib.Dec.{eqb}
 use borrow.Author.Tests.{eq-eqb, ne-eqb}
 use lib.ListN.{length, getD, replicate, length-map}
 use lib.Seq.{ext-getD}
-use Rattle.spec.specs.Bytes.{Limits, Two, upFrom, pick, Res, ok, refused, _>>=_}
+use Rattle.spec.specs.Bytes.{Limits, Two, upFrom, Res, ok, refused, _>>=_}
 use Rattle.spec.specs.Image.{Tables}
-use Rattle.spec.specs.Pool.{Pool, Node, variantsNode, Interned, interned, intern, bestTerm, bestTermIn, startingTerm, joinRuns}
+use Rattle.spec.specs.Pool.{Pool, Node, variantsNode, Interned, intern, bestTerm, startingTerm}
 use Rattle.laws.specs.Valid.{Valid}
-use Rattle.laws.specs.Results.{ok-inj, refused-ok}
+use Rattle.laws.specs.Results.{refused-ok}
 use Rattle.pools.specs.Pool.{PoolValid, variants-valid}
-use Rattle.pools.specs.PoolIntern.{Extends, extends-within, intern-enters}
-use Rattle.terms.specs.Buffers.{poolOf, nodesIn, countIn}
+use Rattle.pools.specs.PoolIntern.{extends-within, intern-enters}
+use Rattle.terms.specs.Buffers.{poolOf, countIn}
 use Rattle.terms.specs.Chains.{Holds}
 use Rattle.interning.specs.Interning.{enteredOf, poolAfter}
-use Rattle.interning.specs.Growing.{laidOver, Grows}
+use Rattle.interning.specs.Growing.{Grows}
 use Rattle.interning.specs.GrowLaws.{grows-then}
-use Rattle.best_terms.specs.Reaching.{mark, marksOf, reachAll, reachIn, reach, numberOf, bestAfter, bestsAfter}
+use Rattle.best_terms.specs.Reaching.{mark, marksOf, reach, numberOf, bestAfter, bestsAfter}
 use Rattle.best_terms.specs.ReachLaws.{reach-marked, reach-there, mark-none, mark-some}
 use Rattle.op_terms.specs.Members.{Gives}
 use Rattle.best_terms.specs.Bests.{Kept}
 use Rattle.term_clearing.specs.Cleared.{Cleared}
 use Rattle.terms.specs.PoolLaws.{pool-length}
-use Rattle.best_terms.specs.BestLaws.{Again, best-again}
+use Rattle.best_terms.specs.BestLaws.{best-again}
 use Rattle.best_terms.specs.Building.{Builds, Keeps, keeps-then, full-told, term-told, kept-grows, grown-to}
 use Rattle.interning.specs.declared.Entered.{Entered}
 use Rattle.interning.specs.declared.Entered.the-variants as E

@@ -17,7 +17,7 @@ use Rattle.spec.specs.Round.{Act, Choice, stay, act, planRuns, actionTerm, choi
 use Rattle.spec.specs.Run.{documentLimits}
 use Rattle.spec.specs.Meaning.{In, here, there, Term, lit, node, Runs, run, runsOf, treeOf, treesAfter, treeAt}
 use Rattle.laws.specs.Valid.{Valid}
-use Rattle.laws.specs.Lists.{Distinct, none, more}
+use Rattle.laws.specs.Lists.{Distinct, none, more, in-get}
 use Rattle.laws.specs.Bag.{map-append, sum-append}
 use Rattle.pools.specs.Pool.{RunsBelow, runs-below-nil, runs-below-cons, NodeValid, PoolValid, op-valid, lit-valid, variants-valid, trees-length, tree-grows, tree-last, tree-literal}
 use Rattle.pools.specs.PoolTrees.{trees-apart}
@@ -55,21 +55,17 @@ entered-later g (fine E) = fine (record { kept = E .kept; grown = extends-trans 
 entered-later g (full b) = full b
 
 -- ---- a pool beyond the limits
-in-at : {A : Type 0} (d : A) (l : List A) (x : A) → In x l → (k : ℕ) × (k < length l) × (getD l k d ≡ x)
-in-at d (y ∷ l) x here = (0, omega arith, refl)
-in-at d (y ∷ l) x (there i) = let (k, h, e) = in-at d l x i in (suc k, omega arith, e)
-
 distinct-by : {A : Type 0} (d : A) (l : List A) → ((i j : ℕ) → i < length l → j < length l → getD l i d ≡ getD l j d → i ≡ j) → Distinct l
 distinct-by d [] h = none
 distinct-by d (x ∷ l) h =
-    more (λ i. let (k, b, e) = in-at d l x i in absurd (omega (arith, h 0 (suc k) (omega arith) (omega arith) (sym e))))
+    more (λ i. let (k, b, e) = in-get d x l i in absurd (omega (arith, h 0 (suc k) (omega arith) (omega arith) (sym e))))
     (distinct-by d l (λ i j a b e. suc-inj (h (suc i) (suc j) (omega arith) (omega arith) e)))
 
 crowded : {C : Term → Type 0} (p : Pool) → Kept C p → (TERMS < length p) ⊎ (RUNS < runCount p) → Beyond C
 crowded {C} p K h = record {
   terms = treesAfter [] p;
   distinct = distinct-by (lit 0 0) (treesAfter [] p) (λ i j a b e. trees-apart p (K .valid) i j (omega (arith, trees-length [] p)) (omega (arith, trees-length [] p)) e);
-  counted = λ x i. let (k, b, e) = in-at (lit 0 0) (treesAfter [] p) x i in rw (← e) (K .kinds k (omega (arith, trees-length [] p)));
+  counted = λ x i. let (k, b, e) = in-get (lit 0 0) x (treesAfter [] p) i in rw (← e) (K .kinds k (omega (arith, trees-length [] p)));
   beyond = elim h [ inl l ↦ inl (omega (arith, trees-length [] p)) | inr l ↦ inr (omega (arith, pool-runs p (K .valid))) ];
 }
 

@@ -1,7 +1,7 @@
 -- Demand 2, of a call of `merge` that is not refused, from its contract: the formula's readings, its size and mass. Then, of the definitions: the transport plans that turns take.
-use mathlib.Core.Path.{_≡_, refl, sym, ap, _∙_, subst}
+use mathlib.Core.Path.{_≡_, refl, ap, _∙_, subst}
 use mathlib.Core.Bool.{Bool}
-use mathlib.Core.List.{List, _∷_, map, append-assoc}
+use mathlib.Core.List.{List, map, append-assoc}
 use Prim.Native.Nat.{ℕ, _<_}
 use lib.ListN.{length, take}
 use lib.Seq.{take-at}
@@ -14,7 +14,7 @@ use Rattle.spec.specs.Pairs.{pairs, qualityOver}
 use Rattle.spec.specs.Round.{lookUp, problemOver, ofAction, ofPlan, stay, act, Turn, turnOf, turnsOf, qualitiesAfter}
 use Rattle.spec.specs.Run.{documentLimits, Outcome, runOf}
 use Rattle.spec.specs.Listing.{firstLine, listingOf}
-use Rattle.spec.specs.Meaning.{In, here, there, Plan, _⊑_, termQuality, readFirst, readSecond, Branched, treeAt, Belongs}
+use Rattle.spec.specs.Meaning.{In, Plan, _⊑_, termQuality, readFirst, readSecond, Branched, treeAt, Belongs}
 use Rattle.laws.specs.Lists.{map-in}
 use Rattle.laws.specs.Valid.{Valid}
 use Rattle.laws.specs.Accepted as A

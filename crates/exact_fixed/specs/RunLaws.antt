@@ -4,14 +4,14 @@ use mathlib.Core.List.{List}
 use Prim.Native.Nat.{ℕ, _*_, _≤_, _<_}
 use native.Mathlib.Omega.{arith}
 use lib.ListN.{length}
-use Rattle.spec.specs.Bytes.{Two, Limits, Res, ok, refused, _>>=_, Checked, passed, cutShort}
+use Rattle.spec.specs.Bytes.{Two, Limits, Res, ok, _>>=_, Checked, passed}
 use Rattle.spec.specs.Image.{Tables}
 use Rattle.spec.specs.Pool.{Pool, Interned, interned}
 use Rattle.spec.specs.System as system
 use Rattle.spec.specs.Pairs as P
 use Rattle.spec.specs.Round.{Terms}
 use Rattle.spec.specs.Run as run
-use Rattle.spec.specs.Run.{startingTerms, startState, afterStarting, afterBuilding}
+use Rattle.spec.specs.Run.{startingTerms, startState, afterBuilding}
 use Rattle.laws.specs.Valid.{Valid}
 use Rattle.pools.specs.PoolIntern.{Extends, extends-within}
 use Rattle.pools.specs.Pool.{PoolValid}

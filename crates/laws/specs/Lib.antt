@@ -17,3 +17,4 @@ pub mod Bag
 pub mod BagCount
 pub mod BestMembers
 pub mod Results
+pub mod Repeats

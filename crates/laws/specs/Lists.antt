@@ -100,6 +100,11 @@ module _ {A : Type 0} (d : A) where
   get-append (x ∷ l) m zero h = refl
   get-append (x ∷ l) m (suc k) h = get-append l m k (omega arith)
 
+pub get-map : {A B : Type 0} (f : A → B) (l : List A) (k : ℕ) (d : A) (e : B) → k < length l → getD (map f l) k e ≡ f (getD l k d)
+get-map f [] k d e h = absurd (not-suc-le-zero h)
+get-map f (x ∷ l) zero d e h = refl
+get-map f (x ∷ l) (suc k) d e h = get-map f l k d e (omega arith)
+
 -- ---- lists without repeats
 pub data Distinct {A : Type 0} : List A → Type 0 where
   none : Distinct []

@@ -12,6 +12,7 @@ use Rattle.spec.specs.Transport.{rowsOf, colsOf, rowFlow, colFlow}
 use Rattle.spec.specs.Action.{TransportAction, cellPairs}
 use Rattle.spec.specs.Round.{problemOver}
 use Rattle.spec.specs.Meaning.{Plan, occurs, countIn}
+use Rattle.laws.specs.Lists.{get-append, get-map}
 use Rattle.laws.specs.BagCount.{spread, occurs-append, occurs-replicate, times-pick}
 
 -- ---- sums over a range
@@ -63,16 +64,6 @@ getD-past [] m i k d e = let z : i ≡ k = omega arith in ap (λ (j : ℕ). getD
 getD-past (x ∷ l) m zero k d e = absurd (omega arith)
 getD-past (x ∷ l) m (suc i) k d e = getD-past l m i k d (omega arith)
 
-getD-first : {A : Type 0} (l m : List A) (i : ℕ) (d : A) → i < length l → getD (l ++ m) i d ≡ getD l i d
-getD-first [] m i d h = absurd (not-suc-le-zero h)
-getD-first (x ∷ l) m zero d h = refl
-getD-first (x ∷ l) m (suc i) d h = getD-first l m i d (omega arith)
-
-getD-map : {A B : Type 0} (f : A → B) (l : List A) (i : ℕ) (d : A) (e : B) → i < length l → getD (map f l) i e ≡ f (getD l i d)
-getD-map f [] i d e h = absurd (not-suc-le-zero h)
-getD-map f (x ∷ l) zero d e h = refl
-getD-map f (x ∷ l) (suc i) d e h = getD-map f l i d e (omega arith)
-
 abbrev grid : List ℕ → List ℕ → List Two
 grid xs ys = each (λ a. map (λ b. (a, b)) ys) xs
 
@@ -86,7 +77,7 @@ unfolding each
 grid-at [] ys i j k h l e = absurd (not-suc-le-zero h)
 grid-at (x ∷ xs) ys zero j k h l e =
     let z : k ≡ j = omega arith in
-    rw z (getD-first (map (λ b. (x, b)) ys) (grid xs ys) j (0, 0) (omega (arith, length-map {B = Two} ys (λ b. (x, b)))) ∙ getD-map (λ b. (x, b)) ys j 0 (0, 0) l)
+    rw z (get-append (0, 0) (map (λ b. (x, b)) ys) (grid xs ys) j (omega (arith, length-map {B = Two} ys (λ b. (x, b)))) ∙ get-map (λ b. (x, b)) ys j 0 (0, 0) l)
 grid-at (x ∷ xs) ys (suc i) j k h l e =
     getD-past (map (λ b. (x, b)) ys) (grid xs ys) k (i * length ys + j) (0, 0) (omega (arith, length-map {B = Two} ys (λ b. (x, b)))) ∙ grid-at xs ys i j (i * length ys + j) (omega arith) l refl
 

@@ -2,28 +2,27 @@
 use mathlib.Core.Path.{_≡_, refl, sym, ap, _∙_, subst}
 use mathlib.Core.Logic.{_⊎_, inl, inr}
 use mathlib.Core.Bool.{Bool, true, false}
-use mathlib.Core.List.{List, [], _∷_, _++_, map}
+use mathlib.Core.List.{List, [], _++_, map}
 use Prim.Native.Nat.{ℕ, _+_, _*_}
 use native.Mathlib.Omega.{arith}
 use lib.Dec.{eqb}
 use Rattle.spec.specs.Bytes as S
-use Rattle.spec.specs.Bytes.{Limits, any, In, here, each, Two, Res, ok, refused, _>>=_}
+use Rattle.spec.specs.Bytes.{Limits, In, each, Two, _>>=_}
 use Rattle.spec.specs.Image.{Tables, identityOf}
 use Rattle.spec.specs.Monomial.{Monomial, MonomialPair, monomialsOf, padPair, bothItself, representationPairs, narrow, narrowPairs}
 use Rattle.spec.specs.Transport.{planSize, planMass}
 use Rattle.spec.specs.Action.{Action, TransportAction, structural, acOps, transports, cellPairs, joins}
 use Rattle.spec.specs.System as system
-use Rattle.spec.specs.System.{System, stay, worth, offer, offerAll}
+use Rattle.spec.specs.System.{System, stay, worth, offerAll}
 use Rattle.spec.specs.Pairs.{solvedPlans, offersOf, pairs}
 use Rattle.spec.specs.Graph.{enterAll}
 use Rattle.spec.specs.Round.{ones, Act, ofAction, Turn, turnOf}
-use Rattle.spec.specs.Meaning.{_⊑_}
-use Rattle.laws.specs.Lists.{in-nil, in-cons, in-map, in-each, not-in}
+use Rattle.laws.specs.Lists.{in-nil}
 use Rattle.laws.specs.Bag.{Perm, nil, skip, swap, both, perm-in, perm-sym}
-use Rattle.steps.specs.Quality.{⊑-of-eq, ⊑-trans, two-eq, Total}
-use Rattle.steps.specs.Enter.{Entered, grown, enter-says, starts-in}
-use Rattle.lgg.specs.Repeats.{Fewer, done, keep, drop, Equal, fewer-all, fewer-seen, fewer-append, fewer-in, fewer-each, fewer-map, fewer-filter, fewer-trans}
-use Rattle.steps.specs.Turn.{offer-old, offer-new, all-new, all-append, offer-stays, all-stay}
+use Rattle.steps.specs.Quality.{two-eq, Total}
+use Rattle.laws.specs.Repeats.{Fewer, done, Equal, fewer-all, fewer-seen, fewer-append, fewer-in, fewer-each, fewer-map, fewer-filter, fewer-trans}
+use Rattle.steps.specs.Turn.{all-append}
+use Rattle.steps.specs.Repeats.{all-fewer, enterAll-fewer}
 
 -- ---- the same action twice: by operation and joined pairs, in whatever order (the signature of `dedup_and_insert`)
 pub record Repeats (a b : Action) : Type 0 where
@@ -39,44 +38,6 @@ perm-total q l m (both {m = k} d e) = perm-total q l k d ∙ perm-total q k m e
 
 repeat-worth : (t : Tables) (q : Two → Two) (a b : Action) → Repeats a b → worth (pairs t) q (ofAction a) ≡ worth (pairs t) q (ofAction b)
 repeat-worth t q a b r = ap {B = Two} (λ (z : Two). (1 + z .0, z .1)) (perm-total q (a .pairs) (b .pairs) (r .pairs))
-
--- ---- offers, over nodes of any kind: what is worth as much as an earlier offer may go
-module _ {N : Type 0} (S : System N) (q : N → Two) where
-  module _ {R : system.Act N → system.Act N → Type 0} (alike : (a b : system.Act N) → R a b → worth S q a ≡ worth S q b) where
-    all-fewer : (seen l m : List (system.Act N)) (w : system.Turn N) → ((a : system.Act N) → In a seen → w .quality ⊑ worth S q a) → Fewer R seen l m → offerAll S q l w ≡ offerAll S q m w
-    unfolding offerAll
-    all-fewer seen l m w h done = refl
-    all-fewer seen l m w h (keep {x = x} {l = j} {m = k} d) =
-        let v = offer S q x w in
-        all-fewer (x ∷ seen) j k v (λ a i. elim (in-cons i) [ inl e ↦ rw e (offer-new S q x w) | inr n ↦ ⊑-trans (v .quality) (w .quality) (worth S q a) (offer-old S q x w) (h a n) ]) d
-    all-fewer seen l m w h (drop {x = x} {l = j} y i r d) = rw (offer-stays S q x w (⊑-trans (w .quality) (worth S q y) (worth S q x) (h y i) (⊑-of-eq (alike y x r)))) (all-fewer seen j m w h d)
-
--- An action offered again, in whatever order of its pairs, leaves the turn as it is; so does a transport.
-pub action-again : (t : Tables) (q : Two → Two) (l : List Action) (w : Turn) (a b : Action) → In a l → Repeats a b → offerAll (pairs t) q (map ofAction (b ∷ [])) (offerAll (pairs t) q (map ofAction l) w) ≡ offerAll (pairs t) q (map ofAction l) w
-unfolding offerAll
-action-again t q l w a b i r =
-    let v = offerAll (pairs t) q (map ofAction l) w in
-    offer-stays (pairs t) q (ofAction b) v (⊑-trans (v .quality) (worth (pairs t) q (ofAction a)) (worth (pairs t) q (ofAction b)) (all-new (pairs t) q (map ofAction l) w (ofAction a) (in-map ofAction i)) (⊑-of-eq (repeat-worth t q a b r)))
-
-pub transport-again : (t : Tables) (q : Two → Two) (l : List TransportAction) (w : Turn) (a : TransportAction) → In a l
-    → offerAll (pairs t) q (solvedPlans q a) (offerAll (pairs t) q (each (solvedPlans q) l) w) ≡ offerAll (pairs t) q (each (solvedPlans q) l) w
-transport-again t q l w a i = all-stay (pairs t) q (solvedPlans q a) (offerAll (pairs t) q (each (solvedPlans q) l) w) (λ b j. all-new (pairs t) q (each (solvedPlans q) l) w b (in-each (solvedPlans q) l a b i j))
-
--- ---- entering nodes of any kind
-enterAll-fewer : {N : Type 0} (S : System N) (lim : ℕ) (seen l m ps : List N) → ((x : N) → In x seen → In x ps) → Fewer Equal seen l m → system.enterAll (S .same) lim ps l ≡ system.enterAll (S .same) lim ps m
-unfolding system.enterAll system.enter
-enterAll-fewer S lim seen l m ps h done = refl
-enterAll-fewer {N = N} S lim seen l m ps h (keep {x = x} {l = j} {m = k} d) = go (system.enter (S .same) lim ps x) (enter-says S lim ps x) (λ qs g. enterAll-fewer S lim (x ∷ seen) j k qs g d)
-  where
-    go : (r : Res (List N)) → Entered lim ps (x ∷ []) r → ((qs : List N) → ((z : N) → In z (x ∷ seen) → In z qs) → system.enterAll (S .same) lim qs j ≡ system.enterAll (S .same) lim qs k)
-        → (r >>= λ qs. system.enterAll (S .same) lim qs j) ≡ (r >>= λ qs. system.enterAll (S .same) lim qs k)
-    go (ok qs) (grown g f) ih = ih qs (λ z i. elim (in-cons i) [ inl e ↦ rw e (g .all x here) | inr n ↦ starts-in ps qs z (g .starts) (h z n) ])
-    go (refused n) e ih = refl
-enterAll-fewer S lim seen l m ps h (drop {x = x} {l = j} y i e d) = rw (again (any (S .same x) ps) refl) (enterAll-fewer S lim seen j m ps h d)
-  where
-    again : (b : Bool) → any (S .same x) ps ≡ b → any (S .same x) ps ≡ true
-    again true f = f
-    again false f = absurd (not-in (S .decides) x ps f (rw e at (h y i)))
 
 still : {A : Type 0} {z : A} {m : List A} → In z m ⊎ In z [] → In z m
 still (inl i) = i

@@ -1,6 +1,5 @@
 pub mod Moves
 pub mod Cells
-pub mod Repeats
 pub mod Dedup
 pub mod Within
 pub mod BagPlan

@@ -13,7 +13,7 @@ use Rattle.spec.specs.Monomial.{counts}
 use Rattle.spec.specs.Transport.{forbidden, allowed, solveCells, rowFlow, colFlow}
 use Rattle.spec.specs.Action.{Action, TransportAction, structural, transports, cellPairs, joins}
 use Rattle.spec.specs.Pairs.{ofSolved, solvedPlans, offersOf, pairs}
-use Rattle.spec.specs.Round.{cellsOver, qualityOver, ones, problemOver, Act, ofAction, ofPlan}
+use Rattle.spec.specs.Round.{startingQuality, cellsOver, qualityOver, ones, problemOver, Act, ofAction, ofPlan}
 use Rattle.spec.specs.Meaning.{Plan, _⊑_, Move, aligned, planned}
 use Rattle.flow.specs.Theorems.{margins, least, refused-where}
 use Rattle.laws.specs.Lists.{in-nil, in-cons, in-left, in-right, in-append, in-map, map-in, in-each, map-ext, length-map}
@@ -57,7 +57,7 @@ module _ (t : Tables) (p : Two) where
 
   pub move-joins : (ps : List Two) (x : List ℕ) → Move t p ps x → (c : Two) → In c ps → In c (joins t p)
   move-joins ps x (aligned a i e f) c j = action-joins a i c (rw e at j)
-  move-joins ps x (planned a i e qs l n) c j = transport-joins a i c (rw e at j)
+  move-joins ps x (planned a i e n) c j = transport-joins a i c (rw e at j)
 
 -- ---- a plan over some qualities is one over any: no cell is forbidden
 allowed-same : (l m : List Two) → length l ≡ length m → (k : ℕ) → allowed (getD (cellsOver l) k forbidden) ≡ allowed (getD (cellsOver m) k forbidden)
@@ -78,13 +78,16 @@ plan-over a l m x b n = record {
   kept = λ i j hi hj e. n .kept i j hi hj (sym (allowed-same l m b (i * length (counts (a .sides .cols)) + j)) ∙ e);
 }
 
+same-long : (l : List Two) (f g : Two → Two) → length (map f l) ≡ length (map g l)
+same-long l f g = length-map f l ∙ sym (length-map g l)
+
 -- ---- the laws of the pairs' actions
 module _ (t : Tables) where
   pub pair-moves : Moves (pairs t) (Move t)
   unfolding offersOf solvedPlans
   pair-moves = record {
     sound = λ q p. each-offer (λ a. Move t p (a .places) (a .counts)) t q p (λ a i. aligned a i refl refl)
-        (λ a i x e. planned a i refl (cellQualities q a) (length-map q (cellPairs (a .sides))) (margins (problemOver a (cellQualities q a)) x e));
+        (λ a i x e. planned a i refl (plan-over a (map (startingQuality t) (cellPairs (a .sides))) (cellQualities q a) x (same-long (cellPairs (a .sides)) (startingQuality t) q) (margins (problemOver a (cellQualities q a)) x e)));
     best = best;
     joined = move-joins t;
     rising = quality-⊑;
@@ -92,10 +95,10 @@ module _ (t : Tables) where
     where
       best : (q : Two → Two) (p : Two) (cs : List Two) (x : List ℕ) → Move t p cs x → (a : Act) × In a (offersOf t q p) × (qualityOver (a .counts) (map q (a .places)) ⊑ qualityOver x (map q cs))
       best q p cs x (aligned a i e f) = (ofAction a, in-left (each (solvedPlans q) (transports t (p .0) (p .1))) (in-map ofAction i), rw (e, f) (⊑-refl (qualityOver (ones (a .pairs)) (map q (a .pairs)))))
-      best q p cs x (planned a i e qs l n) = rw e (go (solved q a) refl)
+      best q p cs x (planned a i e n) = rw e (go (solved q a) refl)
         where
           m : Plan (problemOver a (cellQualities q a)) x
-          m = plan-over a (cellQualities q a) qs x (length-map q (cellPairs (a .sides)) ∙ sym l) n
+          m = plan-over a (cellQualities q a) (map (startingQuality t) (cellPairs (a .sides))) x (same-long (cellPairs (a .sides)) q (startingQuality t)) (rw e at n)
 
           go : (s : Option (List ℕ)) → solved q a ≡ s → (b : Act) × In b (offersOf t q p) × (qualityOver (b .counts) (map q (b .places)) ⊑ qualityOver x (cellQualities q a))
           go none k = absurd (refused-where (problemOver a (cellQualities q a)) k x m)

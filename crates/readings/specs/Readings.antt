@@ -1,22 +1,17 @@
 -- Demand 2, of a run: the term that the steps build has the reported quality, belongs to the left class read by the first branch at every marked place, and to the right class read by the second.
-use mathlib.Core.Path.{_≡_, refl}
-use mathlib.Core.Logic.{_⊎_, inl, inr}
-use mathlib.Core.List.{List, map}
-use mathlib.Core.Option.{Option, none, some}
+use mathlib.Core.Path.{_≡_}
+use mathlib.Core.List.{map}
 use Prim.Native.Nat.{ℕ, zero, suc, _<_}
 use native.Mathlib.Omega.{arith}
 use lib.ListN.{length}
-use Rattle.spec.specs.Bytes.{In, Limits, Two, each, ok}
+use Rattle.spec.specs.Bytes.{In, Limits, Two, ok}
 use Rattle.spec.specs.Image.{Tables}
-use Rattle.spec.specs.Transport.{solveCells}
-use Rattle.spec.specs.Action.{TransportAction, structural, transports, cellPairs}
+use Rattle.spec.specs.Action.{cellPairs}
 use Rattle.spec.specs.System.{Act}
-use Rattle.spec.specs.Pairs.{problemOver, ofAction, ofSolved, solvedPlans, offersOf, pairs, making}
+use Rattle.spec.specs.Pairs.{offersOf, pairs, making}
 use Rattle.spec.specs.Run.{Outcome, runOf}
 use Rattle.spec.specs.Meaning.{termQuality, readFirst, readSecond, Branched, treeAt, Belongs}
 use Rattle.laws.specs.Valid.{Valid}
-use Rattle.laws.specs.Lists.{in-nil, in-cons, in-append, map-in}
-use Rattle.laws.specs.Bag.{each-in}
 use Rattle.laws.specs.BagCount.{spread}
 use Rattle.laws.specs.BestMembers.{IsPair}
 use Rattle.flow.specs.Theorems.{margins}

@@ -19,11 +19,11 @@ use Rattle.laws.specs.Tests.{both-true, clash}
 use Rattle.laws.specs.Valid.{Valid}
 use Rattle.laws.specs.Monomials.{count-insert, monomial-counts, Padded, level, left, right, padded}
 use Rattle.laws.specs.Bag.{each-in, filter-in}
-use Rattle.laws.specs.BagCount.{insert-all, monomial-all, spread, spread-ones, occurs-written, written-ones}
+use Rattle.laws.specs.BagCount.{spread, spread-ones, occurs-written, written-ones}
 use Rattle.lgg.specs.BagPlan.{plan-rows, plan-columns}
 use Rattle.readings.specs.ReadingsNode.{Covers, inOrder, anyOrder}
-use Rattle.laws.specs.BestMembers.{IsClass, identity-class, child-within, child-single, member-arity}
-use Rattle.laws.specs.Lists.{map-in, in-append, in-cons, in-each, in-left, in-nil, in-right}
+use Rattle.laws.specs.BestMembers.{child-single, member-arity}
+use Rattle.laws.specs.Lists.{map-in, in-append, in-cons, in-nil}
 
 -- operation o over the places ps, with counts x, is an action of pair p: its left classes cover the left class, its right ones the right
 pub record Legal (t : Tables) (p : Two) (o : ℕ) (ps : List Two) (x : List ℕ) : Type 0 where

@@ -8,7 +8,7 @@ use Rattle.spec.specs.Image.{Tables}
 use Rattle.spec.specs.Pool.{Pool, opNode, Interned}
 use Rattle.spec.specs.System.{planRuns}
 use Rattle.spec.specs.Pairs.{qualityOver, actionTerm}
-use Rattle.spec.specs.Meaning.{Term, treeAt}
+use Rattle.spec.specs.Meaning.{treeAt}
 use Rattle.laws.specs.Bag.{both, perm-of-eq, perm-map}
 use Rattle.laws.specs.BagCount.{written, spread, map-spread, written-perm}
 use Rattle.pools.specs.Pool.{PoolValid}

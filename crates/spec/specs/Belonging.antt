@@ -2,7 +2,7 @@
 use mathlib.Core.Path.{_≡_, refl, _∙_, ap, sym, subst}
 use mathlib.Core.Logic.{_≢_, _⊎_, inl, inr}
 use mathlib.Core.Bool.{Bool, true, false}
-use mathlib.Core.List.{List, [], _∷_}
+use mathlib.Core.List.{List, [], _∷_, map}
 use Prim.Native.Nat.{ℕ, zero, suc, _+_, _≤_, _<_}
 use native.Mathlib.Omega.{arith}
 use lib.Dec.{eqb}
@@ -330,7 +330,7 @@ step-only (action cs x (aligned a i c f) qs ps e) = e ∙ rw f (go i (rw c at ps
     go : {a : Action} → In a (record { op = 1; pairs = (0, 0) ∷ (1, 0) ∷ [] } ∷ []) → {qs : List Two} → Places D 0 (a .pairs) qs → qualityOver (ones (a .pairs)) qs ≡ (4, 2)
     go here (andPlace {z = u} h d (andPlace {z = v} k f noPlace)) = ap (λ (z : Two). qualityOver (1 ∷ 1 ∷ []) (z ∷ v ∷ [])) (at-start h d) ∙ ap (λ (z : Two). qualityOver (1 ∷ 1 ∷ []) ((1, 0) ∷ z ∷ [])) (at-start k f)
     go (there j) ps = absurd (in-nil j)
-step-only (action cs x (planned a i c zs l m) qs ps e) = absurd (in-nil i)
+step-only (action cs x (planned a i c m) qs ps e) = absurd (in-nil i)
 
 not-yet : {q : Two} → Derivation D 1 (4, 5) q → q ≡ (8, 6)
 unfolding structural transports planSize planMass
@@ -339,12 +339,12 @@ not-yet (action cs x (aligned a i c f) qs ps e) = e ∙ rw f (go i (rw c at ps))
     go : {a : Action} → In a (record { op = 1; pairs = (2, 3) ∷ (0, 0) ∷ [] } ∷ []) → {qs : List Two} → Places D 0 (a .pairs) qs → qualityOver (ones (a .pairs)) qs ≡ (8, 6)
     go here (andPlace {z = u} h d (andPlace {z = v} k f noPlace)) = ap (λ (z : Two). qualityOver (1 ∷ 1 ∷ []) (z ∷ v ∷ [])) (at-start h d) ∙ ap (λ (z : Two). qualityOver (1 ∷ 1 ∷ []) ((6, 6) ∷ z ∷ [])) (at-start k f)
     go (there j) ps = absurd (in-nil j)
-not-yet (action cs x (planned a i c zs l m) qs ps e) = absurd (in-nil i)
+not-yet (action cs x (planned a i c m) qs ps e) = absurd (in-nil i)
 
 no-action : {q : Two} → Derivation D 1 (0, 1) q → ⊥
 unfolding structural transports
 no-action (action cs x (aligned a i c f) qs ps e) = in-nil i
-no-action (action cs x (planned a i c zs l m) qs ps e) = in-nil i
+no-action (action cs x (planned a i c m) qs ps e) = in-nil i
 
 -- (7, 6) by transport of 2 units over the one cell (0, 1): 1 + 2 × 2, mass 2 × 2
 abbrev moves : TransportAction
@@ -352,7 +352,7 @@ moves = record { op = 3; sides = record { rows = (0, 2) ∷ []; cols = (1, 2) �
 
 by-transport : Derivation D 1 (7, 6) (5, 4)
 unfolding transports cellPairs planSize planMass rowFlow colFlow
-by-transport = action ((0, 1) ∷ []) (2 ∷ []) (planned moves here refl ((2, 2) ∷ []) refl plan) ((2, 2) ∷ []) (andPlace {h = 0} {k = 0} (omega arith) (start refl) noPlace) refl
+by-transport = action ((0, 1) ∷ []) (2 ∷ []) (planned moves here refl plan) ((2, 2) ∷ []) (andPlace {h = 0} {k = 0} (omega arith) (start refl) noPlace) refl
   where
     rows : (i : ℕ) → i < 1 → rowFlow (problemOver moves ((2, 2) ∷ [])) (2 ∷ []) i ≡ supplyAt (problemOver moves ((2, 2) ∷ [])) i
     rows zero h = refl
@@ -373,7 +373,7 @@ by-transport = action ((0, 1) ∷ []) (2 ∷ []) (planned moves here refl ((2, 2
 transport-only : {q : Two} → Derivation D 1 (7, 6) q → q ≡ (5, 4)
 unfolding structural transports cellPairs planSize planMass rowFlow
 transport-only (action cs x (aligned a i c f) qs ps e) = absurd (in-nil i)
-transport-only (action cs x (planned a i c zs k l) qs ps e) = e ∙ go i (rw c at ps) x zs l
+transport-only (action cs x (planned a i c l) qs ps e) = e ∙ go i (rw c at ps) x (map (startingQuality D) cs) l
   where
     go : {a : TransportAction} → In a (moves ∷ []) → {qs : List Two} → Places D 0 (cellPairs (a .sides)) qs → (x : List ℕ) (zs : List Two) → Plan (problemOver a zs) x → qualityOver x qs ≡ (5, 4)
     go here (andPlace {z = u} h d noPlace) [] zs l = absurd (let k = l .long in omega arith)

@@ -2,7 +2,7 @@
 use mathlib.Core.Path.{_≡_}
 use mathlib.Core.Logic.{_≢_, _⊎_}
 use mathlib.Core.Bool.{true, false}
-use mathlib.Core.List.{List, [], _∷_, _++_}
+use mathlib.Core.List.{List, [], _∷_, _++_, map}
 use Prim.Native.Nat.{ℕ, zero, suc, _+_, _*_, _-_, _≤_, _<_}
 use lib.Dec.{ltb, eqb}
 use lib.ListN.{length, getD, replicate}
@@ -15,7 +15,7 @@ use Rattle.spec.specs.Action.{Action, TransportAction, structural, trans
 use Rattle.spec.specs.Pool.{Pool, Node, LIT, VARIANTS}
 use Rattle.spec.specs.System as system
 pub use Rattle.spec.specs.System.{start, action, noPlace, andPlace, queried, joined}
-use Rattle.spec.specs.Pairs.{ones, problemOver, pairs}
+use Rattle.spec.specs.Pairs.{startingQuality, ones, problemOver, pairs}
 
 -- ---- terms as trees
 mutual
@@ -142,10 +142,10 @@ infix 50 _⊑_
 abbrev pub _⊑_ : Two → Two → Type 0
 a ⊑ b = (a .0 < b .0) ⊎ ((a .0 ≡ b .0) × (a .1 ≤ b .1))
 
--- ---- "an action of the pair, for transport with any whole-number plan": the pairs that it joins, each so many times. No cell is forbidden, so that a plan is one whatever the qualities of the cells.
+-- ---- "an action of the pair, for transport with any whole-number plan": the pairs that it joins, each so many times. No cell is forbidden, so that a plan is one whatever the cells' qualities; here the starting ones.
 pub data Move (t : Tables) (p : Two) : List Two → List ℕ → Type 0 where
   aligned : {ps : List Two} {x : List ℕ} (a : Action) → In a (structural t (p .0) (p .1)) → ps ≡ a .pairs → x ≡ ones (a .pairs) → Move t p ps x
-  planned : {ps : List Two} {x : List ℕ} (a : TransportAction) → In a (transports t (p .0) (p .1)) → ps ≡ cellPairs (a .sides) → (qs : List Two) → length qs ≡ length (cellPairs (a .sides)) → Plan (problemOver a qs) x → Move t p ps x
+  planned : {ps : List Two} {x : List ℕ} (a : TransportAction) → In a (transports t (p .0) (p .1)) → ps ≡ cellPairs (a .sides) → Plan (problemOver a (map (startingQuality t) ps)) x → Move t p ps x
 
 -- "Derivation, of a pair": its height, the pair, its quality
 abbrev pub Derivation : Tables → ℕ → Two → Two → Type 0

@@ -18,3 +18,4 @@ pub mod Refusals
 pub mod Limits
 pub mod Demand3
 pub mod Readings
+pub mod Repeats

@@ -1,5 +1,5 @@
 -- Larger limits: what is accepted under some limits is accepted, and is the same, under limits that are no less.
-use mathlib.Core.Path.{_≡_, refl}
+use mathlib.Core.Path.{refl}
 use mathlib.Core.Bool.{Bool, true, false}
 use mathlib.Core.List.{List, [], _∷_, _++_}
 use Prim.Native.Nat.{ℕ, zero, suc, _≤_}
@@ -10,7 +10,7 @@ use borrow.Author.Tests.{ltb-true, lt-ltb}
 use Rattle.spec.specs.Bytes.{any, Two, ok, _>>=_, Checked, passed, cutShort}
 use Rattle.spec.specs.Pool.{Pool, Interned}
 use Rattle.spec.specs.System.{System, Making, enter, enterAll, buildFrom, build, lookUp, Choice, stay, act, Turn, changes, turnsOf, planRuns, choiceTerm, Terms, turnsTerms, startingTerms, Outcome, State, outcome, stateAfter, afterRound, roundTerms, roundsFrom, startState, afterStarting, afterBuilding, runOf}
-use Rattle.laws.specs.Results.{Kept, kept-bind, kept-ok, kept-room}
+use Rattle.laws.specs.Results.{Kept, kept-bind, kept-room}
 
 -- a making that refuses no more
 pub record Wider {N : Type 0} (L M : Making N) : Type 0 where

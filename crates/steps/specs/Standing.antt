@@ -11,7 +11,7 @@ use Rattle.spec.specs.Bytes.{In, place, Two, Res, ok, refused, Checked, passed,
 use Rattle.spec.specs.Pool.{Pool, Interned}
 use Rattle.spec.specs.System.{System, Making, Act, lookUp, stay, act, Choice, turnOf, planRuns, choiceTerm, Terms, State, outcome, stateAfter, started, startState}
 use Rattle.spec.specs.Listing.{listingOf}
-use Rattle.laws.specs.Lists.{length-map, get-in, place-in}
+use Rattle.laws.specs.Lists.{length-map, get-map, get-in, place-in}
 use Rattle.laws.specs.Results.{ok-inj, refused-ok, passed-inj, cut-passed}
 use Rattle.pools.specs.Pool.{RunsBelow, PoolValid, getD-last}
 use Rattle.pools.specs.PoolIntern.{Extends, extends-refl, extends-trans, extends-within}
@@ -19,7 +19,7 @@ use Rattle.pools.specs.PoolSort.{plan-below}
 use Rattle.pools.specs.OrderListing.{listing-larger}
 use Rattle.steps.specs.Graph.{Closed}
 use Rattle.steps.specs.Turn.{Inside, choice-joins}
-use Rattle.steps.specs.TurnsFrom.{get-map, turn-quality, turns-length, RoundAt, turnTerm, round-begin, round-cut, round-turn, round-refused, round-end}
+use Rattle.steps.specs.TurnsFrom.{turn-quality, turns-length, RoundAt, turnTerm, round-begin, round-cut, round-turn, round-refused, round-end}
 use Rattle.steps.specs.RoundsFrom.{turnsAt, roundAt}
 
 -- the state between two rounds over the nodes ps: a quality that fits and a term for each node

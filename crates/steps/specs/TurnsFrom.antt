@@ -11,14 +11,9 @@ use lib.Seq.{drop-cons}
 use Rattle.spec.specs.Bytes.{any, either, Two, Res, ok, refused, _>>=_, Checked, passed, cutShort}
 use Rattle.spec.specs.Pool.{Pool, Interned}
 use Rattle.spec.specs.System.{System, Making, lookUp, Turn, changes, turnOf, turnsOf, choiceTerm, Terms, prepend, turnsTerms, startingTerms}
-use Rattle.laws.specs.Lists.{length-map, map-map}
+use Rattle.laws.specs.Lists.{length-map, map-map, get-map}
 
 -- ---- lists
-pub get-map : {A B : Type 0} (f : A → B) (l : List A) (k : ℕ) (d : A) (e : B) → k < length l → getD (map f l) k e ≡ f (getD l k d)
-get-map f [] k d e h = absurd (not-suc-le-zero h)
-get-map f (x ∷ l) zero d e h = refl
-get-map f (x ∷ l) (suc k) d e h = get-map f l k d e (omega arith)
-
 pub turns-length : {N : Type 0} (S : System N) (ps : List N) (qs : List Two) → length (turnsOf S ps qs) ≡ length ps
 unfolding turnsOf
 turns-length S ps qs = length-map (turnOf S (lookUp (S .same) (0, 0) ps qs)) ps
