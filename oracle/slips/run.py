@@ -8,7 +8,7 @@ here = os.path.dirname(os.path.abspath(__file__))
 crates = os.path.join(here, '../../crates')
 home = os.path.dirname(os.path.dirname(os.path.realpath(shutil.which('rt'))))
 own = f'{home}/on/{os.uname().machine}'
-definitions = 'Bytes Image Monomial Transport Action Graph Pool Round Run Listing Merge Meaning'.split()
+definitions = 'Bytes Image Monomial Transport Action Pool System Pairs Graph Round Run Listing Merge Meaning'.split()
 # groups of test modules, the quickest first; those of crate samples stand in the copy as modules of spec
 samples = 'Samples Slips Bounds Refusals Limits'.split()
 tests = [['Asked', 'Belonging'], ['Asked', 'Edges', 'Found', 'Kept'], ['Asked', 'Slips'], ['Asked', 'Refusals'], ['Asked', 'Limits', 'Bounds'], ['Asked', 'Samples']]
