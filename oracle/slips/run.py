@@ -48,7 +48,7 @@ def check(module, changes, group):
 
 
 def try_slip(module, changes):
-    for group in tests[:1] if module == 'Meaning' else tests[1:] + tests[:1]:
+    for group in tests[:1] if module == 'Meaning' else tests:
         verdict, why = check(module, changes, group)
         if verdict != 'PASSED':
             break

@@ -7,15 +7,16 @@ use Prim.Native.Nat.{ℕ, zero, suc, _+_, _*_, _≤_, _<_}
 use native.Mathlib.Omega.{arith}
 use lib.Dec.{eqb}
 use lib.ListN.{length}
-use Rattle.spec.specs.Bytes.{pick, Two, ok, sum, sumTo}
+use Rattle.spec.specs.Bytes.{pick, place, Two, Limits, ok, refused, passed, cutShort, sum, sumTo}
 use Rattle.spec.specs.Image.{Tables, Operation, Class, Member, tablesRules, kindOf, membersOf, childrenOf}
 use Rattle.spec.specs.Monomial.{classes}
 use Rattle.spec.specs.Transport.{Cell, cost, forbidden, Problem, allowed, cellAt, supplyAt, demandAt, moved, rowFlow, colFlow, planSize, planMass}
 use Rattle.spec.specs.Action.{Action, TransportAction, structural, transports, cellPairs, joins}
-use Rattle.spec.specs.Pool.{litNode, opNode, variantsNode, joinRuns}
+use Rattle.spec.specs.Pool.{litNode, opNode, variantsNode, joinRuns, interned}
 use Rattle.spec.specs.System as system
 use Rattle.spec.specs.Pairs.{offersOf}
-use Rattle.spec.specs.Round.{startingQuality, qualityOver, ones, problemOver, qualitiesAfter}
+use Rattle.spec.specs.Graph.{enter, enterAll, build, buildFrom}
+use Rattle.spec.specs.Round.{startingQuality, qualityOver, ones, problemOver, qualitiesAfter, Turn, stay, act, turnOf, turnsOf, next, lookUp, choiceTerm, turnsTerms}
 use Rattle.spec.specs.Meaning.{In, here, there, Term, lit, node, variants, Runs, done, run, termQuality, expand, readFirst, readSecond, reading, Branched, atLiteral, atNode, atPlace, AllBranched, noBranch, andBranch, treeAt, treesAfter, Belongs, literal, ordered, unordered, AllBelong, noMore, andThen, Side, member, itself, padded, occurs, countIn, Plan, _⊑_, Derivation, Move, aligned, planned, start, action, Places, noPlace, andPlace, Reachable, queried, joined, HoldsDoubled}
 
 -- ---- terms as trees
@@ -72,6 +73,14 @@ nor-below (atNode b) = go b
   where
     go : {l : List Term} → AllBranched 2 (variants (run (lit 0 1) 2 (run (lit 0 3) 1 done)) ∷ l) → ⊥
     go (andBranch c b) = not-two c
+
+-- nor in a branch
+nor-inside : Branched 2 (marked (variants (run (lit 0 1) 3 done)) (lit 0 5)) → ⊥
+unfolding expand
+nor-inside (atPlace e b) = go b
+  where
+    go : {l : List Term} → AllBranched 2 (variants (run (lit 0 1) 3 done) ∷ l) → ⊥
+    go (andBranch (atPlace f c) b) = omega (arith, f)
 
 -- three branches: 2 × 1 + 4, twice
 three : termQuality (variants (run (lit 0 1) 2 (run mark 1 done))) ≡ (6, 6)
@@ -389,6 +398,48 @@ no-transport-at-once d = let e : _≡_ {A = Two} (5, 4) (6, 6) = at-start (omega
 by-rounds : qualitiesAfter 2 D ((4, 5) ∷ (2, 3) ∷ (0, 0) ∷ (1, 0) ∷ []) ≡ (6, 2) ∷ (4, 2) ∷ (1, 0) ∷ (2, 2) ∷ []
 unfolding system.qualitiesAfter offersOf planSize planMass
 by-rounds = refl
+
+-- the first of them: (4, 5) reads what (2, 3) had
+abbrev four : List Two
+four = (4, 5) ∷ (2, 3) ∷ (0, 0) ∷ (1, 0) ∷ []
+
+abbrev fourStart : List Two
+fourStart = (10, 10) ∷ (6, 6) ∷ (1, 0) ∷ (2, 2) ∷ []
+
+abbrev limits : ℕ → ℕ → ℕ → Limits
+limits p t r = record { pairs = p; terms = t; runs = r }
+
+abbrev taken : Two → List Two → Turn
+taken q ps = record { quality = q; choice = act (record { op = 1; places = ps; counts = 1 ∷ 1 ∷ [] }) }
+
+abbrev stays : Two → Turn
+stays q = record { quality = q; choice = stay }
+
+in-turn : (turnsOf D four fourStart ≡ taken (8, 6) ((2, 3) ∷ (0, 0) ∷ []) ∷ taken (4, 2) ((0, 0) ∷ (1, 0) ∷ []) ∷ stays (1, 0) ∷ stays (2, 2) ∷ []) × (next D four fourStart ≡ (8, 6) ∷ (4, 2) ∷ (1, 0) ∷ (2, 2) ∷ [])
+unfolding system.turnsOf offersOf planSize planMass
+in-turn = (refl, refl)
+
+one-turn : (turnOf D (startingQuality D) (3, 2) ≡ taken (4, 2) ((0, 0) ∷ (0, 1) ∷ [])) × (lookUp {A = ℕ} 9 four (7 ∷ 8 ∷ 6 ∷ []) (2, 3) ≡ 8) × (lookUp {A = ℕ} 9 four (7 ∷ 8 ∷ 6 ∷ []) (1, 0) ≡ 9)
+unfolding system.turnOf offersOf planSize planMass place
+one-turn = (refl, refl, refl)
+
+-- a turn without change takes a check and leaves its term
+left-as-it-was : (choiceTerm (limits 1 1 1) D (λ p. 4) [] 5 stay ≡ ok (interned [] 5)) × (turnsTerms (limits 1 1 1) D (λ p. p .0) ((4, 5) ∷ (2, 3) ∷ []) (stays (1, 0) ∷ stays (1, 0) ∷ []) 3 [] ≡ ok (passed (record { pool = []; terms = 4 ∷ 2 ∷ [] }) 1))
+unfolding system.turnsTerms
+left-as-it-was = (refl, refl)
+
+-- ---- the graph in the order in which its pairs are joined: a check a pair, whatever it joins; three pairs are too few as soon as (1, 0) is joined
+in-order-entered : (enterAll (limits 3 2 2) ((4, 5) ∷ []) ((2, 3) ∷ (4, 5) ∷ (0, 0) ∷ []) ≡ ok ((4, 5) ∷ (2, 3) ∷ (0, 0) ∷ [])) × (enter (limits 1 2 2) ((4, 5) ∷ []) (2, 3) ≡ refused 12)
+unfolding system.enterAll
+in-order-entered = (refl, refl)
+
+built : (build (limits 4 3 3) D (4, 5) 6 ≡ ok (passed four 2)) × (build (limits 3 4 4) D (4, 5) 2 ≡ refused 12) × (build (limits 3 4 4) D (4, 5) 1 ≡ ok cutShort)
+unfolding system.build joins
+built = (refl, refl, refl)
+
+built-on : (buildFrom (limits 4 3 3) 5 D ((4, 5) ∷ (2, 3) ∷ (0, 0) ∷ []) 1 ≡ ok (passed four 2)) × (buildFrom (limits 3 5 5) 5 D ((4, 5) ∷ (2, 3) ∷ (0, 0) ∷ []) 1 ≡ refused 12)
+unfolding system.buildFrom joins
+built-on = (refl, refl)
 
 -- ---- reachable pairs: (4, 5), then (2, 3) and (0, 0), then (1, 0)
 reaches : Reachable D (4, 5) (1, 0)
