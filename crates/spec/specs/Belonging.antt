@@ -98,7 +98,7 @@ counted : (occurs 4 (4 ∷ 2 ∷ 4 ∷ []) ≡ 2) × (countIn 4 ((4, 1) ∷ (2, 
 unfolding occurs countIn
 counted = (refl, refl)
 
--- ---- image E's classes 0 to 3, and five more
+-- ---- image E's classes 0 to 3, and seven more
 abbrev classOf : ℕ → ℕ → Class
 classOf n size = record { first = n; count = 1; best = n; size = size }
 
@@ -109,9 +109,9 @@ memberOf o v first count = record { op = o; value = v; first = first; count = co
 abbrev D : Tables
 D = record {
   operations = record { kind = 9; flag = 0; identity = 65535 } ∷ record { kind = 2; flag = 0; identity = 65535 } ∷ record { kind = 7; flag = 1; identity = 0 } ∷ record { kind = 7; flag = 1; identity = 65535 } ∷ [];
-  classes = classOf 0 1 ∷ classOf 1 1 ∷ classOf 2 3 ∷ classOf 3 3 ∷ classOf 4 5 ∷ classOf 5 5 ∷ classOf 6 3 ∷ classOf 7 3 ∷ classOf 8 3 ∷ [];
-  members = memberOf 0 5 0 0 ∷ memberOf 0 7 0 0 ∷ memberOf 1 0 0 2 ∷ memberOf 1 0 2 2 ∷ memberOf 1 0 4 2 ∷ memberOf 1 0 6 2 ∷ memberOf 3 0 8 1 ∷ memberOf 3 0 9 1 ∷ memberOf 2 0 10 2 ∷ [];
-  children = (0, 1) ∷ (1, 1) ∷ (0, 1) ∷ (0, 1) ∷ (2, 1) ∷ (0, 1) ∷ (3, 1) ∷ (0, 1) ∷ (1, 2) ∷ (0, 2) ∷ (1, 1) ∷ (1, 1) ∷ [];
+  classes = classOf 0 1 ∷ classOf 1 1 ∷ classOf 2 3 ∷ classOf 3 3 ∷ classOf 4 5 ∷ classOf 5 5 ∷ classOf 6 3 ∷ classOf 7 3 ∷ classOf 8 3 ∷ classOf 9 7 ∷ classOf 10 5 ∷ [];
+  members = memberOf 0 5 0 0 ∷ memberOf 0 7 0 0 ∷ memberOf 1 0 0 2 ∷ memberOf 1 0 2 2 ∷ memberOf 1 0 4 2 ∷ memberOf 1 0 6 2 ∷ memberOf 3 0 8 1 ∷ memberOf 3 0 9 1 ∷ memberOf 2 0 10 2 ∷ memberOf 3 0 12 2 ∷ memberOf 3 0 14 2 ∷ [];
+  children = (0, 1) ∷ (1, 1) ∷ (0, 1) ∷ (0, 1) ∷ (2, 1) ∷ (0, 1) ∷ (3, 1) ∷ (0, 1) ∷ (1, 2) ∷ (0, 2) ∷ (1, 1) ∷ (1, 1) ∷ (2, 1) ∷ (6, 1) ∷ (1, 1) ∷ (3, 1) ∷ [];
 }
 
 accepted : tablesRules D ≡ ok D
@@ -395,9 +395,15 @@ no-transport-at-once : Derivation D 0 (7, 6) (5, 4) → ⊥
 no-transport-at-once d = let e : _≡_ {A = Two} (5, 4) (6, 6) = at-start (omega arith) d in let k : _≡_ {A = ℕ} 5 6 = ap (λ (z : Two). z .0) e in omega arith
 
 -- the same by rounds: (4, 5) improves twice
-by-rounds : qualitiesAfter 2 D ((4, 5) ∷ (2, 3) ∷ (0, 0) ∷ (1, 0) ∷ []) ≡ (6, 2) ∷ (4, 2) ∷ (1, 0) ∷ (2, 2) ∷ []
+by-rounds : (qualitiesAfter 1 D ((4, 5) ∷ (2, 3) ∷ (0, 0) ∷ (1, 0) ∷ []) ≡ (8, 6) ∷ (4, 2) ∷ (1, 0) ∷ (2, 2) ∷ []) × (qualitiesAfter 2 D ((4, 5) ∷ (2, 3) ∷ (0, 0) ∷ (1, 0) ∷ []) ≡ (6, 2) ∷ (4, 2) ∷ (1, 0) ∷ (2, 2) ∷ [])
 unfolding system.qualitiesAfter offersOf planSize planMass
-by-rounds = refl
+by-rounds = (refl, refl)
+
+-- (9, 10) moves 2 and 6 to 1 and 3: at the start both plans cost (10, 10) and the straight one comes first; once (2, 3) is (4, 2) the crossed one costs (8, 6)
+by-plans : (qualitiesAfter 1 D ((9, 10) ∷ (2, 1) ∷ (2, 3) ∷ (6, 1) ∷ (6, 3) ∷ (0, 0) ∷ (1, 0) ∷ []) ≡ (11, 10) ∷ (4, 4) ∷ (4, 2) ∷ (4, 4) ∷ (6, 6) ∷ (1, 0) ∷ (2, 2) ∷ [])
+    × (qualitiesAfter 2 D ((9, 10) ∷ (2, 1) ∷ (2, 3) ∷ (6, 1) ∷ (6, 3) ∷ (0, 0) ∷ (1, 0) ∷ []) ≡ (9, 6) ∷ (4, 4) ∷ (4, 2) ∷ (4, 4) ∷ (6, 6) ∷ (1, 0) ∷ (2, 2) ∷ [])
+unfolding system.qualitiesAfter offersOf planSize planMass
+by-plans = (refl, refl)
 
 -- the first of them: (4, 5) reads what (2, 3) had
 abbrev four : List Two
