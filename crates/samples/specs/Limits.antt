@@ -125,6 +125,11 @@ a-term-after-its-check : mergeUnder (limits 3 5 5) true imageE 2 3 6 200 ≡ ref
 unfolding imageE mergeUnder
 a-term-after-its-check = refl
 
+-- a class not in the image is met before any limit
+class-before-limits : mergeUnder (limits 0 0 0) true imageE 4 3 14 94 ≡ refused 11
+unfolding imageE mergeUnder
+class-before-limits = refl
+
 root-before-pairs : mergeUnder (limits 0 4 5) true imageE 2 3 0 94 ≡ refused 13
 unfolding imageE mergeUnder
 root-before-pairs = refl
