@@ -5,15 +5,15 @@ use mathlib.Core.Bool.{Bool, true, false}
 use mathlib.Core.List.{List, [], _∷_, _++_, map, append-assoc}
 use Prim.Native.Nat.{ℕ, zero, suc, _+_, _*_, _≤_}
 use native.Mathlib.Omega.{arith}
-use lib.Dec.{ltb, eqb}
+use lib.Dec.{eqb}
 use borrow.Author.Tests.{eqb-true}
 use lib.ListN.{length, replicate, length-append, length-replicate, replicate-append-replicate}
 use Rattle.spec.specs.Bytes.{pick, sum, Two}
-use Rattle.spec.specs.Monomial.{insertAdd, addAll, monomial, classes, counts}
+use Rattle.spec.specs.Monomial.{classes, counts}
 use Rattle.spec.specs.Pool.{joinTo, joinRuns, expandedLength}
 use Rattle.spec.specs.Meaning.{In, here, there, occurs, countIn}
 use Rattle.laws.specs.Bag.{Perm, nil, skip, swap, both, perm-left, perm-past, map-append, map-replicate, replicate-in}
-use Rattle.laws.specs.Lists.{in-append, in-cons, in-nil}
+use Rattle.laws.specs.Lists.{in-append, in-nil}
 
 -- every entry as often as its count says
 unfoldable pub written : List Two → List ℕ
@@ -114,23 +114,3 @@ pub written-ones : (l : List Two) → ((r : Two) → In r l → r .1 ≡ 1) → 
 unfolding written
 written-ones [] h = refl
 written-ones (r ∷ l) h = rw (h r here) (ap (λ (z : List ℕ). r .0 ∷ z) (written-ones l (λ s i. h s (there i))))
-
--- ---- monomials
--- what holds of every class holds of the monomial's
-pub insert-all : (P : ℕ → Type 0) (c n : ℕ) (m : List Two) → P c → ((r : Two) → In r m → P (r .0)) → (r : Two) → In r (insertAdd c n m) → P (r .0)
-unfolding insertAdd
-insert-all P c n [] pc h r i = elim (in-cons i) [ inl e ↦ rw e pc | inr j ↦ absurd (in-nil j) ]
-insert-all P c n (s ∷ m) pc h r i = go (ltb (s .0) c) refl (eqb (s .0) c) refl (λ j. insert-all P c n m pc (λ z k. h z (there k)) r j)
-  where
-    go : (a : Bool) → ltb (s .0) c ≡ a → (b : Bool) → eqb (s .0) c ≡ b → (In r (insertAdd c n m) → P (r .0)) → P (r .0)
-    go true p b q ih = elim (in-cons (rw (p, insertAdd) at i)) [ inl e ↦ rw e (h s here) | inr j ↦ ih j ]
-    go false p true q ih = elim (in-cons (rw (p, insertAdd, q) at i)) [ inl e ↦ rw e pc | inr j ↦ h r (there j) ]
-    go false p false q ih = elim (in-cons (rw (p, insertAdd, q) at i)) [ inl e ↦ rw e pc | inr j ↦ h r j ]
-
-addAll-all : (P : ℕ → Type 0) (m l : List Two) → ((r : Two) → In r m → P (r .0)) → ((r : Two) → In r l → P (r .0)) → (r : Two) → In r (addAll m l) → P (r .0)
-unfolding addAll
-addAll-all P m [] h k r i = h r i
-addAll-all P m (s ∷ l) h k r i = addAll-all P (insertAdd (s .0) (s .1) m) l (insert-all P (s .0) (s .1) m (k s here) h) (λ z j. k z (there j)) r i
-
-pub monomial-all : (P : ℕ → Type 0) (l : List Two) → ((r : Two) → In r l → P (r .0)) → (r : Two) → In r (monomial l) → P (r .0)
-monomial-all P l k = addAll-all P [] l (λ r i. absurd (in-nil i)) k

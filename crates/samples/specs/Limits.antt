@@ -116,6 +116,20 @@ one-pair : mergeUnder (limits 1 5 5) true imageE 2 3 0 200 ≡ ok (text "partial
 unfolding imageE mergeUnder text
 one-pair = refl
 
+-- five terms are too few for the third starting term, and a run cut short before it does not enter it
+cut-before-a-term : mergeUnder (limits 3 5 5) true imageE 2 3 5 200 ≡ ok (text "partial pairs 3 rounds 0 size 6 mass 6\n0 lit 0 5\n1 lit 0 7\n2 op 1 0:1 1:1\n3 op 1 0:2\n4 variants 2:1 3:1\n")
+unfolding imageE mergeUnder text
+cut-before-a-term = refl
+
+a-term-after-its-check : mergeUnder (limits 3 5 5) true imageE 2 3 6 200 ≡ refused 13
+unfolding imageE mergeUnder
+a-term-after-its-check = refl
+
+-- a class not in the image is met before any limit
+class-before-limits : mergeUnder (limits 0 0 0) true imageE 4 3 14 94 ≡ refused 11
+unfolding imageE mergeUnder
+class-before-limits = refl
+
 root-before-pairs : mergeUnder (limits 0 4 5) true imageE 2 3 0 94 ≡ refused 13
 unfolding imageE mergeUnder
 root-before-pairs = refl

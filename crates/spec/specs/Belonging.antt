@@ -6,15 +6,16 @@ use mathlib.Core.List.{List, [], _∷_, map}
 use Prim.Native.Nat.{ℕ, zero, suc, _+_, _≤_, _<_}
 use native.Mathlib.Omega.{arith}
 use lib.Dec.{eqb}
-use Rattle.spec.specs.Bytes.{pick, Two, ok, sumTo}
+use Rattle.spec.specs.Bytes.{pick, place, Two, Limits, ok, refused, passed, cutShort, sumTo}
 use Rattle.spec.specs.Image.{Tables, Class, Member, tablesRules, kindOf, membersOf, childrenOf}
 use Rattle.spec.specs.Monomial.{classes}
 use Rattle.spec.specs.Transport.{Cell, cost, forbidden, Problem, allowed, cellAt, supplyAt, demandAt, moved, rowFlow, colFlow, planSize, planMass}
 use Rattle.spec.specs.Action.{Action, TransportAction, structural, transports, cellPairs, joins}
-use Rattle.spec.specs.Pool.{litNode, opNode, variantsNode, joinRuns}
+use Rattle.spec.specs.Pool.{litNode, opNode, variantsNode, joinRuns, interned}
 use Rattle.spec.specs.System as system
 use Rattle.spec.specs.Pairs.{offersOf}
-use Rattle.spec.specs.Round.{startingQuality, qualityOver, ones, problemOver, qualitiesAfter}
+use Rattle.spec.specs.Graph.{enter, enterAll, build, buildFrom}
+use Rattle.spec.specs.Round.{startingQuality, qualityOver, ones, problemOver, qualitiesAfter, Turn, stay, act, turnOf, turnsOf, lookUp, choiceTerm, turnsTerms}
 use Rattle.spec.specs.Meaning.{In, here, there, Term, lit, node, variants, Runs, done, run, termQuality, expand, readFirst, readSecond, reading, Branched, atLiteral, atNode, atPlace, AllBranched, noBranch, andBranch, treeAt, treesAfter, Belongs, literal, ordered, unordered, AllBelong, noMore, andThen, Side, member, itself, padded, occurs, countIn, Plan, _⊑_, Derivation, aligned, planned, start, action, Places, noPlace, andPlace, Reachable, queried, joined, HoldsDoubled}
 
 -- ---- terms as trees
@@ -72,6 +73,14 @@ nor-below (atNode b) = go b
     go : {l : List Term} → AllBranched 2 (variants (run (lit 0 1) 2 (run (lit 0 3) 1 done)) ∷ l) → ⊥
     go (andBranch c b) = not-two c
 
+-- nor in a branch
+nor-inside : Branched 2 (marked (variants (run (lit 0 1) 3 done)) (lit 0 5)) → ⊥
+unfolding expand
+nor-inside (atPlace e b) = go b
+  where
+    go : {l : List Term} → AllBranched 2 (variants (run (lit 0 1) 3 done) ∷ l) → ⊥
+    go (andBranch (atPlace f c) b) = omega (arith, f)
+
 -- three branches: 2 × 1 + 4, twice
 three : termQuality (variants (run (lit 0 1) 2 (run mark 1 done))) ≡ (6, 6)
 unfolding termQuality
@@ -88,7 +97,7 @@ counted : (occurs 4 (4 ∷ 2 ∷ 4 ∷ []) ≡ 2) × (countIn 4 ((4, 1) ∷ (2, 
 unfolding occurs countIn
 counted = (refl, refl)
 
--- ---- image E's classes 0 to 3, and five more
+-- ---- image E's classes 0 to 3, and seven more
 abbrev classOf : ℕ → ℕ → Class
 classOf n size = record { first = n; count = 1; best = n; size = size }
 
@@ -99,9 +108,9 @@ memberOf o v first count = record { op = o; value = v; first = first; count = co
 abbrev D : Tables
 D = record {
   operations = record { kind = 9; flag = 0; identity = 65535 } ∷ record { kind = 2; flag = 0; identity = 65535 } ∷ record { kind = 7; flag = 1; identity = 0 } ∷ record { kind = 7; flag = 1; identity = 65535 } ∷ [];
-  classes = classOf 0 1 ∷ classOf 1 1 ∷ classOf 2 3 ∷ classOf 3 3 ∷ classOf 4 5 ∷ classOf 5 5 ∷ classOf 6 3 ∷ classOf 7 3 ∷ classOf 8 3 ∷ [];
-  members = memberOf 0 5 0 0 ∷ memberOf 0 7 0 0 ∷ memberOf 1 0 0 2 ∷ memberOf 1 0 2 2 ∷ memberOf 1 0 4 2 ∷ memberOf 1 0 6 2 ∷ memberOf 3 0 8 1 ∷ memberOf 3 0 9 1 ∷ memberOf 2 0 10 2 ∷ [];
-  children = (0, 1) ∷ (1, 1) ∷ (0, 1) ∷ (0, 1) ∷ (2, 1) ∷ (0, 1) ∷ (3, 1) ∷ (0, 1) ∷ (1, 2) ∷ (0, 2) ∷ (1, 1) ∷ (1, 1) ∷ [];
+  classes = classOf 0 1 ∷ classOf 1 1 ∷ classOf 2 3 ∷ classOf 3 3 ∷ classOf 4 5 ∷ classOf 5 5 ∷ classOf 6 3 ∷ classOf 7 3 ∷ classOf 8 3 ∷ classOf 9 7 ∷ classOf 10 5 ∷ [];
+  members = memberOf 0 5 0 0 ∷ memberOf 0 7 0 0 ∷ memberOf 1 0 0 2 ∷ memberOf 1 0 2 2 ∷ memberOf 1 0 4 2 ∷ memberOf 1 0 6 2 ∷ memberOf 3 0 8 1 ∷ memberOf 3 0 9 1 ∷ memberOf 2 0 10 2 ∷ memberOf 3 0 12 2 ∷ memberOf 3 0 14 2 ∷ [];
+  children = (0, 1) ∷ (1, 1) ∷ (0, 1) ∷ (0, 1) ∷ (2, 1) ∷ (0, 1) ∷ (3, 1) ∷ (0, 1) ∷ (1, 2) ∷ (0, 2) ∷ (1, 1) ∷ (1, 1) ∷ (2, 1) ∷ (6, 1) ∷ (1, 1) ∷ (3, 1) ∷ [];
 }
 
 accepted : tablesRules D ≡ ok D
@@ -385,9 +394,57 @@ no-transport-at-once : Derivation D 0 (7, 6) (5, 4) → ⊥
 no-transport-at-once d = let e : _≡_ {A = Two} (5, 4) (6, 6) = at-start (omega arith) d in let k : _≡_ {A = ℕ} 5 6 = ap (λ (z : Two). z .0) e in omega arith
 
 -- the same by rounds: (4, 5) improves twice
-by-rounds : qualitiesAfter 2 D ((4, 5) ∷ (2, 3) ∷ (0, 0) ∷ (1, 0) ∷ []) ≡ (6, 2) ∷ (4, 2) ∷ (1, 0) ∷ (2, 2) ∷ []
+by-rounds : (qualitiesAfter 1 D ((4, 5) ∷ (2, 3) ∷ (0, 0) ∷ (1, 0) ∷ []) ≡ (8, 6) ∷ (4, 2) ∷ (1, 0) ∷ (2, 2) ∷ []) × (qualitiesAfter 2 D ((4, 5) ∷ (2, 3) ∷ (0, 0) ∷ (1, 0) ∷ []) ≡ (6, 2) ∷ (4, 2) ∷ (1, 0) ∷ (2, 2) ∷ [])
 unfolding system.qualitiesAfter offersOf planSize planMass
-by-rounds = refl
+by-rounds = (refl, refl)
+
+-- (9, 10) moves 2 and 6 to 1 and 3: at the start both plans cost (10, 10) and the straight one comes first; once (2, 3) is (4, 2) the crossed one costs (8, 6)
+by-plans : (qualitiesAfter 1 D ((9, 10) ∷ (2, 1) ∷ (2, 3) ∷ (6, 1) ∷ (6, 3) ∷ (0, 0) ∷ (1, 0) ∷ []) ≡ (11, 10) ∷ (4, 4) ∷ (4, 2) ∷ (4, 4) ∷ (6, 6) ∷ (1, 0) ∷ (2, 2) ∷ [])
+    × (qualitiesAfter 2 D ((9, 10) ∷ (2, 1) ∷ (2, 3) ∷ (6, 1) ∷ (6, 3) ∷ (0, 0) ∷ (1, 0) ∷ []) ≡ (9, 6) ∷ (4, 4) ∷ (4, 2) ∷ (4, 4) ∷ (6, 6) ∷ (1, 0) ∷ (2, 2) ∷ [])
+unfolding system.qualitiesAfter offersOf planSize planMass
+by-plans = (refl, refl)
+
+-- the first of them: (4, 5) reads what (2, 3) had
+abbrev four : List Two
+four = (4, 5) ∷ (2, 3) ∷ (0, 0) ∷ (1, 0) ∷ []
+
+abbrev fourStart : List Two
+fourStart = (10, 10) ∷ (6, 6) ∷ (1, 0) ∷ (2, 2) ∷ []
+
+abbrev limits : ℕ → ℕ → ℕ → Limits
+limits p t r = record { pairs = p; terms = t; runs = r }
+
+abbrev taken : Two → List Two → Turn
+taken q ps = record { quality = q; choice = act (record { op = 1; places = ps; counts = 1 ∷ 1 ∷ [] }) }
+
+abbrev stays : Two → Turn
+stays q = record { quality = q; choice = stay }
+
+in-turn : turnsOf D four fourStart ≡ taken (8, 6) ((2, 3) ∷ (0, 0) ∷ []) ∷ taken (4, 2) ((0, 0) ∷ (1, 0) ∷ []) ∷ stays (1, 0) ∷ stays (2, 2) ∷ []
+unfolding system.turnsOf offersOf planSize planMass
+in-turn = refl
+
+one-turn : (turnOf D (startingQuality D) (3, 2) ≡ taken (4, 2) ((0, 0) ∷ (0, 1) ∷ [])) × (lookUp {A = ℕ} 9 four (7 ∷ 8 ∷ 6 ∷ []) (2, 3) ≡ 8) × (lookUp {A = ℕ} 9 four (7 ∷ 8 ∷ 6 ∷ []) (1, 0) ≡ 9)
+unfolding system.turnOf offersOf planSize planMass place
+one-turn = (refl, refl, refl)
+
+-- a turn without change takes a check and leaves its term
+left-as-it-was : (choiceTerm (limits 1 1 1) D (λ p. 4) [] 5 stay ≡ ok (interned [] 5)) × (turnsTerms (limits 1 1 1) D (λ p. p .0) ((4, 5) ∷ (2, 3) ∷ []) (stays (1, 0) ∷ stays (1, 0) ∷ []) 3 [] ≡ ok (passed (record { pool = []; terms = 4 ∷ 2 ∷ [] }) 1))
+unfolding system.turnsTerms
+left-as-it-was = (refl, refl)
+
+-- ---- the graph in the order in which its pairs are joined: a check a pair, whatever it joins; three pairs are too few as soon as (1, 0) is joined
+in-order-entered : (enterAll (limits 3 2 2) ((4, 5) ∷ []) ((2, 3) ∷ (4, 5) ∷ (0, 0) ∷ []) ≡ ok ((4, 5) ∷ (2, 3) ∷ (0, 0) ∷ [])) × (enter (limits 1 2 2) ((4, 5) ∷ []) (2, 3) ≡ refused 12)
+unfolding system.enterAll
+in-order-entered = (refl, refl)
+
+built : (build (limits 4 3 3) D (4, 5) 6 ≡ ok (passed four 2)) × (build (limits 3 4 4) D (4, 5) 2 ≡ refused 12) × (build (limits 3 4 4) D (4, 5) 1 ≡ ok cutShort)
+unfolding system.build joins
+built = (refl, refl, refl)
+
+built-on : (buildFrom (limits 4 3 3) 5 D ((4, 5) ∷ (2, 3) ∷ (0, 0) ∷ []) 1 ≡ ok (passed four 2)) × (buildFrom (limits 3 5 5) 5 D ((4, 5) ∷ (2, 3) ∷ (0, 0) ∷ []) 1 ≡ refused 12)
+unfolding system.buildFrom joins
+built-on = (refl, refl)
 
 -- ---- reachable pairs: (4, 5), then (2, 3) and (0, 0), then (1, 0)
 reaches : Reachable D (4, 5) (1, 0)
