@@ -4,9 +4,10 @@ ghost use Prim.Native.Nat.{_+_, _<_};
 ghost use lib.ListN.{drop};
 ghost use lib.Dec.{eqb};
 ghost use Rattle.spec.specs.Bytes.{any, both};
-ghost use Rattle.spec.specs.Image.{Lit, doubledIn, kindOf, tablesOf, theClass, theMember};
+ghost use Rattle.spec.specs.Image.{Lit, kindOf, tablesOf, theMember};
 ghost use Rattle.laws.specs.Valid.{Spans};
 ghost use Rattle.laws.specs.AcceptedLiterals.{isLiteral};
+ghost use Rattle.laws.specs.Doubled.{doubledLater};
 ghost use Rattle.image.specs.Loaded.{Loaded};
 ghost use Rattle.class_literals.specs.Slots.{Marks, SLOTS, slotOf};
 use classes::first_member;
@@ -74,7 +75,7 @@ fn member_doubled(s: &[u8], im: Image, last: &[u16; 4093], m: usize, to: usize) 
 // whether a literal of class c stands in a later class
 pub fn class_doubled(s: &[u8], im: Image, last: &[u16; 4093], c: usize) -> bool
     requires { ⌜ Loaded (now s) im × (c < im .classes) × Spans (tablesOf (now s)) × Marks (tablesOf (now s)) (now last) ⌝ }
-    ensures { λ r. ⌜ r ≡ doubledIn (tablesOf (now (s .entry))) (theClass (tablesOf (now (s .entry))) c) (drop (c + 1) (tablesOf (now (s .entry)) .classes)) ⌝ }
+    ensures { λ r. ⌜ r ≡ doubledLater (tablesOf (now (s .entry))) c ⌝ }
 {
     let from = first_member(s, im, c);
     let n = member_count(s, im, c);

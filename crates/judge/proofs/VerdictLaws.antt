@@ -14,9 +14,6 @@ use Rattle.laws.specs.Entries.{operations-length, classes-length, members-lengt
 use Rattle.image.specs.Layout.{layoutOf}
 use Rattle.image.specs.Loaded.{Loaded, loaded}
 use Rattle.image.specs.declared.Image.{Image}
-use Rattle.spec.specs.Meaning.{HoldsDoubled}
-use Rattle.laws.specs.AcceptedLiterals.{doubled-holds}
-use Rattle.literals.specs.Doubled.{doubledAt, doubled-found, doubled-none}
 use Rattle.judge.specs.Verdict.{countsWithin, headerOf}
 
 pub within-low : (low high x : ℕ) → x < low → false ≡ within low high x
@@ -130,11 +127,3 @@ module _ (s : List ℕ) (long : HEADER ≤ length s) where
         pub tables-left : {r : Res Tables} → imageEnd s ≡ length s → r ≡ tablesRules (tablesOf s) → r ≡ imageOf s
         unfolding imageOf
         tables-left e q = rw (two, eq-eqb (getD s 4 0) 1 version, counts, eq-eqb (imageEnd s) (length s) e) q
-
--- ---- 10, by the first class that has a literal in common with a later one
-pub doubled-told : (t : Tables) {c : ℕ} → c ≡ doubledAt t (t .classes) → c < length (t .classes) → (literalsApart t (t .classes) ≡ false) × HoldsDoubled t c
-doubled-told t {c} e h =
-    let (a, d) = doubled-found t (t .classes) _ (rw e at h) in (a, doubled-holds t c h (rw e d))
-
-pub doubled-nowhere : (t : Tables) {c : ℕ} → c ≡ doubledAt t (t .classes) → length (t .classes) ≤ c → literalsApart t (t .classes) ≡ true
-doubled-nowhere t e h = doubled-none t (t .classes) (rw e at h)

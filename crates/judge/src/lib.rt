@@ -3,9 +3,9 @@ ghost use mathlib.Core.Path.{_≡_};
 ghost use Prim.Native.Nat.{_+_, _*_, _<_, _≤_, _^_};
 ghost use lib.ListN.{length};
 ghost use Rattle.spec.specs.Bytes as b;
-ghost use Rattle.spec.specs.Image.{CHILD-BYTES, HEADER, imageOf, tablesOf, tablesRules};
+ghost use Rattle.spec.specs.Image.{CHILD-BYTES, HEADER, tablesOf, tablesRules};
 ghost use Rattle.image.specs.Loaded.{Loaded};
-ghost use Rattle.judge.specs.Verdict.{Carries, countsWithin, headerOf, resultOf, verdictAs, verdictOf};
+ghost use Rattle.judge.specs.Verdict.{countsWithin, headerOf, verdictAs, verdictOf};
 use best_rules::bests_right;
 use child_rules::children_right;
 use image::Image;
@@ -20,7 +20,7 @@ pub enum Verdict {
     Accepted(Image),
     // 2 to 9
     Refused(u8),
-    // 10, with a class that holds a literal that stands in two
+    // 10, with the lowest class that holds a literal that also stands in another
     Doubled(usize),
 }
 
@@ -68,7 +68,7 @@ fn end(im: Image) -> usize
 // 6 to 10
 fn tables(s: &[u8], im: Image) -> Verdict
     requires { ⌜ Loaded (now s) im × (im .members < 65536) ⌝ }
-    ensures { λ r. ⌜ (resultOf (now (s .entry)) r ≡ tablesRules (tablesOf (now (s .entry)))) × Carries (now (s .entry)) r × (r ≡ verdictAs im (now (s .entry)) (tablesRules (tablesOf (now (s .entry))))) ⌝ }
+    ensures { λ r. ⌜ r ≡ verdictAs im (now (s .entry)) (tablesRules (tablesOf (now (s .entry)))) ⌝ }
 {
     if !operations_right(s, im) {
         return Verdict::Refused(6);
@@ -90,7 +90,7 @@ fn tables(s: &[u8], im: Image) -> Verdict
 }
 
 pub fn judge(s: &[u8]) -> Verdict
-    ensures { λ r. ⌜ (resultOf (now (s .entry)) r ≡ imageOf (now (s .entry))) × Carries (now (s .entry)) r × (r ≡ verdictOf (now (s .entry))) ⌝ }
+    ensures { λ r. ⌜ r ≡ verdictOf (now (s .entry)) ⌝ }
 {
     if s.len() < Image::HEADER {
         return Verdict::Refused(2);

@@ -116,22 +116,3 @@ module _ (t : Tables) where
 
   pub apart-rule : literalsApart t (t .classes) ≡ true ↔ Apart t
   apart-rule = (apart-said, apart-test)
-
-  -- "the class is one that holds it"
-  pub doubled-holds : (c : ℕ) → c < length (t .classes) → doubledIn t (theClass t c) (drop (suc c) (t .classes)) ≡ true → HoldsDoubled t c
-  doubled-holds c h e =
-      let (d, p, s) = doubled-said (theClass t c) (drop (suc c) (t .classes)) e in
-      let (j, b, q) = at-in none p in
-      let w : suc c + j < length (t .classes) = omega (arith, rw length-drop at b) in
-      let z : d ≡ theClass t (suc c + j) = sym q ∙ getD-drop (suc c) (t .classes) j none in
-      record {
-        other = suc c + j;
-        two = omega arith;
-        within = (h, w);
-        here = s .one;
-        there = s .two;
-        of = s .of;
-        too = rw z at (s .too);
-        literal = s .literal;
-        alike = (s .operation, s .value);
-      }

@@ -18,3 +18,4 @@ pub mod BagCount
 pub mod BestMembers
 pub mod Results
 pub mod Repeats
+pub mod Doubled

@@ -1,11 +1,10 @@
-// Rule 10 of the table of refusals, "a literal in two classes": the first class with a literal of a later one.
+// Rule 10 of the table of refusals, "a literal in two classes": the lowest class that holds a literal that also stands in another. The first class with a literal of a later one is it.
 ghost use mathlib.Core.Path.{_≡_};
 ghost use Prim.Native.Nat.{_+_, _<_};
 ghost use lib.ListN.{length};
-ghost use Rattle.spec.specs.Image.{tablesOf};
+ghost use Rattle.spec.specs.Image.{lowestDoubled, tablesOf};
 ghost use Rattle.laws.specs.Valid.{Spans};
 ghost use Rattle.image.specs.Loaded.{Loaded};
-ghost use Rattle.literals.specs.Doubled.{doubledAt};
 ghost use Rattle.class_literals.specs.Slots.{Marks, SLOTS};
 use class_literals::class_doubled;
 use class_literals::slot;
@@ -27,10 +26,10 @@ fn mark(s: &[u8], im: Image, last: &mut [u16; 4093])
     }
 }
 
-// the first class of which that holds, or the number of classes
+// the first class with a literal of a later one, or the number of classes
 fn first_doubled(s: &[u8], im: Image, last: &[u16; 4093]) -> usize
     requires { ⌜ Loaded (now s) im × Spans (tablesOf (now s)) × Marks (tablesOf (now s)) (now last) ⌝ }
-    ensures { λ r. ⌜ r ≡ doubledAt (tablesOf (now (s .entry))) (tablesOf (now (s .entry)) .classes) ⌝ }
+    ensures { λ r. ⌜ r ≡ lowestDoubled (tablesOf (now (s .entry))) ⌝ }
 {
     let mut c = 0;
     while c < im.classes {
@@ -42,9 +41,10 @@ fn first_doubled(s: &[u8], im: Image, last: &[u16; 4093]) -> usize
     c
 }
 
+// the lowest class that holds a literal that also stands in another, or the number of classes
 pub fn doubled(s: &[u8], im: Image) -> usize
     requires { ⌜ Loaded (now s) im × Spans (tablesOf (now s)) × (im .members < 65536) ⌝ }
-    ensures { λ r. ⌜ r ≡ doubledAt (tablesOf (now (s .entry))) (tablesOf (now (s .entry)) .classes) ⌝ }
+    ensures { λ r. ⌜ r ≡ lowestDoubled (tablesOf (now (s .entry))) ⌝ }
 {
     let mut last = [0u16; 4093];
     mark(s, im, &mut last);

@@ -1,10 +1,10 @@
 -- "The image": four tables behind a header of 13 bytes, and the first rule of the table of refusals that it breaks.
 use mathlib.Core.Bool.{Bool, true, false}
-use mathlib.Core.List.{List, [], _∷_, map}
+use mathlib.Core.List.{List, [], _∷_, _++_, map}
 use Prim.Native.Nat.{ℕ, zero, suc, _+_, _*_}
 use lib.Dec.{ltb, leb, eqb}
 use lib.ListN.{length, getD, take, drop}
-use Rattle.spec.specs.Bytes.{both, either, all, any, sum, be2, be4, Two, sameTwo, pick, within, Res, ok, _>>=_, rule}
+use Rattle.spec.specs.Bytes.{both, either, all, any, sum, upFrom, be2, be4, Two, sameTwo, place, pick, within, Res, ok, _>>=_, rule}
 
 -- ---- limits and entry widths, each once
 abbrev pub OPERATIONS : ℕ
@@ -242,15 +242,25 @@ unfoldable pub hasLiteral : Tables → Two → Class → Bool
 unfolding any
 hasLiteral t v c = any (λ m. both (eqb (kindOf t (m .op)) Lit) (sameTwo v (m .op, m .value))) (membersIn t c)
 
--- a literal of class c stands in one of the later classes as well
+-- a literal of class c stands in one of the classes l as well
 unfoldable pub doubledIn : Tables → Class → List Class → Bool
 unfolding any hasLiteral
-doubledIn t c later = any (λ m. both (eqb (kindOf t (m .op)) Lit) (any (hasLiteral t (m .op, m .value)) later)) (membersIn t c)
+doubledIn t c l = any (λ m. both (eqb (kindOf t (m .op)) Lit) (any (hasLiteral t (m .op, m .value)) l)) (membersIn t c)
 
 unfoldable pub literalsApart : Tables → List Class → Bool
 unfolding doubledIn
 literalsApart t [] = true
 literalsApart t (c ∷ l) = elim (doubledIn t c l) [ true ↦ false | false ↦ literalsApart t l ]
+
+-- (02, Paper 2) class number c holds "a literal that also stands in another class", before it or behind it
+unfoldable pub doubledElsewhere : Tables → ℕ → Bool
+unfolding doubledIn
+doubledElsewhere t c = doubledIn t (theClass t c) (take c (t .classes) ++ drop (c + 1) (t .classes))
+
+-- (02, Paper 2) "The class returned is from now on the lowest-numbered class holding a literal that also stands in another class." The number of classes where there is none.
+unfoldable pub lowestDoubled : Tables → ℕ
+unfolding doubledElsewhere place upFrom
+lowestDoubled t = place (doubledElsewhere t) (upFrom 0 (length (t .classes)))
 
 -- ---- the rules in the order of the table: the tables of an accepted image, or the number of the first rule that is broken
 -- "counts: operations (1 to 64), classes (1 to 256), members (1 to 1,024), children (0 to 4,096)"

@@ -17,3 +17,4 @@ pub mod Asked
 pub mod Found
 pub mod Kept
 pub mod Belonging
+pub mod Lowest

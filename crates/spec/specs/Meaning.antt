@@ -159,7 +159,7 @@ Places t h ps qs = system.Places (pairs t) (Move t) h ps qs
 abbrev pub Reachable : Tables → Two → Two → Type 0
 Reachable t root p = system.Reachable (pairs t) root p
 
--- ---- "10, with a class: a literal in two classes; the class is one that holds it". Which one is open, so this is a relation.
+-- ---- (02, Paper 2) class c is one "holding a literal that also stands in another class"; the lowest such class is `lowestDoubled` (Image; laws/Doubled)
 pub record HoldsDoubled (t : Tables) (c : ℕ) : Type 0 where
   pub other : ℕ
   pub two : c ≢ other

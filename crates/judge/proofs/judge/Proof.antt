@@ -13,7 +13,7 @@ returns : tie.Need-returns
 returns c =
     let s = c .before .before .args .s .now in
     let z = short-refused s (c .if1 .taken) in
-    (z, omega arith, ap (verdictAs (headerOf s) s) z)
+    ap (verdictAs (headerOf s) s) z
 
 be4-requires : tie.Need-be4-requires
 be4-requires c κs = search needs
@@ -29,7 +29,7 @@ returns-2 c =
     let d = c .before .before .before in
     let s = d .before .before .args .s .now in
     let z = length-refused s (d .if1 .left) (λ e. c .if2 .taken (omega (arith, e, c .before .before .be4 .ensures .0, c .before .long-size .ensures))) in
-    (z, omega arith, ap (verdictAs (headerOf s) s) z)
+    ap (verdictAs (headerOf s) s) z
 
 shared-slice-read-if3 : tie.Need-shared-slice-read-if3
 shared-slice-read-if3 c = search needs
@@ -41,7 +41,7 @@ returns-3 c =
     let d = e .before .before .before in
     let s = d .before .before .args .s .now in
     let z = version-refused s (d .if1 .left) (omega (arith, e .if2 .left, e .before .before .be4 .ensures .0, e .before .long-size .ensures)) (c .if3 .taken) in
-    (z, omega arith, ap (verdictAs (headerOf s) s) z)
+    ap (verdictAs (headerOf s) s) z
 
 header-requires : tie.Need-header-requires
 header-requires c κs = search needs
@@ -56,7 +56,7 @@ returns-4 c =
     let d = e .before .before .before in
     let s = d .before .before .args .s .now in
     let z = counts-refused s (d .if1 .left) (omega (arith, e .if2 .left, e .before .before .be4 .ensures .0, e .before .long-size .ensures)) (v .if3 .left) (failed (counts-are s (c .before .before .header .ensures) (c .before .counts-within .ensures)) (c .if4 .taken)) in
-    (z, omega arith, ap (verdictAs (headerOf s) s) z)
+    ap (verdictAs (headerOf s) s) z
 
 end-requires : tie.Need-end-requires
 end-requires c κs =
@@ -72,7 +72,7 @@ returns-5 c =
     let d = e .before .before .before in
     let s = d .before .before .args .s .now in
     let z = end-refused s (d .if1 .left) (omega (arith, e .if2 .left, e .before .before .be4 .ensures .0, e .before .long-size .ensures)) (v .if3 .left) (passed (counts-are s (k .before .before .header .ensures) (k .before .counts-within .ensures)) (k .if4 .left)) (λ q. c .if5 .taken (c .before .end .ensures ∙ end-is s (k .before .before .header .ensures) ∙ q)) in
-    (z, omega arith, ap (verdictAs (headerOf s) s) z)
+    ap (verdictAs (headerOf s) s) z
 
 tables-requires : tie.Need-tables-requires
 tables-requires c κs =
@@ -93,11 +93,8 @@ returns-6 c =
     let s = d .before .before .args .s .now in
     let z : tablesRules (tablesOf s) ≡ imageOf s =
     tables-left s (d .if1 .left) (omega (arith, e .if2 .left, e .before .before .be4 .ensures .0, e .before .long-size .ensures)) (v .if3 .left) (passed (counts-are s (k .before .before .header .ensures) (k .before .counts-within .ensures)) (k .if4 .left))
-    (sym (end-is s (k .before .before .header .ensures)) ∙ sym (q .before .end .ensures) ∙ q .if5 .left) refl in (
-      c .tables .ensures .0 ∙ z,
-      c .tables .ensures .1,
-      c .tables .ensures .2 ∙ ap (λ (x : Image). verdictAs x s (tablesRules (tablesOf s))) (k .before .before .header .ensures) ∙ ap (verdictAs (headerOf s) s) z,
-    )
+    (sym (end-is s (k .before .before .header .ensures)) ∙ sym (q .before .end .ensures) ∙ q .if5 .left) refl in
+    c .tables .ensures ∙ ap (λ (x : Image). verdictAs x s (tablesRules (tablesOf s))) (k .before .before .header .ensures) ∙ ap (verdictAs (headerOf s) s) z
 
 pub judge-spec : {M : Type 1} → statement M
 judge-spec =

@@ -1,8 +1,9 @@
-use Rattle.judge.proofs.VerdictLaws.{operations-refused, spans-refused, children-refused, bests-refused, literals-refused, tables-accepted, doubled-told, doubled-nowhere}
+use Rattle.judge.proofs.VerdictLaws.{operations-refused, spans-refused, children-refused, bests-refused, literals-refused, tables-accepted}
 use Rattle.judge.specs.Verdict.{verdictAs}
 use Rattle.judge.specs.declared.Verdict.the-variants.{Doubled}
 use Rattle.image.specs.Loaded.{classes-many}
 use Rattle.laws.specs.AcceptedTurns.{failed, passed}
+use Rattle.laws.specs.Doubled.{lowest-none, lowest-some, lowest-within}
 use Rattle.laws.specs.AcceptedRules.{spans-rule, children-rule}
 use Rattle.spec.specs.Image.{tablesOf}
 use native.Mathlib.Omega.{arith}
@@ -17,8 +18,8 @@ operations-right-requires c κs = search needs
 returns : tie.Need-returns
 returns c =
     let a = c .before .before .before in
-    let e = operations-refused (tablesOf (a .args .s .now)) (failed (c .before .operations-right .ensures) (c .if1 .taken)) in
-    (e, omega arith, ap (verdictAs (a .args .im) (a .args .s .now)) e)
+    let z = operations-refused (tablesOf (a .args .s .now)) (failed (c .before .operations-right .ensures) (c .if1 .taken)) in
+    ap (verdictAs (a .args .im) (a .args .s .now)) z
 
 spans-right-requires : tie.Need-spans-right-requires
 spans-right-requires c κs = search needs
@@ -28,7 +29,7 @@ returns-2 c =
     let d = c .before .before in
     let a = d .before .before .before in
     let z = spans-refused (tablesOf (a .args .s .now)) (passed (d .before .operations-right .ensures) (d .if1 .left)) (failed (c .before .spans-right .ensures) (c .if2 .taken)) in
-    (z, omega arith, ap (verdictAs (a .args .im) (a .args .s .now)) z)
+    ap (verdictAs (a .args .im) (a .args .s .now)) z
 
 children-right-requires : tie.Need-children-right-requires
 children-right-requires c κs =
@@ -41,7 +42,7 @@ returns-3 c =
     let d = e .before .before in
     let a = d .before .before .before in
     let z = children-refused (tablesOf (a .args .s .now)) (passed (d .before .operations-right .ensures) (d .if1 .left)) (passed (e .before .spans-right .ensures) (e .if2 .left)) (failed (c .before .children-right .ensures) (c .if3 .taken)) in
-    (z, omega arith, ap (verdictAs (a .args .im) (a .args .s .now)) z)
+    ap (verdictAs (a .args .im) (a .args .s .now)) z
 
 bests-right-requires : tie.Need-bests-right-requires
 bests-right-requires c κs =
@@ -56,7 +57,7 @@ returns-4 c =
     let d = e .before .before in
     let a = d .before .before .before in
     let z = bests-refused (tablesOf (a .args .s .now)) (passed (d .before .operations-right .ensures) (d .if1 .left)) (passed (e .before .spans-right .ensures) (e .if2 .left)) (passed (f .before .children-right .ensures) (f .if3 .left)) (failed (c .before .bests-right .ensures) (c .if4 .taken)) in
-    (z, omega arith, ap (verdictAs (a .args .im) (a .args .s .now)) z)
+    ap (verdictAs (a .args .im) (a .args .s .now)) z
 
 doubled-requires : tie.Need-doubled-requires
 doubled-requires c κs =
@@ -70,9 +71,9 @@ returns-5 c =
     let e = f .before .before in
     let d = e .before .before in
     let a = d .before .before .before in
-    let (p, q) = doubled-told (tablesOf (a .args .s .now)) (c .before .before .doubled .ensures) (omega (arith, c .if5 .taken, classes-many (a .args .s .now) (a .args .im) (a .pre .0))) in
+    let p = lowest-some (tablesOf (a .args .s .now)) .1 (omega (arith, c .before .before .doubled .ensures, c .if5 .taken, classes-many (a .args .s .now) (a .args .im) (a .pre .0))) in
     let z = literals-refused (tablesOf (a .args .s .now)) (passed (d .before .operations-right .ensures) (d .if1 .left)) (passed (e .before .spans-right .ensures) (e .if2 .left)) (passed (f .before .children-right .ensures) (f .if3 .left)) (passed (g .before .bests-right .ensures) (g .if4 .left)) p in
-    (z, q, ap Doubled (c .before .before .doubled .ensures) ∙ ap (verdictAs (a .args .im) (a .args .s .now)) z)
+    ap Doubled (c .before .before .doubled .ensures) ∙ ap (verdictAs (a .args .im) (a .args .s .now)) z
 
 returns-6 : tie.Need-returns-6
 returns-6 c =
@@ -83,8 +84,8 @@ returns-6 c =
     let a = d .before .before .before in
     let z =
     tables-accepted (tablesOf (a .args .s .now)) (passed (d .before .operations-right .ensures) (d .if1 .left)) (passed (e .before .spans-right .ensures) (e .if2 .left)) (passed (f .before .children-right .ensures) (f .if3 .left)) (passed (g .before .bests-right .ensures) (g .if4 .left))
-    (doubled-nowhere (tablesOf (a .args .s .now)) (c .before .before .doubled .ensures) (omega (arith, c .if5 .left, classes-many (a .args .s .now) (a .args .im) (a .pre .0)))) in
-    (z, a .pre .0, ap (verdictAs (a .args .im) (a .args .s .now)) z)
+    (lowest-none (tablesOf (a .args .s .now)) .1 (omega (arith, c .before .before .doubled .ensures, lowest-within (tablesOf (a .args .s .now)), c .if5 .left, classes-many (a .args .s .now) (a .args .im) (a .pre .0)))) in
+    ap (verdictAs (a .args .im) (a .args .s .now)) z
 
 pub tables-spec : {M : Type 1} → statement M
 tables-spec =

@@ -1,22 +1,23 @@
-use Rattle.literals.specs.Doubled.{doubledAt, doubled-here, doubled-later, doubled-end}
+use Rattle.laws.specs.Doubled.{doubledLater, first-later}
+use Rattle.laws.specs.Firsts.{firstFrom, turn-stop, turn-more, turn-end}
 use Rattle.image.specs.Loaded.{classes-many}
 use Rattle.spec.specs.Image.{tablesOf}
 use borrow.Author.Needs.{needs}
-use Prim.Native.Nat.{_≤_, _-_, _+_}
+use Prim.Native.Nat.{_-_}
 use native.Mathlib.Omega.{arith}
-use mathlib.Core.Path.{_≡_, sym, _∙_}
-use lib.ListN.{drop}
+use mathlib.Core.Path.{_≡_, refl, _∙_}
+use lib.ListN.{length}
 use Rattle.literals.proofs.first_doubled.Statement.{statement}
 use Rattle.literals.proofs.first_doubled.Tie as tie
 
 abbrev Inv-loop : tie.InvT-loop
-Inv-loop s im last c₀ c = (c ≤ im .classes) × (doubledAt (tablesOf s) (tablesOf s .classes) ≡ c + doubledAt (tablesOf s) (drop c (tablesOf s .classes)))
+Inv-loop s im last c₀ c = firstFrom (doubledLater (tablesOf s)) c (length (tablesOf s .classes)) ≡ firstFrom (doubledLater (tablesOf s)) 0 (length (tablesOf s .classes))
 
 abbrev μ-loop : tie.MeasureT-loop
 μ-loop s im last c₀ c = im .classes - c
 
 loop-holds : tie.Need-loop-holds Inv-loop μ-loop
-loop-holds c = (omega arith, omega arith)
+loop-holds c = refl
 
 class-doubled-requires : tie.Need-class-doubled-requires Inv-loop μ-loop
 class-doubled-requires c κs = search needs
@@ -25,12 +26,9 @@ returns : tie.Need-returns Inv-loop μ-loop
 returns c =
     let l = c .before .before .before .before in
     let a = l .before .before in
-    let s = a .args .s .now in
-    omega (
-      arith,
-      l .loop .inv .1,
-      doubled-here (tablesOf s) (tablesOf s .classes) (l .loop .c) _ (omega (arith, classes-many s (a .args .im) (a .pre .0))) (sym (c .before .class-doubled .ensures) ∙ c .if2 .taken),
-    )
+    let t = tablesOf (a .args .s .now) in
+    turn-stop (doubledLater t) 0 (length (t .classes)) (l .loop .c) (l .loop .inv) (c .before .class-doubled .result) (omega (arith, c .before .before .if1 .taken, classes-many (a .args .s .now) (a .args .im) (a .pre .0))) (c .before .class-doubled .ensures) (c .if2 .taken)
+    ∙ first-later t
 
 add-c : tie.Need-add-c Inv-loop μ-loop
 add-c c = search needs
@@ -42,21 +40,16 @@ loop-again : tie.Need-loop-again Inv-loop μ-loop
 loop-again c =
     let l = c .before .before .before .before in
     let a = l .before .before in
-    let s = a .args .s .now in (
-      omega arith,
-      omega (
-        arith,
-        l .loop .inv .1,
-        doubled-later (tablesOf s) (tablesOf s .classes) (l .loop .c) _ (omega (arith, classes-many s (a .args .im) (a .pre .0))) (sym (c .before .class-doubled .ensures) ∙ c .if2 .left),
-      ),
-    )
+    let t = tablesOf (a .args .s .now) in
+    turn-more (doubledLater t) 0 (length (t .classes)) (l .loop .c) (l .loop .inv) (c .before .class-doubled .result) (omega (arith, c .before .before .if1 .taken, classes-many (a .args .s .now) (a .args .im) (a .pre .0))) (c .before .class-doubled .ensures) (c .if2 .left)
 
 returns-2 : tie.Need-returns-2 Inv-loop μ-loop
 returns-2 c =
     let l = c .before .before in
     let a = l .before .before in
-    let s = a .args .s .now in
-    omega (arith, l .loop .inv .1, doubled-end (tablesOf s) (tablesOf s .classes) (l .loop .c) (omega (arith, classes-many s (a .args .im) (a .pre .0))))
+    let t = tablesOf (a .args .s .now) in
+    turn-end (doubledLater t) 0 (length (t .classes)) (l .loop .c) (l .loop .inv) (omega (arith, c .if1 .left, classes-many (a .args .s .now) (a .args .im) (a .pre .0)))
+    ∙ first-later t
 
 pub first-doubled-spec : {M : Type 1} → statement M
 first-doubled-spec =

@@ -1,0 +1,36 @@
+-- What a verdict says of the image.
+use mathlib.Core.Path.{_≡_, refl, ap, sym}
+use mathlib.Core.Logic.{_≢_}
+use mathlib.Core.List.{List}
+use Prim.Native.Nat.{ℕ}
+use native.Mathlib.Decide.{ℕ-discrete}
+use native.Mathlib.Omega.{arith}
+use borrow.Author.Tests.{ne-eqb}
+use Rattle.spec.specs.Bytes.{Res, ok, refused}
+use Rattle.spec.specs.Image.{Tables, imageOf, lowestDoubled, tablesOf}
+use Rattle.laws.specs.Accepted.{accepted-length, accepted-tables}
+use Rattle.image.specs.Loaded.{Loaded, loaded}
+use Rattle.judge.specs.Verdict.{headerOf, resultOf, verdictAs, verdictOf}
+use Rattle.judge.specs.declared.Verdict.{Verdict}
+use Rattle.judge.specs.declared.Verdict.the-variants.{Accepted, Refused, Doubled}
+
+-- the layout of an accepted image; 10 never without a class, and with the lowest that holds a literal that also stands in another
+abbrev pub Carries : List ℕ → Verdict → Type 0
+Carries s (Accepted im) = Loaded s im
+Carries s (Refused n) = n ≢ 10
+Carries s (Doubled c) = c ≡ lowestDoubled (tablesOf s)
+
+pub record Judged (s : List ℕ) (v : Verdict) : Type 0 where
+  pub result : resultOf s v ≡ imageOf s
+  pub carries : Carries s v
+
+pub judged : (s : List ℕ) → Judged s (verdictOf s)
+judged s = go (imageOf s) refl
+  where
+    not-ten : (n : ℕ) → Dec (n ≡ 10) → imageOf s ≡ refused n → Judged s (verdictAs (headerOf s) s (refused n))
+    not-ten n (yes q) e = rw q (record { result = sym (rw q at e); carries = refl })
+    not-ten n (no q) e = rw (ne-eqb n 10 q) (record { result = sym e; carries = q })
+
+    go : (r : Res Tables) → imageOf s ≡ r → Judged s (verdictAs (headerOf s) s r)
+    go (ok t) e = record { result = sym (rw (accepted-tables s t e) at e); carries = loaded s (omega (arith, accepted-length s t e .2)) }
+    go (refused n) e = not-ten n (ℕ-discrete n 10) e
