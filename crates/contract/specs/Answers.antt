@@ -6,8 +6,7 @@ use mathlib.Core.List.{List}
 use Prim.Native.Nat.{ℕ, _≤_}
 use lib.ListN.{length, take}
 use Rattle.spec.specs.Bytes.{workAfter, Res, ok, refused}
-use Rattle.spec.specs.Image.{tablesOf}
-use Rattle.spec.specs.Meaning.{HoldsDoubled}
+use Rattle.spec.specs.Image.{lowestDoubled, tablesOf}
 use Rattle.pair_search.specs.declared.Pair.{Pair}
 use Rattle.pair_search.specs.Records.{none}
 use Rattle.contract.specs.declared.Answer.{Answer}
@@ -19,11 +18,11 @@ answerOf out (Listing n) = ok (take n out)
 answerOf out (Refused k) = refused k
 answerOf out (Doubled c) = refused 10
 
--- What the case itself says: the listing's bytes are all in the output buffer; "10, with a class": never without; "the class is one that holds it". Which one is open.
+-- What the case itself says: the listing's bytes are all in the output buffer; "10, with a class": never without; "the lowest-numbered class holding a literal that also stands in another class" (02, Paper 2).
 abbrev pub Carries : List ℕ → List ℕ → Answer → Type 0
 Carries image out (Listing n) = n ≤ length out
 Carries image out (Refused k) = k ≢ 10
-Carries image out (Doubled c) = HoldsDoubled (tablesOf image) c
+Carries image out (Doubled c) = c ≡ lowestDoubled (tablesOf image)
 
 -- The plain work buffers before and after the call: "every number zero", and as they were where one was too short.
 pub record Cleared (fit : Bool) (a a′ b b′ c c′ d d′ e e′ f f′ : List ℕ) : Type 0 where

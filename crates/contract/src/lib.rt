@@ -2,7 +2,7 @@
 ghost use mathlib.Core.Path.{_≡_};
 ghost use Rattle.contract.specs.Limited.{limited};
 
-// How many bytes of output; a refusal's number; refusal 10 with a class that holds a literal that stands in two classes.
+// How many bytes of output; a refusal's number; refusal 10 with the lowest class that holds a literal that also stands in another.
 pub enum Answer {
     Listing(usize),
     Refused(u8),

@@ -6,19 +6,22 @@ use mathlib.Core.List.{List}
 use Prim.Native.Nat.{ℕ, _≤_, _<_}
 use native.Mathlib.Omega.{arith}
 use lib.ListN.{length, replicate}
+use lib.Seq.{length-take-le}
 use borrow.Author.Tests.{le-leb, lt-leb}
 use Rattle.spec.specs.Bytes.{Res, ok, refused, workAfter}
-use Rattle.spec.specs.Image.{tablesOf}
+use Rattle.spec.specs.Image.{literalsApart, lowestDoubled, tablesOf}
 use Rattle.spec.specs.Pairs.{pairs, making}
 use Rattle.spec.specs.Graph.{PAIRS}
 use Rattle.spec.specs.Run.{documentLimits, Outcome, runOf}
 use Rattle.spec.specs.Listing.{listingOf}
 use Rattle.spec.specs.Merge.{mergeOf, outputAfter}
 use Rattle.spec.specs.Meaning.{HoldsDoubled}
-use Rattle.laws.specs.Tests.{clash}
-use Rattle.laws.specs.Valid.{Keeps}
+use Rattle.laws.specs.Tests.{clash, is-false}
+use Rattle.laws.specs.Valid.{Keeps, ten}
+use Rattle.laws.specs.AcceptedLiterals.{apart-rule}
+use Rattle.laws.specs.Doubled.{lowest-holds, lowest-least, lowest-some}
 use Rattle.laws.specs.Accepted as A
-use Rattle.laws.specs.Results.{refused-ok, refused-inj}
+use Rattle.laws.specs.Results.{ok-inj, refused-ok, refused-inj}
 use Rattle.lgg.specs.Pairs.{PairCount}
 use Rattle.counted.specs.CountedRun.{root-starts}
 use Rattle.lgg.specs.Count.{pair-count}
@@ -90,9 +93,19 @@ module _ (image : List ℕ) (left right budget : ℕ) (fit : Bool) (out out′ :
       let j = broken 10 (omega arith) (omega arith) in
       (λ e. j .0 (i .0 e), λ h. i .1 (j .1 h))
 
-  -- "10, with a class": "the class is one that holds it"
-  pub refused-10-class : (c : ℕ) → r ≡ Doubled c → HoldsDoubled (tablesOf image) c
+  -- (02, Paper 2) "the lowest-numbered class holding a literal that also stands in another class"
+  pub refused-10-class : (c : ℕ) → r ≡ Doubled c → c ≡ lowestDoubled (tablesOf image)
   refused-10-class c e = rw e at (m .carries)
+
+  -- .. it holds such a literal
+  pub refused-10-holds : (c : ℕ) → r ≡ Doubled c → HoldsDoubled (tablesOf image) c
+  refused-10-holds c e =
+      let broken : literalsApart (tablesOf image) (tablesOf image .classes) ≡ true → ⊥ = λ a. refused-10 .0 (c, e) .2 (ten refl (apart-rule (tablesOf image) .0 a)) in
+      rw (refused-10-class c e) (lowest-holds (tablesOf image) (lowest-some (tablesOf image) .0 (is-false (literalsApart (tablesOf image) (tablesOf image .classes)) broken)))
+
+  -- .. and no lower class does
+  pub refused-10-lowest : (c d : ℕ) → r ≡ Doubled c → HoldsDoubled (tablesOf image) d → c ≤ d
+  refused-10-lowest c d e H = rw (refused-10-class c e) (lowest-least (tablesOf image) d H)
 
   -- ---- 11: "a queried class not in the image"
   pub refused-11 : (r ≡ Refused 11) ↔ ((fit ≡ true) × Sound image 11 × (Asked image left right → ⊥))
@@ -224,3 +237,27 @@ pub all-cleared : (image : List ℕ) (left right budget : ℕ) (fit : Bool) (out
     → (table′ ≡ replicate (length table) none) × (a′ ≡ replicate (length a) 0) × (b′ ≡ replicate (length b) 0) × (c′ ≡ replicate (length c) 0) × (d′ ≡ replicate (length d) 0) × (e′ ≡ replicate (length e) 0) × (f′ ≡ replicate (length f) 0)
 all-cleared image left right budget fit out out′ r m n table table′ z {a} {a′} {b} {b′} {c} {c′} {d} {d′} {e} {e′} {f} {f′} k =
     (work-cleared image left right budget fit out out′ r m none table table′ z n, work-cleared image left right budget fit out out′ r m 0 a a′ (k .graph) n, work-cleared image left right budget fit out out′ r m 0 b b′ (k .pairs) n, work-cleared image left right budget fit out out′ r m 0 c c′ (k .work) n, work-cleared image left right budget fit out out′ r m 0 d d′ (k .flow) n, work-cleared image left right budget fit out out′ r m 0 e e′ (k .terms) n, work-cleared image left right budget fit out out′ r m 0 f f′ (k .runs) n)
+
+-- (02, Paper 2) no "class that differs between installations": two calls on one image that are both refused by 10, with whatever classes, budgets and buffers, name the same class
+pub refused-10-alike : (image : List ℕ) (l r b l₂ r₂ b₂ : ℕ) (fit fit₂ : Bool) (out out′ out₂ out₂′ : List ℕ) (c d : ℕ) → Merges image l r b fit out out′ (Doubled c) → Merges image l₂ r₂ b₂ fit₂ out₂ out₂′ (Doubled d) → c ≡ d
+refused-10-alike image l r b l₂ r₂ b₂ fit fit₂ out out′ out₂ out₂′ c d m w = m .carries ∙ sym (w .carries)
+
+-- (02, Paper 2) "Refusal 10 then leaves nothing open": two calls with the same image, classes and budget, in buffers that are alike, give the same answer and leave the same output
+pub nothing-open : (image : List ℕ) (left right budget : ℕ) (fit : Bool) (out out′ out″ : List ℕ) (r s : Answer) → Merges image left right budget fit out out′ r → Merges image left right budget fit out out″ s → (r ≡ s) × (out′ ≡ out″)
+nothing-open image left right budget fit out out′ out″ r s m w = (same r s m (rw (← e) at w), e)
+  where
+    e : out′ ≡ out″
+    e = m .output ∙ sym (w .output)
+
+    same : (r s : Answer) → Merges image left right budget fit out out′ r → Merges image left right budget fit out out′ s → r ≡ s
+    same (Listing n) (Listing k) a b =
+        let z = ap length (ok-inj (a .answer ∙ sym (b .answer))) in
+        ap Listing (sym (length-take-le n out′ (a .carries)) ∙ z ∙ length-take-le k out′ (b .carries))
+    same (Listing n) (Refused k) a b = absurd (refused-ok (b .answer ∙ sym (a .answer)))
+    same (Listing n) (Doubled d) a b = absurd (refused-ok (b .answer ∙ sym (a .answer)))
+    same (Refused k) (Listing n) a b = absurd (refused-ok (a .answer ∙ sym (b .answer)))
+    same (Refused k) (Refused j) a b = ap Refused (refused-inj (a .answer ∙ sym (b .answer)))
+    same (Refused k) (Doubled d) a b = absurd (a .carries (refused-inj (a .answer ∙ sym (b .answer))))
+    same (Doubled c) (Listing n) a b = absurd (refused-ok (a .answer ∙ sym (b .answer)))
+    same (Doubled c) (Refused j) a b = absurd (b .carries (refused-inj (b .answer ∙ sym (a .answer))))
+    same (Doubled c) (Doubled d) a b = ap Doubled (a .carries ∙ sym (b .carries))

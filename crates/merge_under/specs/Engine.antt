@@ -5,8 +5,7 @@ use mathlib.Core.Logic.{_≢_}
 use Prim.Native.Nat.{ℕ}
 use lib.ListN.{length}
 use Rattle.spec.specs.Bytes.{Limits, refused}
-use Rattle.spec.specs.Image.{tablesOf}
-use Rattle.spec.specs.Meaning.{HoldsDoubled}
+use Rattle.spec.specs.Image.{lowestDoubled, tablesOf}
 use Rattle.query.specs.Settings.{askedOf}
 use Rattle.query.specs.declared.Query.{Query}
 use Rattle.outcome.specs.declared.Answer as O
@@ -21,7 +20,7 @@ use Rattle.contract.specs.declared.Answer.the-variants.{Listing, Refused}
 -- what `prepare` answered, and the arrays as it left them
 abbrev pub Stands : Limits → List ℕ → Query → Prepared → List ℕ → List ℕ → List ℕ → Type 0
 Stands lim image q (P.Refused k) graph terms runs = (acceptedOf lim (length graph) image q ≡ refused k) × (k ≢ 10)
-Stands lim image q (P.Doubled c) graph terms runs = (acceptedOf lim (length graph) image q ≡ refused 10) × HoldsDoubled (tablesOf image) c
+Stands lim image q (P.Doubled c) graph terms runs = (acceptedOf lim (length graph) image q ≡ refused 10) × (c ≡ lowestDoubled (tablesOf image))
 Stands lim image q (P.Go im b) graph terms runs = Goes lim (length graph) image q im × Ready lim (tablesOf image) (askedOf q) (q .budget) (im .classes) b graph terms runs
 
 -- the engine's answer as that of the call

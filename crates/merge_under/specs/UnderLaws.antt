@@ -9,12 +9,11 @@ use lib.Dec.{leb, ltb}
 use lib.ListN.{length, replicate}
 use borrow.Author.Tests.{le-leb, leb-true}
 use Rattle.spec.specs.Bytes.{both, workAfter, Limits, Res, ok, refused, _>>=_, rule}
-use Rattle.spec.specs.Image.{Tables, imageOf, tablesOf}
+use Rattle.spec.specs.Image.{Tables, imageOf, lowestDoubled, tablesOf}
 use Rattle.spec.specs.Pairs.{pairs, making}
 use Rattle.spec.specs.Run.{documentLimits, Outcome, runOf}
 use Rattle.spec.specs.Listing.{listingOf}
 use Rattle.spec.specs.Merge.{mergeUnder, mergeOf, outputAfter}
-use Rattle.spec.specs.Meaning.{HoldsDoubled}
 use Rattle.laws.specs.Valid.{Valid}
 use Rattle.laws.specs.Accepted as A
 use Rattle.laws.specs.Results.{refused-ok, refused-inj}
@@ -48,7 +47,7 @@ use Rattle.merge_under.specs.Engine.{Stands, answerAs}
 -- ---- between the halves
 pub prepared-stands : (lim : Limits) (s : List ℕ) (q : Query) (p : Prepared) (graph terms runs graph′ terms′ runs′ : List ℕ) → length graph′ ≡ length graph → Prepares lim s q p graph terms runs graph′ terms′ runs′ → Stands lim s q p graph′ terms′ runs′
 prepared-stands lim s q (P.Refused k) graph terms runs graph′ terms′ runs′ e (a, h, w) = (rw e a, h)
-prepared-stands lim s q (P.Doubled c) graph terms runs graph′ terms′ runs′ e (a, v, h, w) = (rw e a, h)
+prepared-stands lim s q (P.Doubled c) graph terms runs graph′ terms′ runs′ e (a, h, w) = (rw e a, h)
 prepared-stands lim s q (P.Go im b) graph terms runs graph′ terms′ runs′ e (G, B) = (rw e G, begins-ready lim (tablesOf s) (askedOf q) (q .budget) (im .classes) graph terms runs graph′ terms′ runs′ b B)
 
 -- what the second half asks, with the count of the table
@@ -86,7 +85,7 @@ module _ (lim : Limits) (m : ℕ) (s : List ℕ) (q : Query) where
   unfolding outputAfter
   merges-refused k out e h = let r = at-refused k e (length out) in record { answer = sym r; output = sym (ap (outputAfter out) r); carries = h }
 
-  pub merges-doubled : (c : ℕ) (out : List ℕ) → acceptedOf lim m s q ≡ refused 10 → HoldsDoubled (tablesOf s) c → MergesUnder lim m s q out out (Doubled c)
+  pub merges-doubled : (c : ℕ) (out : List ℕ) → acceptedOf lim m s q ≡ refused 10 → c ≡ lowestDoubled (tablesOf s) → MergesUnder lim m s q out out (Doubled c)
   unfolding outputAfter
   merges-doubled c out e h = let r = at-refused 10 e (length out) in record { answer = sym r; output = sym (ap (outputAfter out) r); carries = h }
 

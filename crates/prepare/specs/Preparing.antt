@@ -7,12 +7,9 @@ use Prim.Native.Nat.{ℕ, _+_, _*_, _<_}
 use lib.Dec.{ltb, leb}
 use lib.ListN.{length}
 use Rattle.spec.specs.Bytes.{both, Limits, Res, ok, refused, _>>=_, rule}
-use Rattle.spec.specs.Image.{Tables, imageOf, tablesOf}
-use Rattle.spec.specs.Meaning.{HoldsDoubled}
+use Rattle.spec.specs.Image.{Tables, imageOf, lowestDoubled, tablesOf}
 use Rattle.image.specs.Loaded.{Loaded}
 use Rattle.image.specs.declared.Image.{Image}
-use Rattle.judge.specs.Verdict.{verdictOf}
-use Rattle.judge.specs.declared.Verdict.the-variants as J
 use Rattle.query.specs.Settings.{askedOf}
 use Rattle.query.specs.declared.Query.{Query}
 use Rattle.beginning.specs.Beginning.{Begins}
@@ -44,8 +41,8 @@ pub record Goes (lim : Limits) (m : ℕ) (image : List ℕ) (q : Query) (im : Im
 abbrev pub Kept : List ℕ → List ℕ → List ℕ → List ℕ → List ℕ → List ℕ → Type 0
 Kept graph terms runs graph′ terms′ runs′ = (graph′ ≡ graph) × (terms′ ≡ terms) × (runs′ ≡ runs)
 
--- What `prepare` answers, and what it leaves in the arrays: a refusal, 10 with the class that `judge` names; or the image and what the run has begun.
+-- What `prepare` answers, and what it leaves in the arrays: a refusal, 10 with the lowest class that holds a literal that also stands in another; or the image and what the run has begun.
 abbrev pub Prepares : Limits → List ℕ → Query → Prepared → List ℕ → List ℕ → List ℕ → List ℕ → List ℕ → List ℕ → Type 0
 Prepares lim image q (Refused k) graph terms runs graph′ terms′ runs′ = (acceptedOf lim (length graph) image q ≡ refused k) × (k ≢ 10) × Kept graph terms runs graph′ terms′ runs′
-Prepares lim image q (Doubled c) graph terms runs graph′ terms′ runs′ = (acceptedOf lim (length graph) image q ≡ refused 10) × (J.Doubled c ≡ verdictOf image) × HoldsDoubled (tablesOf image) c × Kept graph terms runs graph′ terms′ runs′
+Prepares lim image q (Doubled c) graph terms runs graph′ terms′ runs′ = (acceptedOf lim (length graph) image q ≡ refused 10) × (c ≡ lowestDoubled (tablesOf image)) × Kept graph terms runs graph′ terms′ runs′
 Prepares lim image q (Go im b) graph terms runs graph′ terms′ runs′ = Goes lim (length graph) image q im × Begins lim (tablesOf image) (askedOf q) (q .budget) (im .classes) graph terms runs graph′ terms′ runs′ b

@@ -13,7 +13,7 @@ pub enum Begun {
     All(usize, usize, Budget),
 }
 
-// A refusal; 10 with a class; the image and what the run has begun.
+// A refusal; 10 with the lowest class that holds a literal that also stands in another; the image and what the run has begun.
 pub enum Prepared {
     Refused(u8),
     Doubled(usize),

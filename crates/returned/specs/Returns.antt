@@ -7,9 +7,8 @@ use Prim.Native.Nat.{ℕ, _≤_}
 use lib.Dec.{eqb}
 use lib.ListN.{length, take}
 use Rattle.spec.specs.Bytes.{pick, Res, ok, refused}
-use Rattle.spec.specs.Image.{tablesOf}
+use Rattle.spec.specs.Image.{lowestDoubled, tablesOf}
 use Rattle.spec.specs.Merge.{mergeOf, outputAfter}
-use Rattle.spec.specs.Meaning.{HoldsDoubled}
 use Rattle.contract.specs.declared.Answer.{Answer}
 use Rattle.contract.specs.declared.Answer.the-variants.{Listing, Refused, Doubled}
 use Rattle.returned.specs.declared.Returned.{Returned}
@@ -33,8 +32,8 @@ pub record Returns (image : List ℕ) (left right budget : ℕ) (fit : Bool) (ou
   pub room : r .bytes ≤ length out′
   -- the table of refusals, without those of the transport alone
   pub table : r .number ≤ 14
-  -- "10, with a class": "the class is one that holds it". Which one is open.
-  pub doubled : r .number ≡ 10 → HoldsDoubled (tablesOf image) (r .class)
+  -- "10, with a class": "the lowest-numbered class holding a literal that also stands in another class" (02, Paper 2)
+  pub doubled : r .number ≡ 10 → r .class ≡ lowestDoubled (tablesOf image)
   -- what says nothing is 0
   pub no-listing : r .number ≢ 0 → r .bytes ≡ 0
   pub no-class : r .number ≢ 10 → r .class ≡ 0

@@ -3,7 +3,7 @@ ghost use mathlib.Core.Path.{_≡_};
 ghost use Rattle.returned.specs.Returns.{returnedOf, lengths};
 use contract::Answer;
 
-// 0 with a listing of so many bytes, or a refusal's number; with 10 a class that holds a literal that stands in two classes.
+// 0 with a listing of so many bytes, or a refusal's number; with 10 the lowest class that holds a literal that also stands in another.
 #[repr(C)]
 pub struct Returned {
     pub number: u32,

@@ -1,12 +1,11 @@
 use mathlib.Core.Path.{subst}
 use Rattle.judge.specs.declared.Verdict.{Verdict}
-use Rattle.judge.specs.Verdict.{resultOf, Carries}
+use Rattle.judge.specs.Judged.{Judged, judged}
 use lib.ListN.{length}
 use Rattle.query.specs.Settings.{limitsOf}
 use Rattle.prepare.specs.PreparingLaws.{image-refused}
 use Prim.Native.Nat.{_-_}
-use native.Mathlib.Omega.{arith}
-use mathlib.Core.Path.{refl, ap, sym, _∙_}
+use mathlib.Core.Path.{refl, sym, _∙_}
 use borrow.Author.Needs.{needs}
 use Rattle.prepare.proofs.prepare.Statement.{statement}
 use Rattle.prepare.proofs.prepare.Tie as tie
@@ -28,22 +27,24 @@ start-requires c κs =
     let a = c .before .before .before .before .before .before .before .before .before .before .before in
     let s = a .args .s .now in
     let e = c .before .before .before .before .v3 .given .1 in
-    (subst (λ (z : Verdict). Carries s z) e (c .before .before .before .before .before .before .judge .ensures .1), sym (c .before .before .before .before .before .before .judge .ensures .0) ∙ ap (λ (z : Verdict). resultOf s z) e, a .pre .0, a .pre .1)
+    let j : Judged s _ = subst (λ (z : Verdict). Judged s z) (sym (c .before .before .before .before .before .before .judge .ensures) ∙ e) (judged s) in
+    (j .carries, sym (j .result), a .pre .0, a .pre .1)
 
 returns : tie.Need-returns
 returns c =
     let a = c .before .before .before .before .before .before .before .before in
     let s = a .args .s .now in
     let e = c .before .v .given .1 in
-    let h = subst (λ (z : Verdict). Carries s z) e (c .before .before .before .judge .ensures .1) in
-    (image-refused (limitsOf (a .args .lim)) (length (a .args .graph .now)) s (a .args .q) (c .before .v .given .0 .0) (sym (ap (λ (z : Verdict). resultOf s z) e) ∙ c .before .before .before .judge .ensures .0), λ z. absurd (omega (arith, h)), (refl, refl, refl))
+    let j : Judged s _ = subst (λ (z : Verdict). Judged s z) (sym (c .before .before .before .judge .ensures) ∙ e) (judged s) in
+    (image-refused (limitsOf (a .args .lim)) (length (a .args .graph .now)) s (a .args .q) (c .before .v .given .0 .0) (j .result), j .carries, (refl, refl, refl))
 
 returns-2 : tie.Need-returns-2
 returns-2 c =
     let a = c .before .before .before .before .before .before .before .before in
     let s = a .args .s .now in
     let e = c .before .v2 .given .1 in
-    (image-refused (limitsOf (a .args .lim)) (length (a .args .graph .now)) s (a .args .q) 10 (sym (ap (λ (z : Verdict). resultOf s z) e) ∙ c .before .before .before .judge .ensures .0), sym e ∙ c .before .before .before .judge .ensures .2, subst (λ (z : Verdict). Carries s z) e (c .before .before .before .judge .ensures .1), (refl, refl, refl))
+    let j : Judged s _ = subst (λ (z : Verdict). Judged s z) (sym (c .before .before .before .judge .ensures) ∙ e) (judged s) in
+    (image-refused (limitsOf (a .args .lim)) (length (a .args .graph .now)) s (a .args .q) 10 (j .result), j .carries, (refl, refl, refl))
 
 same-length : tie.Need-same-length
 same-length c = search needs
