@@ -11,7 +11,7 @@ own = f'{home}/on/{os.uname().machine}'
 definitions = 'Bytes Image Monomial Transport Action Pool System Pairs Graph Round Run Listing Merge Meaning'.split()
 # groups of test modules, the quickest first; those of crate samples stand in the copy as modules of spec
 samples = 'Samples Slips Bounds Refusals Limits'.split()
-tests = [['Asked', 'Belonging'], ['Asked', 'Edges', 'Found', 'Kept'], ['Asked', 'Slips'], ['Asked', 'Refusals'], ['Asked', 'Limits', 'Bounds'], ['Asked', 'Samples']]
+tests = [['Asked', 'Belonging', 'Lowest'], ['Asked', 'Edges', 'Found', 'Kept'], ['Asked', 'Slips'], ['Asked', 'Refusals'], ['Asked', 'Limits', 'Bounds'], ['Asked', 'Samples']]
 
 
 # PASSED; REFUSED with the tests that fail; FORM where the definition itself no longer stands

@@ -1,5 +1,5 @@
 -- What a verdict says of the image.
-use mathlib.Core.Path.{_≡_, refl, ap, sym}
+use mathlib.Core.Path.{_≡_, refl, sym, subst, _∙_}
 use mathlib.Core.Logic.{_≢_}
 use mathlib.Core.List.{List}
 use Prim.Native.Nat.{ℕ}
@@ -24,13 +24,17 @@ pub record Judged (s : List ℕ) (v : Verdict) : Type 0 where
   pub result : resultOf s v ≡ imageOf s
   pub carries : Carries s v
 
-pub judged : (s : List ℕ) → Judged s (verdictOf s)
-judged s = go (imageOf s) refl
+of-verdict : (s : List ℕ) → Judged s (verdictOf s)
+of-verdict s = go (imageOf s) refl
   where
-    not-ten : (n : ℕ) → Dec (n ≡ 10) → imageOf s ≡ refused n → Judged s (verdictAs (headerOf s) s (refused n))
-    not-ten n (yes q) e = rw q (record { result = sym (rw q at e); carries = refl })
-    not-ten n (no q) e = rw (ne-eqb n 10 q) (record { result = sym e; carries = q })
+    refusal : (n : ℕ) → Dec (n ≡ 10) → imageOf s ≡ refused n → Judged s (verdictAs (headerOf s) s (refused n))
+    refusal n (yes q) e = rw q (record { result = sym (rw q at e); carries = refl })
+    refusal n (no q) e = rw (ne-eqb n 10 q) (record { result = sym e; carries = q })
 
     go : (r : Res Tables) → imageOf s ≡ r → Judged s (verdictAs (headerOf s) s r)
     go (ok t) e = record { result = sym (rw (accepted-tables s t e) at e); carries = loaded s (omega (arith, accepted-length s t e .2)) }
-    go (refused n) e = not-ten n (ℕ-discrete n 10) e
+    go (refused n) e = refusal n (ℕ-discrete n 10) e
+
+-- .. of the answer v, whose case is known to be w
+pub judged : (s : List ℕ) {v w : Verdict} → v ≡ verdictOf s → v ≡ w → Judged s w
+judged s q e = subst (λ (z : Verdict). Judged s z) (sym q ∙ e) (of-verdict s)

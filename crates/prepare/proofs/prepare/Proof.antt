@@ -1,11 +1,8 @@
-use mathlib.Core.Path.{subst}
-use Rattle.judge.specs.declared.Verdict.{Verdict}
-use Rattle.judge.specs.Judged.{Judged, judged}
+use Rattle.judge.specs.Judged.{judged}
 use lib.ListN.{length}
 use Rattle.query.specs.Settings.{limitsOf}
 use Rattle.prepare.specs.PreparingLaws.{image-refused}
-use Prim.Native.Nat.{_-_}
-use mathlib.Core.Path.{refl, sym, _∙_}
+use mathlib.Core.Path.{refl, sym}
 use borrow.Author.Needs.{needs}
 use Rattle.prepare.proofs.prepare.Statement.{statement}
 use Rattle.prepare.proofs.prepare.Tie as tie
@@ -27,7 +24,7 @@ start-requires c κs =
     let a = c .before .before .before .before .before .before .before .before .before .before .before in
     let s = a .args .s .now in
     let e = c .before .before .before .before .v3 .given .1 in
-    let j : Judged s _ = subst (λ (z : Verdict). Judged s z) (sym (c .before .before .before .before .before .before .judge .ensures) ∙ e) (judged s) in
+    let j = judged s (c .before .before .before .before .before .before .judge .ensures) e in
     (j .carries, sym (j .result), a .pre .0, a .pre .1)
 
 returns : tie.Need-returns
@@ -35,7 +32,7 @@ returns c =
     let a = c .before .before .before .before .before .before .before .before in
     let s = a .args .s .now in
     let e = c .before .v .given .1 in
-    let j : Judged s _ = subst (λ (z : Verdict). Judged s z) (sym (c .before .before .before .judge .ensures) ∙ e) (judged s) in
+    let j = judged s (c .before .before .before .judge .ensures) e in
     (image-refused (limitsOf (a .args .lim)) (length (a .args .graph .now)) s (a .args .q) (c .before .v .given .0 .0) (j .result), j .carries, (refl, refl, refl))
 
 returns-2 : tie.Need-returns-2
@@ -43,7 +40,7 @@ returns-2 c =
     let a = c .before .before .before .before .before .before .before .before in
     let s = a .args .s .now in
     let e = c .before .v2 .given .1 in
-    let j : Judged s _ = subst (λ (z : Verdict). Judged s z) (sym (c .before .before .before .judge .ensures) ∙ e) (judged s) in
+    let j = judged s (c .before .before .before .judge .ensures) e in
     (image-refused (limitsOf (a .args .lim)) (length (a .args .graph .now)) s (a .args .q) 10 (j .result), j .carries, (refl, refl, refl))
 
 same-length : tie.Need-same-length

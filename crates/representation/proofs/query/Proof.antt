@@ -1,3 +1,4 @@
+use Rattle.judge.specs.Judged.{judged}
 use Rattle.laws.specs.Accepted.{valid}
 use Rattle.spec.specs.Image.{tablesOf}
 use mathlib.Core.Path.{sym}
@@ -14,8 +15,8 @@ enum-known-v c = search needs
 accepted-requires : tie.Need-accepted-requires
 accepted-requires c κs =
     let s = c .before .before .before .before .before .args .s .now in
-    let j = rw (c .before .v .given .1) at (c .before .before .before .judge .ensures) in
-    (j .1, valid s (tablesOf s) (sym (j .0)))
+    let j = judged s (c .before .before .before .judge .ensures) (c .before .v .given .1) in
+    (j .carries, valid s (tablesOf s) (sym (j .result)))
 
 enum-told : tie.Need-enum-told
 enum-told c = search needs
