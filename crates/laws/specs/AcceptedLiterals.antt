@@ -1,19 +1,18 @@
--- 10: "No literal (operation and value) stands in two classes": the test, its record, and the class that is given with the refusal.
+-- 10: "No literal (operation and value) stands in two classes": the test and its record.
 use mathlib.Core.Path.{_≡_, refl, sym, ap, _∙_}
 use mathlib.Core.Logic.{_↔_}
 use mathlib.Core.Bool.{Bool, true, false}
 use mathlib.Core.List.{List, [], _∷_}
-use Prim.Native.Nat.{ℕ, zero, suc, _+_, _<_, suc-le-suc, zero-le}
+use Prim.Native.Nat.{ℕ, zero, suc, _<_, suc-le-suc, zero-le}
 use native.Mathlib.Nat.{not-suc-le-zero, le-of-suc-le-suc}
 use native.Mathlib.Decide.{decLt}
 use native.Mathlib.Omega.{arith}
 use borrow.Author.Tests.{eqb-true, eq-eqb}
 use lib.Dec.{eqb}
-use lib.ListN.{length, getD, drop, length-drop}
-use lib.Seq.{getD-drop}
+use lib.ListN.{length, getD}
 use Rattle.spec.specs.Bytes.{both, any, Two, sameTwo}
-use Rattle.spec.specs.Image.{Tables, Class, Member, Lit, literalsApart, doubledIn, hasLiteral, theClass, kindOf, membersIn, membersOf}
-use Rattle.spec.specs.Meaning.{In, HoldsDoubled}
+use Rattle.spec.specs.Image.{Tables, Class, Member, Lit, literalsApart, doubledIn, hasLiteral, kindOf, membersIn, membersOf}
+use Rattle.spec.specs.Meaning.{In}
 use Rattle.laws.specs.Tests.{both-true, clash, is-false}
 use Rattle.laws.specs.AcceptedLists.{any-in, any-of, at-in, in-at}
 use Rattle.laws.specs.Valid.{Apart}

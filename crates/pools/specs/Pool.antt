@@ -37,7 +37,7 @@ pub record NodeValid (i : ℕ) (n : Node) : Type 0 where
   pub below : RunsBelow i (n .runs)
   pub joined : Joined (n .runs)
 
--- "The pool: terms, each over earlier ones, no two alike."
+-- the pool: terms, each over earlier ones, no two alike
 pub record PoolValid (p : Pool) : Type 0 where
   pub nodes : (i : ℕ) → i < length p → NodeValid i (nodeAt p i)
   pub apart : (i j : ℕ) → i < length p → j < length p → nodeAt p i ≡ nodeAt p j → i ≡ j

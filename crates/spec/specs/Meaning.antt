@@ -155,7 +155,7 @@ Derivation t h p z = system.Derivation (pairs t) (Move t) h p z
 abbrev pub Places : Tables → ℕ → List Two → List Two → Type 0
 Places t h ps qs = system.Places (pairs t) (Move t) h ps qs
 
--- "it holds the queried pair and, with each pair, every pair of classes that an action of it joins"
+-- "it holds the queried pair (left class, right class) and, with each pair, every pair of classes that an action of it joins"
 abbrev pub Reachable : Tables → Two → Two → Type 0
 Reachable t root p = system.Reachable (pairs t) root p
 

@@ -39,7 +39,7 @@ pub record Making (N : Type 0) : Type 0 where
   -- `intern_action_result`: an operation over runs of terms
   pub actionTerm : Pool → ℕ → List Two → Res Interned
 
--- ---- "Graph. Built in full, it holds the queried pair and, with each pair, every pair of classes that an action of it joins." (`build_graph`)
+-- ---- "Graph. Built in full, it holds the queried pair (left class, right class) and, with each pair, every pair of classes that an action of it joins." (`build_graph`)
 -- "Its n pairs are counted once each"; "a pair beyond 4,096 would be entered": 12
 unfoldable pub enter : {N : Type 0} → (N → N → Bool) → ℕ → List N → N → Res (List N)
 unfolding any
@@ -244,7 +244,7 @@ module _ {N : Type 0} (S : System N) (M : Making N) where
 
 -- ---- what it means, with no run in sight
 module _ {N : Type 0} (S : System N) where
-  -- "it holds the queried pair and, with each pair, every pair of classes that an action of it joins"
+  -- "it holds the queried pair (left class, right class) and, with each pair, every pair of classes that an action of it joins"
   pub data Reachable (root : N) : N → Type 0 where
     queried : {p : N} → p ≡ root → Reachable root p
     joined : {p q : N} → Reachable root p → In q (S .joins p) → Reachable root q
