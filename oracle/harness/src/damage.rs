@@ -1,5 +1,6 @@
 // SPDX-License-Identifier: Apache-2.0
-//! Damaged images: one for each way to break a rule, and some that break two.
+//! Damaged images: one for each way to break a rule, and some that break two; images
+//! about the class of refusal 10.
 
 use crate::r#gen;
 use crate::img::{Class, Img, Member, Operation, Query};
@@ -473,12 +474,12 @@ pub fn doubled() -> Vec<(String, Vec<u8>)> {
     );
     // Equal modulo 4,093, alone and with the operation's number added
     add(
-        "sound: 5, 4,098, 8,191 and 4,294,964,909",
+        "sound: 5, 4,098, 8,191 and 4,294,964,997",
         &[
             &[(0, 5)],
             &[(0, 4_098)],
             &[(0, 8_191)],
-            &[(0, 4_294_964_909)],
+            &[(0, 4_294_964_997)],
         ],
     );
     add(

@@ -188,7 +188,7 @@ fn run(words: &[&str]) -> Result<(), String> {
         }
         ["images", "damaged"] => stdout(&pack(&verdicts::damaged())),
         ["verdicts"] => stdout(verdicts::lines(&unpack(&stdin()?)?).as_bytes()),
-        ["verdicts-with", command, seed, count, family @ ..] => {
+        ["verdicts-with", command, seed, count, family @ ..] if family.len() < 2 => {
             let frames = draw(
                 number(seed)?,
                 number(count)? as usize,
