@@ -38,11 +38,12 @@ bindings:
 	target/staticlib/test
 	cd bindings && cargo test --release --offline --quiet
 
-# The listed Rust and the static library on the same queries, in one process; then the memory of both.
+# The listed Rust and the static library on the same queries, in one process; then the memory of both; then what the test of an image costs by its literals.
 bench:
 	rt staticlib tariff
 	cd bindings && cargo run --release --offline --quiet -p bench --bin bench
 	cd bindings && cargo run --release --offline --quiet -p bench --bin memory
+	cd bindings && cargo run --release --offline --quiet -p bench --bin judging
 
 # A million random and damaged inputs for the static library, each answer and buffer held to the promises and to the model.
 fuzz:

@@ -13,6 +13,8 @@ bin=target/release
 $bin/model --stream <sample/frames.bin | cmp - sample/answers.bin
 cmp sample/frames.bin ../crates/representation/stdin
 $bin/harness pairs sample/frames.bin | cmp - ../crates/representation/stdout
+$bin/harness images damaged | cmp - ../crates/verdict/stdin
+$bin/harness verdicts <../crates/verdict/stdin | cmp - ../crates/verdict/stdout
 for name in E airport night luggage cap zones; do
     $bin/harness bytes <"../examples/$name.txt" | $bin/listed | cmp - "../examples/$name.listing"
 done

@@ -58,7 +58,8 @@ enum tariff_number {
     TARIFF_CHILD = 8,
     /* a best member outside its class, or a best size that is wrong or outside its range */
     TARIFF_BEST = 9,
-    /* a literal stands in two classes; `class_number` is a class that holds it */
+    /* a literal (operation and value) stands in two classes: join class `class_number` with the class
+       that shares the literal */
     TARIFF_LITERAL = 10,
     /* a queried class is not in the image */
     TARIFF_QUERY = 11,
@@ -74,7 +75,8 @@ struct tariff_returned {
     uint32_t number;
     /* the listing's length; 0 with a refusal */
     size_t bytes;
-    /* with TARIFF_LITERAL; else 0 */
+    /* with TARIFF_LITERAL the lowest-numbered class holding a literal that also stands in another class;
+       else 0 */
     size_t class_number;
 };
 

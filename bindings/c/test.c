@@ -1,5 +1,5 @@
 /* SPDX-License-Identifier: Apache-2.0 */
-/* The C interface on image E: listings at four budgets, refusals 1, 2, 10, 11 and 14, and what each leaves in the buffers. */
+/* The C interface on image E: listings at four budgets, refusals 1, 2, 10, 11 and 14, and what each leaves in the buffers; the class with 10 on an image of literals. */
 #include <stdio.h>
 #include <string.h>
 
@@ -22,6 +22,22 @@ static const uint8_t image[125] = {
     0, 1, 0, 0, 0, 1,
     0, 0, 0, 0, 0, 1,
     0, 0, 0, 0, 0, 1,
+};
+
+/* operation 0 Lit; classes 0 to 4 with the literals 1, 10, 20, 20, 10 */
+static const uint8_t clashes[117] = {
+    0, 0, 0, 113, 1, 0, 1, 0, 5, 0, 5, 0, 0,
+    9, 0, 255, 255,
+    0, 0, 0, 1, 0, 0, 0, 0, 0, 1,
+    0, 1, 0, 1, 0, 1, 0, 0, 0, 1,
+    0, 2, 0, 1, 0, 2, 0, 0, 0, 1,
+    0, 3, 0, 1, 0, 3, 0, 0, 0, 1,
+    0, 4, 0, 1, 0, 4, 0, 0, 0, 1,
+    0, 0, 0, 0, 0, 1, 0, 0, 0, 0,
+    0, 0, 0, 0, 0, 10, 0, 0, 0, 0,
+    0, 0, 0, 0, 0, 20, 0, 0, 0, 0,
+    0, 0, 0, 0, 0, 20, 0, 0, 0, 0,
+    0, 0, 0, 0, 0, 10, 0, 0, 0, 0,
 };
 
 #define MERGED "0 lit 0 5\n1 lit 0 7\n2 variants 1:1 0:1\n3 op 1 0:1 2:1\n"
@@ -67,9 +83,9 @@ static void listed(uint32_t budget, const char *text)
     expect(all(&work, sizeof work, 0), "work buffers cleared");
 }
 
-static void refused(struct tariff_returned r, uint32_t number, const char *what)
+static void refused(struct tariff_returned r, uint32_t number, size_t class_number, const char *what)
 {
-    expect(r.number == number && r.bytes == 0, what);
+    expect(r.number == number && r.bytes == 0 && r.class_number == class_number, what);
     expect(all(out, sizeof out, 0x5a), "output untouched by a refusal");
     expect(all(&work, sizeof work, number == TARIFF_WORK_SHORT ? 0xa5 : 0), "work buffers after a refusal");
 }
@@ -91,21 +107,23 @@ int main(void)
                 work.graph, TARIFF_GRAPH, work.pairs, TARIFF_PAIRS, work.work, TARIFF_WORK,
                 work.flow, TARIFF_FLOW, work.terms, TARIFF_TERMS, work.runs, TARIFF_RUNS - 1,
                 out, sizeof out),
-        TARIFF_WORK_SHORT, "refusal 1: a work buffer one short");
+        TARIFF_WORK_SHORT, 0, "refusal 1: a work buffer one short");
     soil();
-    refused(tariff_merge_in(&work, image, sizeof image - 1, 2, 3, 14, out, sizeof out), TARIFF_LENGTH, "refusal 2: a cut image");
+    refused(tariff_merge_in(&work, image, sizeof image - 1, 2, 3, 14, out, sizeof out), TARIFF_LENGTH, 0, "refusal 2: a cut image");
     soil();
-    refused(tariff_merge_in(&work, image, sizeof image, 2, 4, 14, out, sizeof out), TARIFF_QUERY, "refusal 11: class 4");
+    refused(tariff_merge_in(&work, image, sizeof image, 2, 4, 14, out, sizeof out), TARIFF_QUERY, 0, "refusal 11: class 4");
     soil();
-    refused(tariff_merge_in(&work, image, sizeof image, 2, 3, 14, out, 93), TARIFF_OUTPUT_SHORT, "refusal 14: one byte too few");
+    refused(tariff_merge_in(&work, image, sizeof image, 2, 3, 14, out, 93), TARIFF_OUTPUT_SHORT, 0, "refusal 14: one byte too few");
 
     uint8_t doubled[sizeof image];
     memcpy(doubled, image, sizeof image);
     doubled[76] = 5;
     soil();
-    struct tariff_returned r = tariff_merge_in(&work, doubled, sizeof doubled, 2, 3, 14, out, sizeof out);
-    refused(r, TARIFF_LITERAL, "refusal 10: literal 5 in classes 0 and 1");
-    expect(r.class_number < 2, "refusal 10 with a class that holds the literal");
+    refused(tariff_merge_in(&work, doubled, sizeof doubled, 2, 3, 14, out, sizeof out), TARIFF_LITERAL, 0,
+        "refusal 10: literal 5 in classes 0 and 1");
+    soil();
+    refused(tariff_merge_in(&work, clashes, sizeof clashes, 0, 1, 14, out, sizeof out), TARIFF_LITERAL, 1,
+        "refusal 10: literal 20 in classes 2 and 3, literal 10 in classes 1 and 4");
 
     if (!failed)
         puts("C interface: ok");

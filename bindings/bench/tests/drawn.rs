@@ -3,7 +3,9 @@
 
 use harness::judge::Judge;
 use harness::{damage, draw, limits};
-use tariff_merge::Merger;
+use model::image::verdict;
+use model::slip::Slip;
+use tariff_merge::{Merger, Refusal};
 
 fn compare(frames: &[Vec<u8>]) {
     let answers = Judge::parse("model").unwrap().answers(frames).unwrap();
@@ -19,7 +21,12 @@ fn compare(frames: &[Vec<u8>]) {
         let left = u16::from_be_bytes([a, b]);
         let right = u16::from_be_bytes([c, d]);
         let budget = u32::from_be_bytes([e, f, g, h]);
-        let printed = match merger.merge(image, left, right, budget) {
+        let merged = merger.merge(image, left, right, budget);
+        if let Err(Refusal::Literal { class }) = merged {
+            let line = format!("refused 10 class {class}");
+            assert_eq!(line, verdict(image, Slip::None), "frame {at}");
+        }
+        let printed = match merged {
             Ok(listing) => listing.bytes().to_vec(),
             Err(refusal) => format!("refused {}\n", refusal.number()).into_bytes(),
         };
@@ -37,6 +44,17 @@ fn damaged_images() {
     compare(&draw(6, 1_000, Some("damaged")));
     compare(
         &damage::small()
+            .into_iter()
+            .map(|case| case.1)
+            .collect::<Vec<_>>(),
+    );
+}
+
+#[test]
+fn doubled_literals() {
+    compare(&draw(7, 1_000, Some("doubled")));
+    compare(
+        &damage::doubled()
             .into_iter()
             .map(|case| case.1)
             .collect::<Vec<_>>(),

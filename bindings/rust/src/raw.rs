@@ -13,7 +13,8 @@ pub const RUNS: usize = 1_024;
 /// there, and the listing is written by recursion.
 pub const STACK: usize = 6 << 20;
 
-/// 0 with the listing's length, or a refusal's number; with 10 a class.
+/// 0 with the listing's length, or a refusal's number; with 10 the lowest-numbered class holding a
+/// literal that also stands in another class.
 #[repr(C)]
 #[derive(Clone, Copy, Debug, PartialEq, Eq)]
 pub struct Returned {

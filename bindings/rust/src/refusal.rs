@@ -25,7 +25,7 @@ pub enum Refusal {
     Child,
     /// 9
     Best,
-    /// 10, with a class that holds a literal that stands in two classes.
+    /// 10, with the lowest-numbered class holding a literal that also stands in another class.
     Literal { class: usize },
     /// 11
     Query,
@@ -121,7 +121,8 @@ impl fmt::Display for Refusal {
             Refusal::Literal { class } => {
                 return write!(
                     f,
-                    "a literal stands in two classes, one of them class {class}; join the classes"
+                    "a literal stands in two classes, and class {class} is the lowest class that holds \
+                     such a literal; join it with the class that shares the literal"
                 );
             }
             Refusal::Query => {

@@ -196,7 +196,7 @@ fn refusals_are_typed() {
         assert_eq!(merger.merge(&changed(at, byte), 2, 3, 14), Err(refusal));
     }
     let doubled = merger.merge(&changed(76, 5), 2, 3, 14);
-    assert!(matches!(doubled, Err(Refusal::Literal { class: 0 | 1 })));
+    assert_eq!(doubled, Err(Refusal::Literal { class: 0 }));
     assert_eq!(merger.merge(IMAGE, 4, 3, 14), Err(Refusal::Query));
     assert_eq!(merger.merge(IMAGE, 2, u16::MAX, 14), Err(Refusal::Query));
     let mut short = Merger::with_output(93);
@@ -208,6 +208,49 @@ fn refusals_are_typed() {
     );
     let message = Refusal::Literal { class: 7 }.to_string();
     assert!(message.starts_with("refused 10: ") && message.contains("class 7"));
+    assert!(message.contains("join it with the class that shares the literal"));
+}
+
+/// An image with one operation, Lit, and a class for each value.
+fn literals(values: &[u32]) -> Vec<u8> {
+    let classes = values.len() as u16;
+    let mut tables = vec![1];
+    for count in [1, classes, classes, 0] {
+        tables.extend(count.to_be_bytes());
+    }
+    tables.extend([9, 0, 255, 255]);
+    for class in 0..classes {
+        // first member, count, best member; best size
+        tables.extend([class, 1, class].map(u16::to_be_bytes).as_flattened());
+        tables.extend(1u32.to_be_bytes());
+    }
+    for value in values {
+        tables.extend(0u16.to_be_bytes());
+        tables.extend(value.to_be_bytes());
+        tables.extend([0; 4]);
+    }
+    let mut image = (tables.len() as u32).to_be_bytes().to_vec();
+    image.extend(tables);
+    image
+}
+
+#[test]
+fn the_lowest_class_with_a_doubled_literal() {
+    let mut merger = Merger::new();
+    for (values, class) in [
+        // two clashes, the lower class with the literal that is met second
+        (&[1, 10, 20, 20, 4, 10][..], 1),
+        (&[1, 20, 10, 10, 4, 20], 1),
+        (&[20, 1, 20, 10, 10], 0),
+        // three holders
+        (&[1, 2, 7, 3, 7, 7], 2),
+        (&[1, 7, 9, 9, 7, 3, 7], 1),
+        (&[1, 2, 3, 0, 0], 3),
+    ] {
+        let refused = merger.merge(&literals(values), 0, 1, 14);
+        assert_eq!(refused, Err(Refusal::Literal { class }), "{values:?}");
+    }
+    assert!(merger.merge(&literals(&[1, 4_094, 0]), 0, 1, 14).is_ok());
 }
 
 #[test]

@@ -1,5 +1,6 @@
 // SPDX-License-Identifier: Apache-2.0
-//! Damaged images: one for each way to break a rule, and some that break two.
+//! Damaged images: one for each way to break a rule, and some that break two; images
+//! about the class of refusal 10.
 
 use crate::r#gen;
 use crate::img::{Class, Img, Member, Operation, Query};
@@ -339,5 +340,222 @@ pub fn more() -> Vec<Vec<u8>> {
             }));
         }
     }
+    found
+}
+
+/// A class of literals, each an operation and a value.
+type Literals<'a> = &'a [(usize, u32)];
+
+/// Operations 0 Lit, 1 Lit, 2 Plain0, 3 Plain1; the classes hold these literals.
+fn of_literals(classes: &[Literals]) -> Img {
+    let op = |kind| Operation {
+        kind,
+        identity: None,
+    };
+    let class = |literals: &Literals| {
+        let members = literals.iter().map(|&(op, value)| r#gen::lit(op, value));
+        r#gen::class(members.collect())
+    };
+    let mut img = Img {
+        ops: [9, 9, 0, 1].map(op).to_vec(),
+        classes: classes.iter().map(class).collect(),
+    };
+    img.order();
+    assert!(img.settle());
+    img
+}
+
+/// `classes` classes with `each` literals of their own: class c has 1,000 c and what follows.
+fn many(classes: usize, each: usize) -> Img {
+    let class = |c: usize| (0..each).map(|k| (0, (1_000 * c + k) as u32)).collect();
+    let classes: Vec<Vec<(usize, u32)>> = (0..classes).map(class).collect();
+    of_literals(&classes.iter().map(Vec::as_slice).collect::<Vec<_>>())
+}
+
+/// Frames about rule 10: the number and the class that each is refused with, or `sound`,
+/// and why.
+pub fn doubled() -> Vec<(String, Vec<u8>)> {
+    let query = Query {
+        left: 0,
+        right: 1,
+        budget: 20,
+    };
+    let mut found: Vec<(String, Vec<u8>)> = Vec::new();
+    let mut add = |what: &str, classes: &[Literals]| {
+        let query = Query {
+            right: usize::from(classes.len() > 1),
+            ..query
+        };
+        found.push((what.to_string(), of_literals(classes).frame(&query)));
+    };
+    // Operation 0 alone: a, b .. stand once.
+    let [a, b, c, d, e, f] = [1, 2, 3, 4, 5, 6].map(|value| (0, value));
+    let [x, y, z] = [20, 10, 30].map(|value| (0, value));
+    add(
+        "10 class 1: 20 in 2 and 3, 10 in 1 and 5",
+        &[&[a], &[y], &[x], &[x], &[b], &[y]],
+    );
+    add(
+        "10 class 1: 10 in 2 and 3, 20 in 1 and 5",
+        &[&[a], &[x], &[y], &[y], &[b], &[x]],
+    );
+    add(
+        "10 class 0: 20 in 0 and 2, 10 in 3 and 4",
+        &[&[x], &[a], &[x], &[y], &[y]],
+    );
+    add(
+        "10 class 1: three in one another, the lowest met last",
+        &[&[a], &[x], &[y], &[z], &[z], &[y], &[x]],
+    );
+    add(
+        "10 class 2: three crossed, the lowest met second",
+        &[&[a], &[b], &[y], &[x], &[x], &[z], &[y], &[z]],
+    );
+    add(
+        "10 class 0: two in the same two classes, among others",
+        &[&[a, x, b, y], &[c], &[y, d, x]],
+    );
+    add(
+        "10 class 1: the lower class with its second literal",
+        &[&[a], &[b, y], &[x, c], &[d, x], &[y]],
+    );
+    // Three holders and more
+    add(
+        "10 class 2: 20 in 2, 4 and 5",
+        &[&[a], &[b], &[x], &[c], &[x], &[x]],
+    );
+    add(
+        "10 class 1: 20 in 1, 4 and 6, 10 in 2 and 3",
+        &[&[a], &[x], &[y], &[y], &[x], &[b], &[x]],
+    );
+    add("10 class 0: 20 in every class", &[&[x], &[x], &[x], &[x]]);
+    // Several times in one class
+    add(
+        "sound: 20 twice in class 1, three times 10 in class 2",
+        &[&[a], &[x, x], &[y, b, y, y], &[c]],
+    );
+    add(
+        "10 class 2: 20 twice in 2 and once in 4",
+        &[&[a], &[b], &[x, x], &[c], &[x]],
+    );
+    add(
+        "10 class 1: 20 twice in 3 and once in 1",
+        &[&[a], &[x], &[b], &[x, x]],
+    );
+    add(
+        "10 class 2: 10 twice in 0 alone, 20 in 2 and 3",
+        &[&[y, y], &[a], &[x], &[x]],
+    );
+    add(
+        "10 class 1: 20 in 1 and 2, 10 twice in 4 alone",
+        &[&[a], &[x], &[x], &[b], &[y, y]],
+    );
+    // Operation and value
+    let other = |(_, value)| (1, value);
+    add(
+        "sound: 20 of both operations, in two classes and in one",
+        &[&[x], &[other(x)], &[a], &[y, other(y)]],
+    );
+    add(
+        "10 class 1: 20 of operation 0 in 0, of operation 1 in 1 and 3",
+        &[&[x], &[other(x)], &[a], &[other(x)]],
+    );
+    add(
+        "10 class 1: 20 of operation 0 in 2 and 3, 10 of operation 1 in 1 and 4",
+        &[&[a], &[other(y)], &[x], &[x], &[other(y)]],
+    );
+    add(
+        "10 class 0: value 0 in 0 and 2",
+        &[&[(0, 0)], &[(1, 0)], &[(0, 0), a]],
+    );
+    add(
+        "10 class 1: value 4,294,967,295 in 1 and 2",
+        &[&[(0, u32::MAX - 1)], &[(1, u32::MAX)], &[(1, u32::MAX)]],
+    );
+    // Equal modulo 4,093, alone and with the operation's number added
+    add(
+        "sound: 5, 4,098, 8,191 and 4,294,964,997",
+        &[
+            &[(0, 5)],
+            &[(0, 4_098)],
+            &[(0, 8_191)],
+            &[(0, 4_294_964_997)],
+        ],
+    );
+    add(
+        "sound: 5 of operation 0, 4 and 4,097 of operation 1",
+        &[&[(0, 5)], &[(1, 4)], &[(1, 4_097)]],
+    );
+    add(
+        "10 class 2: 4,098 in 2 and 4 among values equal modulo 4,093",
+        &[
+            &[(0, 5)],
+            &[(1, 4)],
+            &[(0, 4_098)],
+            &[(0, 8_191)],
+            &[(0, 4_098)],
+        ],
+    );
+    // First and last
+    add(
+        "10 class 0: 20 in the first and the last of 8",
+        &[&[x], &[a], &[b], &[c], &[d], &[e], &[f], &[x]],
+    );
+    add(
+        "10 class 6: 20 in the last two of 8",
+        &[&[a], &[b], &[c], &[d], &[e], &[f], &[x], &[x]],
+    );
+    add("10 class 0: 20 in both of 2 classes", &[&[x], &[x]]);
+    add("sound: one class, 20 twice", &[&[x, x]]);
+    // Other members
+    let mut img = of_literals(&[&[a], &[(0, 0)], &[b], &[c]]);
+    for class in [0, 2, 3] {
+        img.classes[class].members.push(r#gen::over(2, &[]));
+    }
+    found.push((
+        "sound: Plain0, whose literal field is 0, in three classes".to_string(),
+        img.frame(&query),
+    ));
+    img.classes[1].members.push(r#gen::over(3, &[3]));
+    img.classes[3].members.insert(0, r#gen::lit(0, 0));
+    img.classes[3].best = 2;
+    found.push((
+        "10 class 1: value 0 in 1 and 3, Plain0 in 0, 2 and 3".to_string(),
+        img.frame(&query),
+    ));
+    // Large tables
+    let mut put = |what: &str, mut img: Img, literals: &[(usize, usize, u32)]| {
+        for &(class, at, value) in literals {
+            img.classes[class].members[at].literal = value;
+        }
+        found.push((what.to_string(), img.frame(&query)));
+    };
+    put(
+        "10 class 0: the first and the last of 256",
+        many(256, 1),
+        &[(0, 0, 7), (255, 0, 7)],
+    );
+    put(
+        "10 class 254: the last two of 256",
+        many(256, 1),
+        &[(254, 0, 7), (255, 0, 7)],
+    );
+    put(
+        "10 class 100: 1,024 members, 10 in 100 and 255 around 20 in 120 and 121",
+        many(256, 4),
+        &[(100, 3, 10), (255, 3, 10), (120, 3, 20), (121, 0, 20)],
+    );
+    // Two rules each
+    let mut img = of_literals(&[&[y], &[x], &[x], &[y], &[a]]);
+    let outside = Query { left: 5, ..query };
+    found.push((
+        "10 class 0: before 11, class 5 of 5".to_string(),
+        img.frame(&outside),
+    ));
+    img.classes[4].size = 2;
+    found.push((
+        "9: before 10, a late best size".to_string(),
+        img.frame(&outside),
+    ));
     found
 }

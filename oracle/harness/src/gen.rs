@@ -6,11 +6,12 @@ use std::collections::HashSet;
 
 use model::slip::Slip;
 
+use crate::doubled;
 use crate::img::{Class, Img, Member, Operation, Query};
 use crate::limits;
 use crate::rng::Rng;
 
-pub const FAMILIES: [(&str, usize); 19] = [
+pub const FAMILIES: [(&str, usize); 20] = [
     ("mixed", 30),
     ("twins", 24),
     ("ties", 10),
@@ -32,6 +33,8 @@ pub const FAMILIES: [(&str, usize); 19] = [
     // The sample's second part.
     ("literals", 4),
     ("reverse", 4),
+    // Mostly refused by 10: drawn by name only.
+    ("doubled", 0),
 ];
 
 /// The families of the sample's first part.
@@ -787,6 +790,9 @@ fn measure(img: &Img, left: usize, right: usize) -> Option<(u64, u64)> {
 
 /// Some queries to one image of a family.
 pub fn frames(rng: &mut Rng, family: &str) -> Vec<Vec<u8>> {
+    if family == "doubled" {
+        return vec![doubled::frame(rng)];
+    }
     let img = image(rng, if family == "damaged" { "mixed" } else { family });
     let n = img.classes.len();
     let last = [

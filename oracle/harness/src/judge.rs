@@ -41,7 +41,8 @@ pub fn unpack(bytes: &[u8]) -> Result<Vec<Vec<u8>>, String> {
     Ok(items)
 }
 
-fn call(line: &str, input: &[u8]) -> Result<Vec<u8>, String> {
+/// What a command says to an input.
+pub fn call(line: &str, input: &[u8]) -> Result<Vec<u8>, String> {
     let mut child = Command::new("sh")
         .args(["-c", line])
         .stdin(Stdio::piped())

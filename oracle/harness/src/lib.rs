@@ -3,6 +3,7 @@
 
 pub mod budgets;
 pub mod damage;
+pub mod doubled;
 pub mod drive;
 pub mod r#gen;
 pub mod img;
@@ -14,6 +15,7 @@ pub mod rng;
 pub mod sample;
 pub mod small;
 pub mod text;
+pub mod verdicts;
 
 use rng::Rng;
 

@@ -6,7 +6,7 @@ use std::io::{Read, Write};
 use harness::drive::{Counts, compare};
 use harness::img::{Img, Query};
 use harness::judge::{Judge, pack, unpack};
-use harness::{budgets, damage, draw, limits, pairs, plans, sample, small, text};
+use harness::{budgets, damage, draw, limits, pairs, plans, sample, small, text, verdicts};
 use model::slip::{SLIPS, Slip};
 
 fn stdin() -> Result<Vec<u8>, String> {
@@ -185,6 +185,17 @@ fn run(words: &[&str]) -> Result<(), String> {
         ["frames", "damaged"] => {
             let frames: Vec<Vec<u8>> = damage::small().into_iter().map(|case| case.1).collect();
             stdout(&pack(&frames))
+        }
+        ["images", "damaged"] => stdout(&pack(&verdicts::damaged())),
+        ["verdicts"] => stdout(verdicts::lines(&unpack(&stdin()?)?).as_bytes()),
+        ["verdicts-with", command, seed, count, family @ ..] if family.len() < 2 => {
+            let frames = draw(
+                number(seed)?,
+                number(count)? as usize,
+                family.first().copied(),
+            );
+            print!("{}", verdicts::compare(command, &verdicts::images(frames))?);
+            Ok(())
         }
         ["compare", a, b, path] => compare_frames(a, b, &unpack(&read(path)?)?),
         ["answer", judge] => stdout(&pack(&Judge::parse(judge)?.answers(&unpack(&stdin()?)?)?)),

@@ -4,9 +4,10 @@
 use harness::drive::{Counts, compare};
 use harness::img::Img;
 use harness::judge::{Judge, unpack};
-use harness::{damage, draw, limits, pairs, plans, sample, small, text};
+use harness::{damage, draw, limits, pairs, plans, sample, small, text, verdicts};
 use model::belongs::{Belongs, Reading};
 use model::brute::Derivations;
+use model::image::{Image, LIT, lowest_doubled, tables, verdict};
 use model::slip::{SLIPS, Slip};
 
 fn file(name: &str) -> String {
@@ -124,6 +125,134 @@ fn damaged_images_are_refused_as_they_say() {
             assert!(!answer.starts_with("refused"), "{what}");
         } else {
             assert_eq!(answer, format!("refused {number}\n"), "{what}");
+        }
+    }
+}
+
+/// The class at the head of a frame about rule 10 is its class.
+#[test]
+fn doubled_literals_are_refused_as_they_say() {
+    for (what, frame) in damage::doubled() {
+        let head = what.split(':').next().unwrap();
+        let line = match head {
+            "sound" => "accepted".to_string(),
+            _ => format!("refused {head}"),
+        };
+        let image = &frame[..frame.len() - 8];
+        assert_eq!(verdict(image, Slip::None), line, "{what}");
+        let answer = model::answer(&frame, Slip::None);
+        match head.split(' ').next().unwrap() {
+            "sound" => assert!(!answer.starts_with("refused"), "{what}"),
+            number => assert_eq!(answer, format!("refused {number}\n"), "{what}"),
+        }
+    }
+}
+
+/// Operation, value and class of each literal, in stored order.
+fn literals(image: &Image) -> Vec<(usize, u32, usize)> {
+    let mut found = Vec::new();
+    for class in 0..image.classes.len() {
+        for member in image.members_of(class) {
+            if image.kind_of(member) == LIT {
+                found.push((member.operation, member.literal, class));
+            }
+        }
+    }
+    found
+}
+
+type Rule = fn(&Image) -> Option<usize>;
+
+/// Wrong rules for the class of refusal 10.
+const WRONG: [(&str, Rule); 7] = [
+    ("the first clash met", |image| {
+        clashes(image).first().map(|c| c.0)
+    }),
+    ("the last clash met", |image| {
+        clashes(image).last().map(|c| c.0)
+    }),
+    ("the higher holder", |image| {
+        clashes(image).iter().map(|c| c.1).min()
+    }),
+    ("the highest class", |image| {
+        clashes(image).iter().map(|c| c.1).max()
+    }),
+    ("the least literal", |image| {
+        let least = clashes(image).into_iter().min_by_key(|c| c.2);
+        least.map(|c| c.0)
+    }),
+    ("a literal by value alone", |image| {
+        let all = literals(image);
+        let doubled = |one: &&(usize, u32, usize)| all.iter().any(|o| o.1 == one.1 && o.2 != one.2);
+        all.iter().filter(doubled).map(|one| one.2).min()
+    }),
+    ("a literal twice in one class", |image| {
+        let all = literals(image);
+        let doubled = |one: &&(usize, u32, usize)| {
+            let same = all.iter().filter(|o| (o.0, o.1) == (one.0, one.1));
+            same.count() > 1
+        };
+        all.iter().filter(doubled).map(|one| one.2).min()
+    }),
+];
+
+/// The clashes as they are met in stored order: the first holder, the class that meets
+/// it, and the literal.
+fn clashes(image: &Image) -> Vec<(usize, usize, (usize, u32))> {
+    let all = literals(image);
+    let met = |&(operation, value, class): &(usize, u32, usize)| {
+        let first = all.iter().find(|o| (o.0, o.1) == (operation, value))?.2;
+        (first != class).then_some((first, class, (operation, value)))
+    };
+    all.iter().filter_map(met).collect()
+}
+
+/// The rule once more, class by class.
+fn by_force(image: &Image) -> Option<usize> {
+    let all = literals(image);
+    let doubled = |one: &(usize, u32, usize)| {
+        all.iter()
+            .any(|o| (o.0, o.1) == (one.0, one.1) && o.2 != one.2)
+    };
+    (0..image.classes.len()).find(|&class| all.iter().any(|o| o.2 == class && doubled(o)))
+}
+
+/// The hand-made images and the drawn ones tell the rule from each wrong one.
+#[test]
+fn doubled_literals_catch_wrong_rules() {
+    let count = if cfg!(debug_assertions) { 200 } else { 1_000 };
+    let drawn = verdicts::images(draw(12, count, Some("doubled")));
+    let made = verdicts::damaged().split_off(damage::small().len());
+    // Of the hand-made images one breaks rule 9.
+    for (images, broken, least) in [(made, 1, 2), (drawn, 0, count / 20)] {
+        let (all, mut sound) = (images.len(), 0);
+        let mut caught = [0; WRONG.len()];
+        let mut met = [0; 3];
+        for bytes in images {
+            let Ok(image) = tables(&bytes, Slip::None) else {
+                continue;
+            };
+            sound += 1;
+            let class = lowest_doubled(&image);
+            assert_eq!(class, by_force(&image));
+            let line = class.map_or("accepted".to_string(), |c| format!("refused 10 class {c}"));
+            assert_eq!(verdict(&bytes, Slip::None), line);
+            for (caught, (_, wrong)) in caught.iter_mut().zip(WRONG) {
+                *caught += usize::from(wrong(&image) != class);
+            }
+            let whole = [
+                class.is_none(),
+                image.classes.len() == 256,
+                image.members.len() == 1_024,
+            ];
+            for (met, holds) in met.iter_mut().zip(whole) {
+                *met += usize::from(holds);
+            }
+        }
+        assert_eq!(sound + broken, all);
+        assert!(met.iter().all(|met| *met > 0), "{met:?}");
+        for (caught, (name, _)) in caught.iter().zip(WRONG) {
+            assert!(*caught >= least, "{name}: caught {caught} times");
         }
     }
 }

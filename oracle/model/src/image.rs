@@ -2,6 +2,8 @@
 //! "The image" and refusals 2 to 11 of "Table of refusals". The first broken rule
 //! in the order of the table decides, over the whole image.
 
+use std::collections::{BTreeMap, BTreeSet};
+
 use crate::slip::Slip;
 
 /// A number of the table of refusals.
@@ -104,8 +106,8 @@ fn long(bytes: &[u8], at: usize) -> u32 {
     number(&bytes[at..at + 4])
 }
 
-/// The image, or the first refusal among 2 to 10.
-pub fn accept(bytes: &[u8], slip: Slip) -> Result<Image, Refusal> {
+/// The tables, or the first refusal among 2 to 9.
+pub fn tables(bytes: &[u8], slip: Slip) -> Result<Image, Refusal> {
     if bytes.len() < 13 || long(bytes, 0) as usize != bytes.len() - 4 {
         return Err(Refusal(2));
     }
@@ -163,12 +165,11 @@ pub fn accept(bytes: &[u8], slip: Slip) -> Result<Image, Refusal> {
             })
             .collect(),
     };
-    let rules: [(u8, fn(&Image, Slip) -> bool); 5] = [
+    let rules: [(u8, fn(&Image, Slip) -> bool); 4] = [
         (6, operations_hold),
         (7, spans_hold),
         (8, children_hold),
         (9, best_members_hold),
-        (10, literals_hold),
     ];
     for (refusal, holds) in rules {
         if !holds(&image, slip) {
@@ -176,6 +177,16 @@ pub fn accept(bytes: &[u8], slip: Slip) -> Result<Image, Refusal> {
         }
     }
     Ok(image)
+}
+
+/// The image, or the first refusal among 2 to 10.
+pub fn accept(bytes: &[u8], slip: Slip) -> Result<Image, Refusal> {
+    let image = tables(bytes, slip)?;
+    if literals_hold(&image, slip) {
+        Ok(image)
+    } else {
+        Err(Refusal(10))
+    }
 }
 
 fn operations_hold(image: &Image, slip: Slip) -> bool {
@@ -281,4 +292,37 @@ fn literals_hold(image: &Image, slip: Slip) -> bool {
         let same = (two[0].0, two[0].1) == (two[1].0, two[1].1);
         !same || (two[0].2 == two[1].2 && slip != Slip::LiteralTwiceInClass)
     })
+}
+
+/// With refusal 10: "the lowest-numbered class holding a literal that also stands in
+/// another class".
+pub fn lowest_doubled(image: &Image) -> Option<usize> {
+    let mut holders: BTreeMap<(usize, u32), BTreeSet<usize>> = BTreeMap::new();
+    for class in 0..image.classes.len() {
+        for member in image.members_of(class) {
+            if image.kind_of(member) == LIT {
+                let literal = (member.operation, member.literal);
+                holders.entry(literal).or_default().insert(class);
+            }
+        }
+    }
+    let doubled = holders.into_values().filter(|classes| classes.len() > 1);
+    doubled.flatten().min()
+}
+
+/// The line that program `verdict` prints to an image: `accepted`, `refused` and its
+/// number, or `refused 10 class` and the class. A slip that refuses where no literal
+/// stands in two classes has no class to give.
+pub fn verdict(bytes: &[u8], slip: Slip) -> String {
+    let image = match tables(bytes, slip) {
+        Ok(image) => image,
+        Err(Refusal(number)) => return format!("refused {number}"),
+    };
+    if literals_hold(&image, slip) {
+        return "accepted".to_string();
+    }
+    match lowest_doubled(&image) {
+        Some(class) => format!("refused 10 class {class}"),
+        None => "refused 10".to_string(),
+    }
 }

@@ -1,15 +1,19 @@
 // SPDX-License-Identifier: Apache-2.0
-//! Random and mutated inputs for the static library: `fuzz SEED COUNT`.
+//! Random and mutated inputs for the static library: `fuzz SEED COUNT [FAMILY]`.
 //!
 //! Each call gets an image that is random bytes, a drawn frame, or a drawn frame with bytes changed, cut off or added,
-//! with a small budget. All buffers hold garbage before the call, and now and then one is too short. Afterwards: the number
-//! is in the table; the output is untouched on a refusal, and untouched behind the listing otherwise; every work buffer is
-//! zero, or as it was where one was too short; and the answer is the model's.
+//! with a small budget. With a family every call gets a drawn frame of it, also a large one; those of family `doubled` are
+//! changed rarely, so that most reach rule 10. All buffers hold garbage before the call, and now and then one is too short.
+//! Afterwards: the number is in the table; the output is untouched on a refusal, and untouched behind the listing otherwise;
+//! every work buffer is zero, or as it was where one was too short; and the answer is the model's, with 10 also the class,
+//! which is 0 with every other number.
 
 use std::collections::BTreeMap;
 
 use harness::draw;
+use harness::r#gen::{self, FAMILIES};
 use harness::rng::Rng;
+use model::image::{lowest_doubled, tables};
 use model::slip::Slip;
 use tariff_merge::raw;
 
@@ -100,20 +104,56 @@ impl Buffers {
     }
 }
 
+/// Drawn frames.
+enum Drawn {
+    /// Small ones of all families, each taken again and again.
+    Small(Vec<Vec<u8>>),
+    /// Of one family, drawn as they are taken.
+    Family(&'static str, Rng, Vec<Vec<u8>>),
+}
+
+impl Drawn {
+    fn new(seed: u64, family: Option<&'static str>) -> Drawn {
+        if let Some(name) = family {
+            return Drawn::Family(name, Rng::new(seed), Vec::new());
+        }
+        let mut frames = draw(seed, 4_000, None);
+        frames.retain(|frame| (8..700).contains(&frame.len()));
+        Drawn::Small(frames)
+    }
+
+    fn take(&mut self, rng: &mut Rng) -> Vec<u8> {
+        match self {
+            Drawn::Small(frames) => rng.pick(frames).clone(),
+            Drawn::Family(name, own, frames) => loop {
+                match frames.pop() {
+                    Some(frame) if frame.len() >= 8 => return frame,
+                    Some(_) => {}
+                    None => *frames = r#gen::frames(own, name),
+                }
+            },
+        }
+    }
+}
+
 /// An image, and a query of eight bytes.
-fn input(rng: &mut Rng, drawn: &[Vec<u8>]) -> (Vec<u8>, [u8; 8]) {
+fn input(rng: &mut Rng, drawn: &mut Drawn) -> (Vec<u8>, [u8; 8]) {
     let mut query = [0; 8];
     let mut image: Vec<u8>;
-    if rng.below(8) == 0 {
+    if matches!(drawn, Drawn::Small(_)) && rng.below(8) == 0 {
         image = (0..rng.below(80)).map(|_| rng.below(256) as u8).collect();
         query.fill_with(|| rng.below(4) as u8);
     } else {
-        let frame = &drawn[rng.below(drawn.len())];
+        let frame = drawn.take(rng);
         let (front, last) = frame.split_last_chunk::<8>().expect("a query");
         image = front.to_vec();
         query = *last;
     }
-    for _ in 0..rng.below(4) {
+    let changes = match drawn {
+        Drawn::Family("doubled", ..) if rng.below(32) > 0 => 0,
+        _ => rng.below(4),
+    };
+    for _ in 0..changes {
         let at = rng.below(image.len() + 1);
         match rng.below(6) {
             0 if at < image.len() => image[at] ^= 1 << rng.below(8),
@@ -130,60 +170,73 @@ fn input(rng: &mut Rng, drawn: &[Vec<u8>]) -> (Vec<u8>, [u8; 8]) {
     (image, query)
 }
 
-/// What the table of refusals says for this image and query, and the listing where there is one.
-fn expected(image: &[u8], query: [u8; 8]) -> (u32, Vec<u8>) {
+/// What the table of refusals says for this image and query: the number, the class where it is 10, and the listing where
+/// there is one.
+fn expected(image: &[u8], query: [u8; 8]) -> (u32, usize, Vec<u8>) {
     let mut frame = image.to_vec();
     frame.extend_from_slice(&query);
     let answer = model::answer(&frame, Slip::None);
     match answer.strip_prefix("refused ") {
-        Some(number) => (number.trim().parse().expect("a number"), Vec::new()),
-        None if answer.len() > OUTPUT => (14, Vec::new()),
-        None => (0, answer.into_bytes()),
+        Some("10\n") => {
+            let image = tables(image, Slip::None).expect("no rule before 10 is broken");
+            (10, lowest_doubled(&image).expect("a class"), Vec::new())
+        }
+        Some(number) => (number.trim().parse().expect("a number"), 0, Vec::new()),
+        None if answer.len() > OUTPUT => (14, 0, Vec::new()),
+        None => (0, 0, answer.into_bytes()),
     }
 }
 
-fn fuzz(seed: u64, count: u64) -> BTreeMap<u32, u64> {
+fn fuzz(seed: u64, count: u64, family: Option<&'static str>) -> BTreeMap<u32, u64> {
     let mut rng = Rng::new(seed);
-    let mut drawn = draw(seed, 4_000, None);
-    drawn.retain(|frame| (8..700).contains(&frame.len()));
+    let mut drawn = Drawn::new(seed, family);
     let mut buffers = Buffers::new();
     let mut met = BTreeMap::new();
     for turn in 0..count {
-        let (image, query) = input(&mut rng, &drawn);
+        let (image, query) = input(&mut rng, &mut drawn);
         let short = rng.below(500) == 0;
         buffers.fill();
         let r = buffers.call(&image, query, short);
-        let (number, listing) = if short {
-            (1, Vec::new())
+        let (number, class, listing) = if short {
+            (1, 0, Vec::new())
         } else {
             expected(&image, query)
         };
         let right = r.number == number
+            && r.class == class
             && r.bytes == listing.len()
             && buffers.out[..r.bytes] == listing[..]
             && buffers.out[r.bytes..].iter().all(|x| *x == GARBAGE)
             && buffers.all(short);
         assert!(
             right,
-            "turn {turn} of seed {seed}: {r:?}, expected {number}; image {image:02x?} query {query:02x?}"
+            "turn {turn} of seed {seed}: {r:?}, expected {number} class {class}; image {image:02x?} query {query:02x?}"
         );
         *met.entry(r.number).or_insert(0) += 1;
     }
     met
 }
 
+/// Seed, count and family.
+fn asked() -> Option<(u64, u64, Option<&'static str>)> {
+    let words: Vec<String> = std::env::args().skip(1).collect();
+    let (seed, count) = (words.first()?.parse().ok()?, words.get(1)?.parse().ok()?);
+    let known = |name: &String| FAMILIES.iter().find(|family| family.0 == name);
+    match &words[2..] {
+        [] => Some((seed, count, None)),
+        [name] => Some((seed, count, Some(known(name)?.0))),
+        _ => None,
+    }
+}
+
 fn main() {
-    let words: Vec<u64> = std::env::args()
-        .skip(1)
-        .map(|w| w.parse().expect("a number"))
-        .collect();
-    let [seed, count] = words[..] else {
-        eprintln!("fuzz SEED COUNT");
+    let Some((seed, count, family)) = asked() else {
+        eprintln!("fuzz SEED COUNT [FAMILY]");
         std::process::exit(2);
     };
     let met = std::thread::Builder::new()
         .stack_size(64 << 20)
-        .spawn(move || fuzz(seed, count))
+        .spawn(move || fuzz(seed, count, family))
         .expect("a thread")
         .join()
         .expect("no difference");
