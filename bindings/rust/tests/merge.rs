@@ -238,18 +238,20 @@ fn literals(values: &[u32]) -> Vec<u8> {
 fn the_lowest_class_with_a_doubled_literal() {
     let mut merger = Merger::new();
     for (values, class) in [
-        // two clashes, the lower class with the literal that is met second
+        // two clashes, the lower class with the literal that is met twice later, and sooner
         (&[1, 10, 20, 20, 4, 10][..], 1),
         (&[1, 20, 10, 10, 4, 20], 1),
         (&[20, 1, 20, 10, 10], 0),
         // three holders
         (&[1, 2, 7, 3, 7, 7], 2),
         (&[1, 7, 9, 9, 7, 3, 7], 1),
+        // the last two classes
         (&[1, 2, 3, 0, 0], 3),
     ] {
         let refused = merger.merge(&literals(values), 0, 1, 14);
         assert_eq!(refused, Err(Refusal::Literal { class }), "{values:?}");
     }
+    // different, though the library marks 1 and 4,094 at one place
     assert!(merger.merge(&literals(&[1, 4_094, 0]), 0, 1, 14).is_ok());
 }
 

@@ -9,17 +9,16 @@ use lib.ListN.{length, replicate}
 use lib.Seq.{length-take-le}
 use borrow.Author.Tests.{le-leb, lt-leb}
 use Rattle.spec.specs.Bytes.{Res, ok, refused, workAfter}
-use Rattle.spec.specs.Image.{literalsApart, lowestDoubled, tablesOf}
+use Rattle.spec.specs.Image.{lowestDoubled, tablesOf}
 use Rattle.spec.specs.Pairs.{pairs, making}
 use Rattle.spec.specs.Graph.{PAIRS}
 use Rattle.spec.specs.Run.{documentLimits, Outcome, runOf}
 use Rattle.spec.specs.Listing.{listingOf}
 use Rattle.spec.specs.Merge.{mergeOf, outputAfter}
 use Rattle.spec.specs.Meaning.{HoldsDoubled}
-use Rattle.laws.specs.Tests.{clash, is-false}
-use Rattle.laws.specs.Valid.{Keeps, ten}
-use Rattle.laws.specs.AcceptedLiterals.{apart-rule}
-use Rattle.laws.specs.Doubled.{lowest-holds, lowest-least, lowest-some}
+use Rattle.laws.specs.Tests.{clash}
+use Rattle.laws.specs.Valid.{Keeps}
+use Rattle.laws.specs.Doubled.{doubled-refused, lowest-least}
 use Rattle.laws.specs.Accepted as A
 use Rattle.laws.specs.Results.{ok-inj, refused-ok, refused-inj}
 use Rattle.lgg.specs.Pairs.{PairCount}
@@ -30,7 +29,7 @@ use Rattle.steps.specs.Refusals.{refused-by, refused-beyond}
 use Rattle.contract.specs.declared.Answer.{Answer}
 use Rattle.contract.specs.declared.Answer.the-variants.{Listing, Refused, Doubled}
 use Rattle.contract.specs.Merges.{Merges}
-use Rattle.contract.specs.Answers.{answerOf, Cleared, Table}
+use Rattle.contract.specs.Answers.{answerOf, Carries, Cleared, Table}
 use Rattle.pair_search.specs.declared.Pair.{Pair}
 use Rattle.pair_search.specs.Records.{none}
 use Rattle.demands.specs.Calls.{Asked, Sound, Taken, Way, short, unsound, outside, stopped, over, listed, read-of, taken-is, way, refused-iff, doubled-iff, listing-iff}
@@ -100,8 +99,8 @@ module _ (image : List ℕ) (left right budget : ℕ) (fit : Bool) (out out′ :
   -- .. it holds such a literal
   pub refused-10-holds : (c : ℕ) → r ≡ Doubled c → HoldsDoubled (tablesOf image) c
   refused-10-holds c e =
-      let broken : literalsApart (tablesOf image) (tablesOf image .classes) ≡ true → ⊥ = λ a. refused-10 .0 (c, e) .2 (ten refl (apart-rule (tablesOf image) .0 a)) in
-      rw (refused-10-class c e) (lowest-holds (tablesOf image) (lowest-some (tablesOf image) .0 (is-false (literalsApart (tablesOf image) (tablesOf image .classes)) broken)))
+      let z = refused-10 .0 (c, e) in
+      rw (refused-10-class c e) (doubled-refused image (A.refused-in-its-case image 10 .1 (omega arith, omega arith, z .1, z .2)))
 
   -- .. and no lower class does
   pub refused-10-lowest : (c d : ℕ) → r ≡ Doubled c → HoldsDoubled (tablesOf image) d → c ≤ d
@@ -239,25 +238,25 @@ all-cleared image left right budget fit out out′ r m n table table′ z {a} {a
     (work-cleared image left right budget fit out out′ r m none table table′ z n, work-cleared image left right budget fit out out′ r m 0 a a′ (k .graph) n, work-cleared image left right budget fit out out′ r m 0 b b′ (k .pairs) n, work-cleared image left right budget fit out out′ r m 0 c c′ (k .work) n, work-cleared image left right budget fit out out′ r m 0 d d′ (k .flow) n, work-cleared image left right budget fit out out′ r m 0 e e′ (k .terms) n, work-cleared image left right budget fit out out′ r m 0 f f′ (k .runs) n)
 
 -- (02, Paper 2) no "class that differs between installations": two calls on one image that are both refused by 10, with whatever classes, budgets and buffers, name the same class
-pub refused-10-alike : (image : List ℕ) (l r b l₂ r₂ b₂ : ℕ) (fit fit₂ : Bool) (out out′ out₂ out₂′ : List ℕ) (c d : ℕ) → Merges image l r b fit out out′ (Doubled c) → Merges image l₂ r₂ b₂ fit₂ out₂ out₂′ (Doubled d) → c ≡ d
-refused-10-alike image l r b l₂ r₂ b₂ fit fit₂ out out′ out₂ out₂′ c d m w = m .carries ∙ sym (w .carries)
+pub refused-10-alike : (image : List ℕ) (left right budget left₂ right₂ budget₂ : ℕ) (fit fit₂ : Bool) (out out′ out₂ out₂′ : List ℕ) (c d : ℕ)
+    → Merges image left right budget fit out out′ (Doubled c) → Merges image left₂ right₂ budget₂ fit₂ out₂ out₂′ (Doubled d) → c ≡ d
+refused-10-alike image left right budget left₂ right₂ budget₂ fit fit₂ out out′ out₂ out₂′ c d m w = m .carries ∙ sym (w .carries)
 
--- (02, Paper 2) "Refusal 10 then leaves nothing open": two calls with the same image, classes and budget, in buffers that are alike, give the same answer and leave the same output
-pub nothing-open : (image : List ℕ) (left right budget : ℕ) (fit : Bool) (out out′ out″ : List ℕ) (r s : Answer) → Merges image left right budget fit out out′ r → Merges image left right budget fit out out″ s → (r ≡ s) × (out′ ≡ out″)
-nothing-open image left right budget fit out out′ out″ r s m w = (same r s m (rw (← e) at w), e)
-  where
-    e : out′ ≡ out″
-    e = m .output ∙ sym (w .output)
+-- (02, Paper 2) "Refusal 10 then leaves nothing open": two calls with the same image, classes and budget, work buffers that fit in both or in neither, and outputs of one length give the same answer; where the outputs were the same, they are so afterwards
+module _ (image : List ℕ) (left right budget : ℕ) (fit : Bool) (out out′ out₂ out₂′ : List ℕ) (alike : length out ≡ length out₂) where
+  same : (r s : Answer) → Merges image left right budget fit out out′ r → Merges image left right budget fit out₂ out₂′ s → r ≡ s
+  same r s m w = go r s (m .answer ∙ ap (mergeOf fit image left right budget) alike ∙ sym (w .answer)) (m .carries) (w .carries)
+    where
+      go : (r s : Answer) → answerOf out′ r ≡ answerOf out₂′ s → Carries image out′ r → Carries image out₂′ s → r ≡ s
+      go (Listing n) (Listing k) e a b = ap Listing (sym (length-take-le n out′ a) ∙ ap length (ok-inj e) ∙ length-take-le k out₂′ b)
+      go (Listing n) (Refused k) e a b = absurd (refused-ok (sym e))
+      go (Listing n) (Doubled d) e a b = absurd (refused-ok (sym e))
+      go (Refused k) (Listing n) e a b = absurd (refused-ok e)
+      go (Refused k) (Refused j) e a b = ap Refused (refused-inj e)
+      go (Refused k) (Doubled d) e a b = absurd (a (refused-inj e))
+      go (Doubled c) (Listing n) e a b = absurd (refused-ok e)
+      go (Doubled c) (Refused j) e a b = absurd (b (sym (refused-inj e)))
+      go (Doubled c) (Doubled d) e a b = ap Doubled (a ∙ sym b)
 
-    same : (r s : Answer) → Merges image left right budget fit out out′ r → Merges image left right budget fit out out′ s → r ≡ s
-    same (Listing n) (Listing k) a b =
-        let z = ap length (ok-inj (a .answer ∙ sym (b .answer))) in
-        ap Listing (sym (length-take-le n out′ (a .carries)) ∙ z ∙ length-take-le k out′ (b .carries))
-    same (Listing n) (Refused k) a b = absurd (refused-ok (b .answer ∙ sym (a .answer)))
-    same (Listing n) (Doubled d) a b = absurd (refused-ok (b .answer ∙ sym (a .answer)))
-    same (Refused k) (Listing n) a b = absurd (refused-ok (a .answer ∙ sym (b .answer)))
-    same (Refused k) (Refused j) a b = ap Refused (refused-inj (a .answer ∙ sym (b .answer)))
-    same (Refused k) (Doubled d) a b = absurd (a .carries (refused-inj (a .answer ∙ sym (b .answer))))
-    same (Doubled c) (Listing n) a b = absurd (refused-ok (a .answer ∙ sym (b .answer)))
-    same (Doubled c) (Refused j) a b = absurd (b .carries (refused-inj (b .answer ∙ sym (a .answer))))
-    same (Doubled c) (Doubled d) a b = ap Doubled (a .carries ∙ sym (b .carries))
+  pub nothing-open : (r s : Answer) → Merges image left right budget fit out out′ r → Merges image left right budget fit out₂ out₂′ s → (r ≡ s) × (out ≡ out₂ → out′ ≡ out₂′)
+  nothing-open r s m w = (same r s m w, λ e. m .output ∙ (rw e (sym (w .output))))

@@ -1,4 +1,4 @@
--- "Graph. Built in full, it holds the queried pair and, with each pair, every pair of classes that an action of it joins": what `build` leaves in its array.
+-- "Graph. Built in full, it holds the queried pair (left class, right class) and, with each pair, every pair of classes that an action of it joins": what `build` leaves in its array.
 use mathlib.Core.Path.{_≡_}
 use mathlib.Core.List.{List}
 use Prim.Native.Nat.{ℕ}

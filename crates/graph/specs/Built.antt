@@ -1,4 +1,4 @@
--- What holds of a graph that is built in full: "it holds the queried pair and, with each pair, every pair of classes that an action of it joins. Its n pairs are counted once each."
+-- What holds of a graph that is built in full: "it holds the queried pair (left class, right class) and, with each pair, every pair of classes that an action of it joins. Its n pairs are counted once each."
 use mathlib.Core.Path.{_≡_, refl, ap, _∙_}
 use mathlib.Core.Bool.{false}
 use mathlib.Core.List.{List}

@@ -312,7 +312,7 @@ fn build_first(
     }
 }
 
-// "Built in full, it holds the queried pair and, with each pair, every pair of classes that an action of it joins."
+// "Built in full, it holds the queried pair (left class, right class) and, with each pair, every pair of classes that an action of it joins."
 // Cut short or refused, the array is cleared.
 pub fn build(
     lim: Limits,

@@ -17,6 +17,10 @@ use Rattle.laws.specs.Tests.{both-true, clash, is-false}
 use Rattle.laws.specs.AcceptedLists.{any-in, any-of, at-in, in-at}
 use Rattle.laws.specs.Valid.{Apart}
 
+-- where no class stands
+abbrev pub none : Class
+none = record { first = 0; count = 0; best = 0; size = 0 }
+
 module _ (t : Tables) where
   -- member m is the literal v
   abbrev pub isLiteral : Two → Member → Bool
@@ -73,9 +77,6 @@ module _ (t : Tables) where
   pub apart-cons : (c : Class) (l : List Class) → literalsApart t (c ∷ l) ≡ true ↔ (doubledIn t c l ≡ false) × (literalsApart t l ≡ true)
   unfolding literalsApart
   apart-cons c l = if-not (doubledIn t c l) (literalsApart t l)
-
-  abbrev none : Class
-  none = record { first = 0; count = 0; best = 0; size = 0 }
 
   list-said : (l : List Class) → literalsApart t l ≡ true → (i j : ℕ) → i < j → j < length l → Shared (getD l i none) (getD l j none) → ⊥
   list-said [] e i j h k s = not-suc-le-zero k

@@ -2,26 +2,26 @@
 use mathlib.Core.Path.{_≡_, refl, sym, ap, _∙_}
 use mathlib.Core.Logic.{_↔_, _≢_, inl, inr}
 use mathlib.Core.Bool.{Bool, true, false}
-use mathlib.Core.List.{_++_}
+use mathlib.Core.List.{List, _++_}
 use Prim.Native.Nat.{ℕ, _+_, _-_, _≤_, _<_}
 use native.Mathlib.Decide.{decLt, ℕ-discrete}
 use native.Mathlib.Omega.{arith}
 use lib.ListN.{length, getD, take, drop, length-drop}
 use lib.Seq.{getD-take, getD-drop, length-take-le}
-use Rattle.spec.specs.Image.{Tables, Class, literalsApart, doubledIn, doubledElsewhere, lowestDoubled, theClass, kindOf}
+use Rattle.spec.specs.Bytes.{refused}
+use Rattle.spec.specs.Image.{Tables, Class, literalsApart, doubledIn, doubledElsewhere, lowestDoubled, theClass, kindOf, imageOf, tablesOf}
 use Rattle.spec.specs.Meaning.{In, HoldsDoubled}
 use Rattle.laws.specs.Tests.{clash, is-false}
 use Rattle.laws.specs.Lists.{in-left, in-right, in-append}
 use Rattle.laws.specs.AcceptedLists.{at-in, in-at}
-use Rattle.laws.specs.AcceptedLiterals.{Shared, doubled-said, doubled-test, apart-rule}
+use Rattle.laws.specs.AcceptedLiterals.{none, Shared, doubled-said, doubled-test, apart-rule}
+use Rattle.laws.specs.Valid.{ten}
+use Rattle.laws.specs.Accepted.{refused-in-its-case}
 use Rattle.laws.specs.Firsts.{firstFrom, found, first-within, first-skips}
 
 module _ (t : Tables) where
   abbrev n : ℕ
   n = length (t .classes)
-
-  abbrev none : Class
-  none = record { first = 0; count = 0; best = 0; size = 0 }
 
   -- ---- two classes that share a literal
   shared : {c : ℕ} (H : HoldsDoubled t c) → Shared t (theClass t c) (theClass t (H .other))
@@ -119,7 +119,7 @@ module _ (t : Tables) where
       go (yes l) = absurd (clash (sym (elsewhere-test c H) ∙ first-skips (doubledElsewhere t) 0 n (omega arith) c (omega arith) (rw lowest-first at l)))
       go (no l) = omega arith
 
-  -- and nothing else is asked of it
+  -- no other class is both
   pub lowest-is : (c : ℕ) → HoldsDoubled t c → ((d : ℕ) → HoldsDoubled t d → c ≤ d) → c ≡ lowestDoubled t
   lowest-is c H least =
       let a = lowest-least c H in
@@ -177,3 +177,9 @@ module _ (t : Tables) where
       above : Dec (f < n) → lowestDoubled t ≤ f
       above (yes h) = lowest-least f (later-said f h (found doubledLater 0 n f refl .hits h))
       above (no h) = omega (arith, h, lowest-within)
+
+-- ---- of an image that is refused by 10
+pub doubled-refused : (s : List ℕ) → imageOf s ≡ refused 10 → HoldsDoubled (tablesOf s) (lowestDoubled (tablesOf s))
+doubled-refused s e =
+    let broken = refused-in-its-case s 10 .0 e .3 in
+    lowest-holds (tablesOf s) (lowest-some (tablesOf s) .0 (is-false (literalsApart (tablesOf s) (tablesOf s .classes)) (λ a. broken (ten refl (apart-rule (tablesOf s) .0 a)))))

@@ -113,6 +113,19 @@ acting-accepted : tablesRules acting ≡ ok acting
 unfolding tablesRules
 acting-accepted = refl
 
+-- "Members of a class stand in non-falling operation order": the third behind the second too
+abbrev threeMembers : ℕ → Tables
+threeMembers o = record {
+  operations = record { kind = 9; flag = 0; identity = 65535 } ∷ record { kind = 9; flag = 0; identity = 65535 } ∷ [];
+  classes = record { first = 0; count = 3; best = 0; size = 1 } ∷ [];
+  members = record { op = 0; value = 1; first = 0; count = 0 } ∷ record { op = 1; value = 2; first = 0; count = 0 } ∷ record { op = o; value = 3; first = 0; count = 0 } ∷ [];
+  children = [];
+}
+
+third-member : (tablesRules (threeMembers 0) ≡ refused 7) × (tablesRules (threeMembers 1) ≡ ok (threeMembers 1))
+unfolding tablesRules
+third-member = (refl, refl)
+
 -- straight, not crossed where one side's classes are equal; then each row with each column; left members outermost
 joins-in-order : map (joins acting) ((2, 3) ∷ (3, 2) ∷ (2, 2) ∷ (0, 1) ∷ (3, 4) ∷ (5, 6) ∷ (7, 1) ∷ [])
     ≡ ((0, 0) ∷ (1, 0) ∷ (0, 0) ∷ (0, 3) ∷ (1, 0) ∷ (1, 3) ∷ [])

@@ -1,10 +1,11 @@
 -- (02, Paper 2) "the lowest-numbered class holding a literal that also stands in another class", by evaluation.
 use mathlib.Core.Path.{_≡_, refl}
+use mathlib.Core.Bool.{true, false}
 use mathlib.Core.List.{List, [], _∷_, map}
 use Prim.Native.Nat.{ℕ, _+_}
 use lib.ListN.{length}
-use Rattle.spec.specs.Bytes.{Two, each}
-use Rattle.spec.specs.Image.{Tables, Class, lowestDoubled, tablesOf}
+use Rattle.spec.specs.Bytes.{Two, each, upFrom}
+use Rattle.spec.specs.Image.{Tables, Class, doubledElsewhere, lowestDoubled, tablesOf}
 use Rattle.spec.specs.Asked.{hex, put}
 
 -- classes one behind the other, the first with member m
@@ -20,6 +21,11 @@ holding l = record {
   members = map (λ x. record { op = x .0; value = x .1; first = 0; count = 0 }) (each (λ c. c) l);
   children = [];
 }
+
+-- the classes that hold a literal that also stands in another class, before it or behind it
+both-ways : map (doubledElsewhere (holding (((0, 1) ∷ []) ∷ ((0, 9) ∷ []) ∷ ((0, 8) ∷ []) ∷ ((0, 8) ∷ []) ∷ ((0, 2) ∷ []) ∷ ((0, 9) ∷ []) ∷ []))) (upFrom 0 6) ≡ false ∷ true ∷ true ∷ true ∷ false ∷ true ∷ []
+unfolding doubledElsewhere classesFrom each upFrom
+both-ways = refl
 
 -- two clashes: 8 is met twice before 9 is, and the lower class, 1, holds 9
 lower-second : lowestDoubled (holding (((0, 1) ∷ []) ∷ ((0, 9) ∷ []) ∷ ((0, 8) ∷ []) ∷ ((0, 8) ∷ []) ∷ ((0, 2) ∷ []) ∷ ((0, 9) ∷ []) ∷ [])) ≡ 1

@@ -23,7 +23,7 @@ use Rattle.steps.specs.Run.{Status, Ended, Ends, inBuilding, inStarting,
 use Rattle.steps.specs.Outcomes.{root-in, root-quality, started-says, started-least, quiet-if-complete, complete-if, rounds-reported, rounds-grow}
 
 -- ---- the graph
--- "Built in full, it holds the queried pair and, with each pair, every pair of classes that an action of it joins. Its n pairs are counted once each."
+-- "Built in full, it holds the queried pair (left class, right class) and, with each pair, every pair of classes that an action of it joins. Its n pairs are counted once each."
 pub graph : {N : Type 0} (S : System N) (lim : ℕ) (p : N) (b c : ℕ) (ps : List N) → build S lim p b ≡ ok (passed ps c)
     → ((rest : List N) × (ps ≡ p ∷ rest)) × Distinct ps × ((q : N) → In q ps ↔ Reachable S p q)
 graph {N = N} S lim p b c ps e = let w = build-whole S lim p b c ps e in (build-first S lim p b c ps e, w .once, w .exactly)

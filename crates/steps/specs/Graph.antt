@@ -1,4 +1,4 @@
--- "Graph. Built in full, it holds the queried pair and, with each pair, every pair of classes that an action of it joins. Its n pairs are counted once each."
+-- "Graph. Built in full, it holds the queried pair (left class, right class) and, with each pair, every pair of classes that an action of it joins. Its n pairs are counted once each."
 use mathlib.Core.Path.{_≡_, refl, sym, ap, _∙_, subst}
 use mathlib.Core.Logic.{_⊎_, inl, inr, _↔_}
 use mathlib.Core.Bool.{Bool, true, false}

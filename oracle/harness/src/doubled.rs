@@ -11,7 +11,7 @@ use crate::rng::Rng;
 const MEMBERS: usize = 1_024;
 const CLASSES: usize = 256;
 
-/// The library marks a literal by its value modulo this number.
+/// The library marks a literal by its value plus its operation, modulo this number.
 const SLOTS: usize = 4_093;
 
 /// How the values of an image are drawn.

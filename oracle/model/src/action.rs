@@ -53,8 +53,8 @@ pub enum Built {
 }
 
 impl Graph {
-    /// "Built in full, it holds the queried pair and, with each pair, every pair of
-    /// classes that an action of it joins." One check a pair.
+    /// "Built in full, it holds the queried pair (left class, right class) and, with each
+    /// pair, every pair of classes that an action of it joins". One check a pair.
     pub fn build(
         image: &Image,
         root: Pair,

@@ -115,7 +115,7 @@ enum Drawn {
 impl Drawn {
     fn new(seed: u64, family: Option<&'static str>) -> Drawn {
         if let Some(name) = family {
-            return Drawn::Family(name, Rng::new(seed), Vec::new());
+            return Drawn::Family(name, Rng::new(!seed), Vec::new());
         }
         let mut frames = draw(seed, 4_000, None);
         frames.retain(|frame| (8..700).contains(&frame.len()));

@@ -39,7 +39,7 @@ fn changed(change: impl Fn(&mut [u32])) -> Vec<u8> {
     image(9, &values)
 }
 
-/// As many of the first values have partners among the last, each `apart` more.
+/// The first `count` values have partners among the last, each `apart` more.
 fn pairs(count: usize, apart: u32) -> Vec<u8> {
     changed(|values| {
         let (front, back) = values.split_at_mut(512);

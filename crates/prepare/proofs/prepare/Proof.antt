@@ -2,6 +2,7 @@ use Rattle.judge.specs.Judged.{judged}
 use lib.ListN.{length}
 use Rattle.query.specs.Settings.{limitsOf}
 use Rattle.prepare.specs.PreparingLaws.{image-refused}
+use native.Mathlib.Omega.{arith}
 use mathlib.Core.Path.{refl, sym}
 use borrow.Author.Needs.{needs}
 use Rattle.prepare.proofs.prepare.Statement.{statement}
@@ -33,7 +34,7 @@ returns c =
     let s = a .args .s .now in
     let e = c .before .v .given .1 in
     let j = judged s (c .before .before .before .judge .ensures) e in
-    (image-refused (limitsOf (a .args .lim)) (length (a .args .graph .now)) s (a .args .q) (c .before .v .given .0 .0) (j .result), j .carries, (refl, refl, refl))
+    (image-refused (limitsOf (a .args .lim)) (length (a .args .graph .now)) s (a .args .q) (c .before .v .given .0 .0) (j .result), λ z. absurd (omega (arith, z, j .carries)), (refl, refl, refl))
 
 returns-2 : tie.Need-returns-2
 returns-2 c =
