@@ -1,12 +1,12 @@
 -- Answers of the listed Rust that tell the rules from slips that no other test of this crate tells.
 use mathlib.Core.Path.{_≡_, refl}
 use mathlib.Core.Bool.{true}
-use mathlib.Core.List.{List, [], _∷_, map}
+use mathlib.Core.List.{List, [], _∷_, _++_, map}
 use Prim.Native.Nat.{ℕ, _*_}
 use Prim.Native.String.{String}
-use lib.ListN.{length}
+use lib.ListN.{length, take}
 use Rattle.spec.specs.Bytes.{text, Two, Res, ok, refused}
-use Rattle.spec.specs.Image.{Tables, Class, Member, tablesRules}
+use Rattle.spec.specs.Image.{Tables, Class, Member, imageOf, tablesOf, tablesRules}
 use Rattle.spec.specs.Monomial.{pairOf, padPair, representationPairs, narrowPairs}
 use Rattle.spec.specs.Transport.{Cell, cost, forbidden, Solution, solveTransport}
 use Rattle.spec.specs.Run.{documentLimits}
@@ -125,6 +125,28 @@ threeMembers o = record {
 third-member : (tablesRules (threeMembers 0) ≡ refused 7) × (tablesRules (threeMembers 1) ≡ ok (threeMembers 1))
 unfolding tablesRules
 third-member = (refl, refl)
+
+-- "best member outside its class": in the class before it, and in the one behind it
+abbrev twoClasses : ℕ → ℕ → Tables
+twoClasses a b = record {
+  operations = record { kind = 9; flag = 0; identity = 65535 } ∷ [];
+  classes = record { first = 0; count = 1; best = a; size = 1 } ∷ record { first = 1; count = 1; best = b; size = 1 } ∷ [];
+  members = record { op = 0; value = 1; first = 0; count = 0 } ∷ record { op = 0; value = 2; first = 0; count = 0 } ∷ [];
+  children = [];
+}
+
+best-outside : (tablesRules (twoClasses 0 0) ≡ refused 9) × (tablesRules (twoClasses 1 1) ≡ refused 9) × (tablesRules (twoClasses 0 1) ≡ ok (twoClasses 0 1))
+unfolding tablesRules
+best-outside = (refl, refl, refl)
+
+-- the length field of an image of 37 bytes, with one byte too many, with one too few
+unfoldable one-literal : List ℕ
+unfolding hex
+one-literal = hex "000000210100010001000100000900ffff0000000100000000000100000000000500000000"
+
+length-field : (imageOf one-literal ≡ ok (tablesOf one-literal)) × (imageOf (one-literal ++ (0 ∷ [])) ≡ refused 2) × (imageOf (take 36 one-literal) ≡ refused 2)
+unfolding imageOf one-literal tablesOf hex
+length-field = (refl, refl, refl)
 
 -- straight, not crossed where one side's classes are equal; then each row with each column; left members outermost
 joins-in-order : map (joins acting) ((2, 3) ∷ (3, 2) ∷ (2, 2) ∷ (0, 1) ∷ (3, 4) ∷ (5, 6) ∷ (7, 1) ∷ [])
