@@ -2,7 +2,7 @@
 use mathlib.Core.Path.{_≡_, refl}
 use mathlib.Core.Logic.{_≢_, _⊎_, inl, inr}
 use mathlib.Core.Bool.{Bool, true, false}
-use mathlib.Core.List.{List, [], _∷_}
+use mathlib.Core.List.{List, [], _∷_, _++_}
 use Prim.Native.Nat.{ℕ, zero, suc, _+_, _-_, _≤_}
 use native.Mathlib.Omega.{arith}
 use lib.Dec.{ltb, eqb}
@@ -38,6 +38,15 @@ rising-all m (t ∷ l) r = rising-all (insertAdd (t .0) (t .1) m) l (rising-inse
 -- "Classes rising"
 pub monomial-rises : (l : List Two) → Rising 0 (monomial l)
 monomial-rises l = rising-all [] l end
+
+-- ---- (02, Paper 6) "after each child, the list held is the monomial of the children read so far"
+all-more : (m : Monomial) (l : List Two) (t : Two) → addAll m (l ++ (t ∷ [])) ≡ insertAdd (t .0) (t .1) (addAll m l)
+unfolding addAll
+all-more m [] t = refl
+all-more m (x ∷ l) t = all-more (insertAdd (x .0) (x .1) m) l t
+
+pub monomial-more : (l : List Two) (t : Two) → monomial (l ++ (t ∷ [])) ≡ insertAdd (t .0) (t .1) (monomial l)
+monomial-more l t = all-more [] l t
 
 -- ---- "counts of one class added"
 pub count-insert : (x c k : ℕ) (m : Monomial) → countIn x (insertAdd c k m) ≡ pick (eqb c x) k 0 + countIn x m

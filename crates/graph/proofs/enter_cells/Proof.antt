@@ -31,7 +31,7 @@ loop-holds c =
     (omega arith, going-same (going-start (cellPairs (pairOf (held rows ls) (held cols rs))) (b .pre .4) (b .pre .5)) (cellsFrom rows ls cols rs 0) (cells-start rows ls cols rs (b .pre .0) (b .pre .1)), refl)
 
 class-at-requires : tie.Need-class-at-requires Inv-loop μ-loop
-class-at-requires c κs = (c .before .before .before .before .before .pre .0, omega (arith, c .before .before .before .before .before .pre .1, c .loop-test .taken))
+class-at-requires c κs = omega (arith, c .before .before .before .before .before .pre .0, c .before .before .before .before .before .pre .1, c .loop-test .taken)
 
 size-u64-requires : tie.Need-size-u64-requires Inv-loop μ-loop
 size-u64-requires c κs = search needs

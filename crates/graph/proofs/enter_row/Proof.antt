@@ -25,7 +25,7 @@ loop-holds c =
     (omega arith, going-start (rowFrom (c .before .before .args .l) (c .before .before .args .cols) (c .before .before .args .right .now) 0) (c .before .before .pre .2) (c .before .before .pre .3), refl)
 
 class-at-requires : tie.Need-class-at-requires Inv-loop μ-loop
-class-at-requires c κs = (c .before .before .before .before .pre .0, omega (arith, c .before .before .before .before .pre .1, c .loop-test .taken))
+class-at-requires c κs = omega (arith, c .before .before .before .before .pre .0, c .before .before .before .before .pre .1, c .loop-test .taken)
 
 size-u64-requires : tie.Need-size-u64-requires Inv-loop μ-loop
 size-u64-requires c κs = search needs

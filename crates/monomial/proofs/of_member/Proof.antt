@@ -21,8 +21,8 @@ loop-holds c =
     upto-none (tablesOf (b .args .s .now)) (c .children-of .result .from) (c .children-of .result .to)
     (member-few (b .args .s .now) (b .args .im) (b .pre .0) (b .pre .1) (b .args .m) (c .children-of .result) (b .pre .2) (c .children-of .ensures .0)) (b .args .mono .now) (b .pre .3)
 
-add-child-requires : tie.Need-add-child-requires Inv-loop μ-loop
-add-child-requires c κs =
+add-kth-requires : tie.Need-add-kth-requires Inv-loop μ-loop
+add-kth-requires c κs =
     let l = c .before .before .before in
     let d = l .before in
     let b = d .before .before .before in (
@@ -47,7 +47,7 @@ loop-again c =
     let b = d .before .before .before in
     upto-turn (tablesOf (b .args .s .now)) (d .children-of .result .from) (d .children-of .result .to)
     (member-few (b .args .s .now) (b .args .im) (b .pre .0) (b .pre .1) (b .args .m) (d .children-of .result) (b .pre .2) (d .children-of .ensures .0))
-    (b .args .mono .now) (l .loop .mono) (a .add-child .last .1 .1 .1 .0) (l .loop .n) (l .loop .k) (a .add-child .result) (l .loop .inv) (omega arith) (a .add-child .kept .1 .1 .1 .0) (a .add-child .ensures)
+    (b .args .mono .now) (l .loop .mono) (a .add-kth .last .1 .1 .1 .0) (l .loop .n) (l .loop .k) (a .add-kth .result) (l .loop .inv) (omega arith) (a .add-kth .kept .1 .1 .1 .0) (a .add-kth .ensures)
 
 same-length : tie.Need-same-length Inv-loop μ-loop
 same-length c = search needs
@@ -70,7 +70,7 @@ of-member-spec =
     μ-loop
     children-of-requires
     loop-holds
-    add-child-requires
+    add-kth-requires
     add-k
     loop-less
     loop-again

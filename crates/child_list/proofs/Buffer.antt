@@ -1,14 +1,14 @@
 -- The turns of the insertion: a carry ripples up.
 use mathlib.Core.Path.{_≡_, refl, _∙_}
 use mathlib.Core.List.{List, _∷_, _++_}
-use Prim.Native.Nat.{ℕ, _+_, _<_}
+use Prim.Native.Nat.{ℕ, _+_, _*_, _<_}
 use native.Mathlib.Numerals.{add-one}
 use native.Mathlib.Omega.{arith}
 use lib.ListN.{length, take, drop, getD, set, length-drop}
 use lib.Seq.{drop-cons, paste, paste-suc, paste-zero, getD-drop, getD-at, length-paste-head}
 use Rattle.spec.specs.Bytes.{Two}
 use Rattle.monomial_terms.specs.Terms.{terms}
-use Rattle.monomial_terms.specs.TermLaws.{terms-length}
+use Rattle.child_list.specs.AddLaws.{two-each}
 
 -- ---- a carry that ripples up: place p + j takes the carry, and hands its own term on
 module _ (l : List Two) (p j : ℕ) (t : Two) (h : p + j < length l) where
@@ -32,11 +32,11 @@ pub record Rippled (l₀ l : List Two) (p j : ℕ) (t x : Two) : Type 0 where
 pub rippled-none : (l : List Two) (p : ℕ) (t : Two) → Rippled l l p 0 t t
 rippled-none l p t = record { whole = paste-zero l p (t ∷ drop p l); carry = refl }
 
-pub rippled-more : (s₀ s s′ : List ℕ) (p j : ℕ) (t x : Two) (c k : ℕ) → length s₀ ≡ 130 → p + j < 65 → Rippled (terms s₀) (terms s) p j t x
+pub rippled-more : (s₀ s s′ : List ℕ) (p j : ℕ) (t x : Two) (c k : ℕ) → 2 * (p + j) + 1 < length s₀ → Rippled (terms s₀) (terms s) p j t x
     → c ≡ getD (terms s) (p + j) (0, 0) .0 → k ≡ getD (terms s) (p + j) (0, 0) .1 → terms s′ ≡ set (terms s) (p + j) (x .0, x .1)
     → Rippled (terms s₀) (terms s′) p (j + 1) t (c, k)
-rippled-more s₀ s s′ p j t x c k l h r a b w =
-    let f : p + j < length (terms s₀) = rw (terms-length 65 s₀ l) h in
+rippled-more s₀ s s′ p j t x c k h r a b w =
+    let f : p + j < length (terms s₀) = omega (arith, two-each s₀) in
     record {
       whole = w ∙ rw (r .whole, r .carry) (ripple-set (terms s₀) p j t f);
       carry = rw (a, b, r .whole) (ripple-carry (terms s₀) p j t f);

@@ -1,15 +1,16 @@
-use Rattle.monomial.proofs.Buffer.{Rippled, rippled-none, rippled-more}
+use Rattle.child_list.proofs.Buffer.{Rippled, rippled-none, rippled-more}
 use Rattle.monomial_terms.specs.Terms.{terms}
+use Rattle.child_list.specs.Adding.{rest}
 use borrow.Author.Needs.{needs}
-use Prim.Native.Nat.{_≤_, _<_, _-_, _+_}
+use Prim.Native.Nat.{_≤_, _<_, _-_, _+_, _*_}
 use native.Mathlib.Omega.{arith}
-use mathlib.Core.Path.{_≡_, _∙_}
+use mathlib.Core.Path.{_≡_, refl, _∙_}
 use lib.ListN.{length}
-use Rattle.monomial.proofs.insert_term.Statement.{statement}
-use Rattle.monomial.proofs.insert_term.Tie as tie
+use Rattle.child_list.proofs.insert_term.Statement.{statement}
+use Rattle.child_list.proofs.insert_term.Tie as tie
 
 abbrev Inv-loop : tie.InvT-loop
-Inv-loop mono₀ p n c k x₀ y₀ j₀ mono x y j = (j ≤ n + 1) × (length mono ≡ 130) × Rippled (terms mono₀) (terms mono) p j (c, k) (x, y)
+Inv-loop mono₀ p n c k x₀ y₀ j₀ mono x y j = (j ≤ n + 1) × (length mono ≡ length mono₀) × (rest mono ≡ rest mono₀) × Rippled (terms mono₀) (terms mono) p j (c, k) (x, y)
 
 abbrev μ-loop : tie.MeasureT-loop
 μ-loop mono₀ p n c k x₀ y₀ j₀ mono x y j = n + 1 - j
@@ -17,7 +18,7 @@ abbrev μ-loop : tie.MeasureT-loop
 loop-holds : tie.Need-loop-holds Inv-loop μ-loop
 loop-holds c =
     let b = c .before in
-    (omega arith, b .pre .0, rippled-none (terms (b .args .mono .now)) (b .args .p) (b .args .c, b .args .k))
+    (omega arith, refl, refl, rippled-none (terms (b .args .mono .now)) (b .args .p) (b .args .c, b .args .k))
 
 add-class-at : tie.Need-add-class-at Inv-loop μ-loop
 add-class-at c = search needs
@@ -50,11 +51,12 @@ loop-again c =
     let t = u .before .before in
     let l = t .before .before .before in
     let b = l .before .before in
-    let h : b .args .p + l .loop .j < 65 = omega arith in (
+    let h : 2 * (b .args .p + l .loop .j) + 1 < length (b .args .mono .now) = omega arith in (
       omega arith,
       q .put-term .kept .0 ∙ l .loop .inv .1,
+      q .put-term .ensures .1 ∙ l .loop .inv .2,
       rippled-more (b .args .mono .now) (l .loop .mono) (q .put-term .last .0) (b .args .p) (l .loop .j) (b .args .c, b .args .k) (l .loop .x, l .loop .y)
-          (t .class-at .result) (u .count-at .result) (b .pre .0) h (l .loop .inv .2) (t .class-at .ensures) (u .count-at .ensures) (q .put-term .ensures),
+          (t .class-at .result) (u .count-at .result) h (l .loop .inv .3) (t .class-at .ensures) (u .count-at .ensures) (q .put-term .ensures .0),
     )
 
 same-length : tie.Need-same-length Inv-loop μ-loop
@@ -63,7 +65,7 @@ same-length c = search needs
 returns : tie.Need-returns Inv-loop μ-loop
 returns c =
     let e : c .before .before .before .args .n + 1 ≡ c .before .loop .j = omega arith in
-    rw e (c .before .loop .inv .2 .whole)
+    (rw e (c .before .loop .inv .3 .whole), c .before .loop .inv .2)
 
 pub insert-term-spec : {M : Type 1} → statement M
 insert-term-spec =

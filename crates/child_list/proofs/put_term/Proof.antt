@@ -1,9 +1,10 @@
 use Rattle.monomial_terms.specs.TermLaws.{terms-set}
+use Rattle.child_list.specs.AddLaws.{rest-set}
 use native.Mathlib.Omega.{arith}
 use lib.ListN.{length-set}
 use borrow.Author.Needs.{needs}
-use Rattle.monomial.proofs.put_term.Statement.{statement}
-use Rattle.monomial.proofs.put_term.Tie as tie
+use Rattle.child_list.proofs.put_term.Statement.{statement}
+use Rattle.child_list.proofs.put_term.Tie as tie
 
 mul-at : tie.Need-mul-at
 mul-at c = search needs
@@ -27,7 +28,7 @@ same-length : tie.Need-same-length
 same-length c = search needs
 
 returns : tie.Need-returns
-returns c = terms-set (c .args .mono .now) (c .args .i) (c .args .c) (c .args .k) (omega arith)
+returns c = let a = c .args in (terms-set (a .mono .now) (a .i) (a .c) (a .k) (omega arith), rest-set (a .mono .now) (a .i) (a .c) (a .k) (omega arith))
 
 pub put-term-spec : {M : Type 1} → statement M
 put-term-spec =

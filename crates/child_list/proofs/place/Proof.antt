@@ -1,4 +1,4 @@
-use Rattle.monomial.proofs.Insert.{scan-more, scan-stop, scan-end}
+use Rattle.child_list.proofs.Insert.{scan-more, scan-stop, scan-end}
 use Rattle.monomial_terms.specs.Terms.{held, position}
 use borrow.Author.Needs.{needs}
 use Prim.Native.Nat.{_≤_, _-_, _+_}
@@ -6,8 +6,8 @@ use native.Mathlib.Omega.{arith}
 use native.Mathlib.Numerals.{add-one}
 use mathlib.Core.Path.{_≡_}
 use lib.ListN.{drop}
-use Rattle.monomial.proofs.place.Statement.{statement}
-use Rattle.monomial.proofs.place.Tie as tie
+use Rattle.child_list.proofs.place.Statement.{statement}
+use Rattle.child_list.proofs.place.Tie as tie
 
 abbrev Inv-loop : tie.InvT-loop
 Inv-loop mono n c i₀ i = (i ≤ n) × (position c (held n mono) ≡ i + position c (drop i (held n mono)))
@@ -25,7 +25,7 @@ returns : tie.Need-returns Inv-loop μ-loop
 returns c =
     let l = c .before .before .before in
     let b = l .before .before in
-    omega (arith, scan-stop (b .args .c) (b .args .mono .now) (b .args .n) (l .loop .i) (c .before .class-at .result) (b .pre .0) (b .pre .1) (omega arith) (c .before .class-at .ensures) (c .if1 .taken), l .loop .inv .1)
+    omega (arith, scan-stop (b .args .c) (b .args .mono .now) (b .args .n) (l .loop .i) (c .before .class-at .result) (b .pre) (omega arith) (c .before .class-at .ensures) (c .if1 .taken), l .loop .inv .1)
 
 add-i : tie.Need-add-i Inv-loop μ-loop
 add-i c = search needs
@@ -38,12 +38,12 @@ loop-again c =
     let l = c .before .before .before in
     let b = l .before .before in
     rw add-one
-    (omega (arith, scan-more (b .args .c) (b .args .mono .now) (b .args .n) (l .loop .i) (c .before .class-at .result) (b .pre .0) (b .pre .1) (omega arith) (c .before .class-at .ensures) (c .if1 .left), l .loop .inv .1))
+    (omega (arith, scan-more (b .args .c) (b .args .mono .now) (b .args .n) (l .loop .i) (c .before .class-at .result) (b .pre) (omega arith) (c .before .class-at .ensures) (c .if1 .left), l .loop .inv .1))
 
 returns-2 : tie.Need-returns-2 Inv-loop μ-loop
 returns-2 c =
     let b = c .before .before .before in
-    omega (arith, scan-end (b .args .c) (b .args .mono .now) (b .args .n) (c .before .loop .i) (b .pre .0) (b .pre .1) (omega arith), c .before .loop .inv .1)
+    omega (arith, scan-end (b .args .c) (b .args .mono .now) (b .args .n) (c .before .loop .i) (b .pre) (omega arith), c .before .loop .inv .1)
 
 pub place-spec : {M : Type 1} → statement M
 place-spec =

@@ -1,8 +1,8 @@
-use Rattle.monomial.proofs.Insert.{roomy-less}
+use Rattle.monomial.proofs.Children.{roomy-less}
 use native.Mathlib.Omega.{arith}
 use borrow.Author.Needs.{needs}
-use Rattle.monomial.proofs.add_child.Statement.{statement}
-use Rattle.monomial.proofs.add_child.Tie as tie
+use Rattle.monomial.proofs.add_kth.Statement.{statement}
+use Rattle.monomial.proofs.add_kth.Tie as tie
 
 child-class-requires : tie.Need-child-class-requires
 child-class-requires c κs = search needs
@@ -30,8 +30,8 @@ returns c =
       omega (arith, t .child-times .ensures),
     )
 
-pub add-child-spec : {M : Type 1} → statement M
-add-child-spec =
+pub add-kth-spec : {M : Type 1} → statement M
+add-kth-spec =
     tie.close
     (tie.spec
     child-class-requires

@@ -1,0 +1,116 @@
+-- The scan for a class's place, and what add_at leaves.
+use mathlib.Core.Path.{_≡_, refl, sym, ap, _∙_}
+use mathlib.Core.Bool.{Bool, true, false}
+use mathlib.Core.List.{List, [], _∷_, _++_}
+use Prim.Native.Nat.{ℕ, zero, suc, _+_, _*_, _≤_, _<_, _^_, zero-le}
+use native.Mathlib.Numerals.{add-one}
+use native.Mathlib.Omega.{arith}
+use borrow.Author.Tests.{lt-ltb, le-ltb, eq-eqb, ne-eqb, eqb-true}
+use lib.Dec.{ltb, eqb}
+use lib.ListN.{length, take, drop, getD, set, length-set, take-append-drop, drop-of-length-le}
+use lib.Seq.{drop-cons, paste, take-take, take-add, drop-at, getD-take, length-take-le, set-append-left}
+use Rattle.spec.specs.Bytes.{Two, both, sum}
+use Rattle.spec.specs.Monomial.{Monomial, insertAdd, total}
+use Rattle.monomial_terms.specs.Terms.{terms, held, position, Holds, Roomy}
+use Rattle.child_list.specs.Adding.{stands, countThere, Fits}
+use Rattle.child_list.specs.AddLaws.{two-each, stands-there, hit, miss, hit-length, miss-length}
+
+pub held-full : (n : ℕ) (s : List ℕ) → 2 * n ≤ length s → length (held n s) ≡ n
+held-full n s h = length-take-le n (terms s) (omega (arith, two-each s))
+
+-- ---- position
+module _ (c : ℕ) (m : Monomial) (i : ℕ) (h : i < length m) where
+  position-more : getD m i (0, 0) .0 < c → position c (drop i m) ≡ suc (position c (drop (suc i) m))
+  unfolding position
+  position-more l = rw (drop-cons m i (0, 0), lt-ltb (getD m i (0, 0) .0) c l) refl
+
+  position-stop : c ≤ getD m i (0, 0) .0 → position c (drop i m) ≡ 0
+  unfolding position
+  position-stop l = rw (drop-cons m i (0, 0), le-ltb (getD m i (0, 0) .0) c l) refl
+
+position-end : (c : ℕ) (m : Monomial) (i : ℕ) → length m ≤ i → position c (drop i m) ≡ 0
+unfolding position
+position-end c m i h = rw drop-of-length-le
+
+-- the turns of the scan: x is the class at place i
+module _ (c : ℕ) (s : List ℕ) (n i x : ℕ) (b : 2 * n ≤ length s) (h : i < n) (e : x ≡ getD (terms s) i (0, 0) .0) where
+  class-is : getD (held n s) i (0, 0) .0 ≡ x
+  class-is = ap (λ (t : Two). t .0) (getD-take n (terms s) i (0, 0) h) ∙ sym e
+
+  pub scan-more : x < c → position c (drop i (held n s)) ≡ suc (position c (drop (suc i) (held n s)))
+  scan-more f = position-more c (held n s) i (rw (held-full n s b) h) (rw class-is f)
+
+  pub scan-stop : c ≤ x → position c (drop i (held n s)) ≡ 0
+  scan-stop f = position-stop c (held n s) i (rw (held-full n s b) h) (rw class-is f)
+
+pub scan-end : (c : ℕ) (s : List ℕ) (n i : ℕ) → 2 * n ≤ length s → n ≤ i → position c (drop i (held n s)) ≡ 0
+scan-end c s n i b h = position-end c (held n s) i (rw (held-full n s b) h)
+
+-- ---- the class at its place
+module _ (c : ℕ) (s : List ℕ) (n p : ℕ) (b : 2 * n ≤ length s) (e : p ≡ position c (held n s)) where
+  pub stands-read : (x : ℕ) → p < n → x ≡ getD (terms s) p (0, 0) .0 → eqb x c ≡ stands c (held n s)
+  unfolding stands
+  stands-read x h f =
+      let l : position c (held n s) < length (held n s) = rw (← e, held-full n s b) h in
+      let g : getD (held n s) (position c (held n s)) (0, 0) .0 ≡ x = rw (← e) (ap (λ (t : Two). t .0) (getD-take n (terms s) p (0, 0) h) ∙ sym f) in
+      rw (lt-ltb (position c (held n s)) (length (held n s)) l, g) refl
+
+  pub stands-past : n ≤ p → false ≡ stands c (held n s)
+  unfolding stands
+  stands-past h = let l : length (held n s) ≤ position c (held n s) = rw (← e, held-full n s b) h in rw (le-ltb (position c (held n s)) (length (held n s)) l) refl
+
+  -- c stands there: before the list's end, with its count
+  pub stands-before : stands c (held n s) ≡ true → p < n
+  stands-before t = omega (arith, stands-there c (held n s) t .0, held-full n s b)
+
+  pub there : (y : ℕ) → stands c (held n s) ≡ true → y ≡ getD (terms s) p (0, 0) .1 → y ≡ countThere c (held n s)
+  there y t f = f ∙ sym (ap (λ (x : Two). x .1) (getD-take n (terms s) p (0, 0) (stands-before t))) ∙ ap (λ (i : ℕ). getD (held n s) i (0, 0) .1) e
+
+-- ---- what add_at leaves
+paste-split : (l : List Two) (p q : ℕ) (t : Two) → p + q < length l
+    → paste l p (t ∷ drop p l) (suc q) ≡ (take p (take (p + q) l) ++ t ∷ drop p (take (p + q) l)) ++ drop (suc (p + q)) l
+paste-split l p q t h =
+    let i : p ≤ p + q = omega arith in
+    let d : drop p (take (p + q) l) ≡ take q (drop p l) = rw take-add (drop-at (take p l) (take q (drop p l)) p (length-take-le p l (omega arith))) in
+    let e : p + suc q ≡ suc (p + q) = omega arith in
+    rw (take-take p (p + q) l, d, e) refl
+
+module _ (n p c k : ℕ) (s u : List ℕ) (r : Fits n p c k s) where
+  len : length (held n s) ≡ n
+  len = held-full n s (r .listed)
+
+  pub added-hit : (y : ℕ) → stands c (held n s) ≡ true → y ≡ getD (terms s) p (0, 0) .1 → terms u ≡ set (terms s) p (c, y + k) → Holds (insertAdd c k (held n s)) s u n
+  added-hit y t f w =
+      let l : p < n = stands-before c s n p (r .listed) (r .place) t in
+      let m : insertAdd c k (held n s) ≡ set (held n s) p (c, y + k) = rw (r .place, there c s n p (r .listed) (r .place) y t f) (hit c k (held n s) t) in
+      let ln : length (insertAdd c k (held n s)) ≡ n = hit-length c k (held n s) t ∙ len in
+      record {
+        len = sym ln;
+        whole = w ∙ rw (ln, m, ← set-append-left (held n s) (drop n (terms s)) p (c, y + k) (rw len l), take-append-drop n (terms s)) refl;
+      }
+
+  pub added-miss : (q : ℕ) → stands c (held n s) ≡ false → p + q ≡ n → terms u ≡ paste (terms s) p ((c, k) ∷ drop p (terms s)) (q + 1) → Holds (insertAdd c k (held n s)) s u (n + 1)
+  added-miss q t f w =
+      let m : insertAdd c k (held n s) ≡ take p (held n s) ++ (c, k) ∷ drop p (held n s) = rw (r .place) (miss c k (held n s) t) in
+      let ln : length (insertAdd c k (held n s)) ≡ suc n = miss-length c k (held n s) t ∙ ap suc len in
+      record {
+        len = rw add-one (sym ln);
+        whole = w ∙ rw (add-one, ln, m, ← f) (paste-split (terms s) p q (c, k) (omega (arith, r .room t, two-each s)));
+      }
+
+-- ---- room
+-- a count is at most the total
+count-le : (m : Monomial) (i : ℕ) → getD m i (0, 0) .1 ≤ total m
+unfolding total sum
+count-le [] i = zero-le
+count-le (t ∷ m) zero = omega arith
+count-le (t ∷ m) (suc i) = omega (arith, count-le m i)
+
+pub roomy-fits : (n p c k : ℕ) (s : List ℕ) → Roomy n k s → p ≡ position c (held n s) → p ≤ n → Fits n p c k s
+roomy-fits n p c k s r e h = record {
+  listed = omega (arith, r .numbers, r .room);
+  place = e;
+  within = h;
+  room = λ t. omega (arith, r .numbers, r .room);
+  count = λ t. omega (arith, r .fits, count-le (held n s) (position c (held n s)));
+}

@@ -1,0 +1,1 @@
+-- The sentences of Paper 6 about calls of `add_child`.
