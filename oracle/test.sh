@@ -15,6 +15,7 @@ cmp sample/frames.bin ../crates/representation/stdin
 $bin/harness pairs sample/frames.bin | cmp - ../crates/representation/stdout
 $bin/harness images damaged | cmp - ../crates/verdict/stdin
 $bin/harness verdicts <../crates/verdict/stdin | cmp - ../crates/verdict/stdout
+$bin/harness children 6 60 | cmp - ../crates/child_list/specs/Drawn.antt
 for name in E airport night luggage cap zones; do
     $bin/harness bytes <"../examples/$name.txt" | $bin/listed | cmp - "../examples/$name.listing"
 done

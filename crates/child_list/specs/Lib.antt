@@ -1,3 +1,5 @@
 pub mod Adding
 pub mod AddLaws
 pub mod Streaming
+pub mod Trials
+pub mod Drawn

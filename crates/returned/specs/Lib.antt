@@ -1,3 +1,4 @@
 pub mod Returns
 pub mod Cases
 pub mod Reaches
+pub mod Children

@@ -1,6 +1,8 @@
-// What a call with the C interface returns: the answer as numbers; and the lengths of the work buffers.
+// What a call with the C interface returns: each answer as numbers; and the lengths of the work buffers.
 ghost use mathlib.Core.Path.{_≡_};
+ghost use Rattle.returned.specs.Children.{addedNumbers};
 ghost use Rattle.returned.specs.Returns.{returnedOf, lengths};
+use child_list::Added;
 use contract::Answer;
 
 // 0 with a listing of so many bytes, or a refusal's number; with 10 the lowest class that holds a literal that also stands in another.
@@ -20,6 +22,13 @@ pub struct Lengths {
     pub flow: usize,
     pub terms: usize,
     pub runs: usize,
+}
+
+// How many terms the list holds, and 0 where the child was added; 1 where the list is full, 2 where its class's count would pass 64 bits.
+#[repr(C)]
+pub struct AddedChild {
+    pub number: u32,
+    pub terms: usize,
 }
 
 // An answer as numbers.
@@ -56,5 +65,25 @@ pub fn buffer_lengths() -> Lengths
         flow: 256,
         terms: 3074,
         runs: 1024,
+    }
+}
+
+// What became of a child, for a list that held n terms.
+pub fn numbers_of_added(a: Added, n: usize) -> AddedChild
+    ensures { λ r. ⌜ r ≡ addedNumbers a n ⌝ }
+{
+    match a {
+        Added::Held(m) => AddedChild {
+            number: 0,
+            terms: m,
+        },
+        Added::Full => AddedChild {
+            number: 1,
+            terms: n,
+        },
+        Added::Overflow => AddedChild {
+            number: 2,
+            terms: n,
+        },
     }
 }

@@ -1,9 +1,13 @@
-// The merge for other languages: one call with the C interface, and the lengths of its work buffers.
+// The merge for other languages: calls with the C interface, and the lengths of the work buffers.
 ghost use mathlib.Core.Path.{_≡_};
 ghost use lib.ListN.{length};
 ghost use Rattle.contract.specs.Merges.{fitOf};
 ghost use Rattle.contract.specs.Answers.{Cleared};
+ghost use Rattle.returned.specs.Children.{ReturnsAdded};
 ghost use Rattle.returned.specs.Returns.{lengths, Returns};
+use numbers::long_size;
+use numbers::size_u16;
+use returned::AddedChild;
 use returned::Lengths;
 use returned::Returned;
 
@@ -47,4 +51,18 @@ pub extern "C" fn tariff_merge(
         out,
     );
     returned::numbers_of(a)
+}
+
+// A child in a list of so many terms: `add_child` of crate `child_list`.
+#[no_mangle]
+pub extern "C" fn tariff_add_child(
+    list: &mut [u64],
+    terms: usize,
+    class: u16,
+    count: u64,
+) -> AddedChild
+    ensures { λ r. ⌜ ReturnsAdded terms class count (now (list .entry)) (now (list .exit)) r ⌝ }
+{
+    let a = child_list::add_child(list, terms, long_size(size_u16(class)), count);
+    returned::numbers_of_added(a, terms)
 }

@@ -6,7 +6,9 @@ use std::io::{Read, Write};
 use harness::drive::{Counts, compare};
 use harness::img::{Img, Query};
 use harness::judge::{Judge, pack, unpack};
-use harness::{budgets, damage, draw, limits, pairs, plans, sample, small, text, verdicts};
+use harness::{
+    budgets, children, damage, draw, limits, pairs, plans, sample, small, text, verdicts,
+};
 use model::slip::{SLIPS, Slip};
 
 fn stdin() -> Result<Vec<u8>, String> {
@@ -112,6 +114,13 @@ fn run(words: &[&str]) -> Result<(), String> {
             let (queries, frames) = budgets::every(&drawn, count);
             println!("{queries} queries, {} frames", frames.len());
             compare_frames(a, b, &frames)
+        }
+        ["children", seed, count] => {
+            print!(
+                "{}",
+                children::module(number(seed)?, number(count)? as usize)
+            );
+            Ok(())
         }
         ["plans", seed, count] => {
             print!(

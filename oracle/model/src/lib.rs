@@ -5,6 +5,7 @@
 pub mod action;
 pub mod belongs;
 pub mod brute;
+pub mod children;
 pub mod image;
 pub mod listing;
 pub mod monomial;
