@@ -2,16 +2,17 @@
 /*
  * The tariff merge with a C interface: libtariff.a, made by `rt staticlib tariff`, for x86-64 Linux.
  *
- * A call merges two classes of an image into a listing. The same arguments give the same answer: the
- * library keeps nothing between calls, and calls with buffers of their own may run at the same time.
+ * `tariff_merge` merges two classes of an image into a listing; `tariff_add_child` adds up a member's
+ * children as they arrive. The same arguments give the same answer: the library keeps nothing between
+ * calls, and calls with buffers of their own may run at the same time.
  *
- * The contract of `tariff_merge` is proved for every call with pointers as C asks them: not null (also
- * where the length is 0), aligned for their type, with as many elements behind them as the length says,
- * and no lent buffer overlapping another or the image.
+ * The contract of each is proved for every call with pointers as C asks them: not null (also where the
+ * length is 0), aligned for their type, with as many elements behind them as the length says, and no lent
+ * buffer overlapping another or the image.
  *
- * Stack: a call needs up to TARIFF_STACK_BYTES of the calling thread's stack, since a query that is too
- * large for the lent buffers runs in arrays there, about 1.2 MB, and the listing is written by recursion.
- * The library does not test it: on a thread with less, an overflow ends the process.
+ * Stack: `tariff_merge` needs up to TARIFF_STACK_BYTES of the calling thread's stack, since a query that
+ * is too large for the lent buffers runs in arrays there, about 1.2 MB, and the listing is written by
+ * recursion. The library does not test it: on a thread with less, an overflow ends the process.
  */
 #ifndef TARIFF_MERGE_H
 #define TARIFF_MERGE_H
@@ -130,6 +131,80 @@ static inline struct tariff_returned tariff_merge_in(
         work->graph, TARIFF_GRAPH, work->pairs, TARIFF_PAIRS, work->work, TARIFF_WORK,
         work->flow, TARIFF_FLOW, work->terms, TARIFF_TERMS, work->runs, TARIFF_RUNS,
         out, out_bytes);
+}
+
+/* ---- a member's children as they arrive */
+
+/* What `number` says of a child. */
+enum tariff_child {
+    /* added: the list holds `terms` terms now */
+    TARIFF_CHILD_ADDED = 0,
+    /* the child's class is new and every place of the list is taken: lend a longer list. Also where the
+       list has not the `terms` terms that the caller says: half its length is the most */
+    TARIFF_CHILD_FULL = 1,
+    /* the class's count would pass 18,446,744,073,709,551,615: the child is too many */
+    TARIFF_CHILD_OVERFLOW = 2
+};
+
+struct tariff_added {
+    uint32_t number;
+    /* how many terms the list holds: as many as before where the child was refused */
+    size_t terms;
+};
+
+/*
+ * A child in a list of so many terms, each a class with its count: term i has its class at list[2 * i],
+ * its count at list[2 * i + 1]. Classes rise, and the counts of one class are added.
+ *
+ * From `terms` 0 on, whatever the array held, and with the `terms` of each answer given to the next call:
+ * after each child the list is the monomial of the children added so far. Numbers behind the list stay as
+ * they were, and a child that is refused leaves every number as it was. Needs little stack.
+ */
+struct tariff_added tariff_add_child(
+    uint64_t *list, size_t list_length, size_t terms,
+    uint16_t class_number, uint64_t count);
+
+/* Places for the 64 children that a member has at most, and for an identity: a member's children always
+   fit. Empty where `terms` is 0, as `struct tariff_monomial m = { 0 };` has it. */
+#define TARIFF_MONOMIAL_TERMS 65
+
+struct tariff_monomial {
+    size_t terms;
+    uint64_t list[2 * TARIFF_MONOMIAL_TERMS];
+};
+
+/* `tariff_add_child` in this list: a number of `enum tariff_child`. */
+static inline uint32_t tariff_monomial_add(struct tariff_monomial *m, uint16_t class_number, uint64_t count)
+{
+    struct tariff_added added = tariff_add_child(m->list, 2 * TARIFF_MONOMIAL_TERMS, m->terms, class_number, count);
+    m->terms = added.terms;
+    return added.number;
+}
+
+/* The class of term i, i below m->terms; classes rise. */
+static inline uint16_t tariff_monomial_class(const struct tariff_monomial *m, size_t i)
+{
+    return (uint16_t)m->list[2 * i];
+}
+
+static inline uint64_t tariff_monomial_count(const struct tariff_monomial *m, size_t i)
+{
+    return m->list[2 * i + 1];
+}
+
+/* The sum of the counts: 1 with the sum in *total, or 0 where it passes 64 bits. Of a member's children,
+   whose counts have 32 bits, it does not. */
+static inline int tariff_monomial_total(const struct tariff_monomial *m, uint64_t *total)
+{
+    uint64_t sum = 0;
+    for (size_t i = 0; i < m->terms; i++) {
+        uint64_t count = tariff_monomial_count(m, i);
+        if (count > UINT64_MAX - sum)
+            return 0;
+        sum += count;
+    }
+    *total = sum;
+    return 1;
 }
 
 #ifdef __cplusplus

@@ -1,5 +1,5 @@
 /* SPDX-License-Identifier: Apache-2.0 */
-/* The C interface on image E: listings at four budgets, refusals 1, 2, 10, 11 and 14, and what each leaves in the buffers; the class with 10 on an image of literals. */
+/* The C interface on image E: listings at four budgets, refusals 1, 2, 10, 11 and 14, and what each leaves in the buffers; the class with 10 on an image of literals. Children as they arrive: in front, joined, refused by a full list and by a count of 64 bits. */
 #include <stdio.h>
 #include <string.h>
 
@@ -90,6 +90,47 @@ static void refused(struct tariff_returned r, uint32_t number, size_t class_numb
     expect(all(&work, sizeof work, number == TARIFF_WORK_SHORT ? 0xa5 : 0), "work buffers after a refusal");
 }
 
+/* After a call: the number, the terms, and every number of the list's array. */
+static void child(struct tariff_added r, uint32_t number, size_t terms, const uint64_t *list, const uint64_t *expected, size_t length, const char *what)
+{
+    expect(r.number == number && r.terms == terms, what);
+    expect(memcmp(list, expected, length * sizeof *list) == 0, what);
+}
+
+static void children(void)
+{
+    /* two places, and a number behind them */
+    uint64_t list[5] = { 9, 9, 9, 9, 8 };
+    struct tariff_added r = tariff_add_child(list, 5, 0, 4, 1);
+    child(r, TARIFF_CHILD_ADDED, 1, list, (uint64_t[]){ 4, 1, 9, 9, 8 }, 5, "child 4:1");
+    r = tariff_add_child(list, 5, r.terms, 2, 3);
+    child(r, TARIFF_CHILD_ADDED, 2, list, (uint64_t[]){ 2, 3, 4, 1, 8 }, 5, "child 2:3 stands in front");
+    r = tariff_add_child(list, 5, r.terms, 4, 2);
+    child(r, TARIFF_CHILD_ADDED, 2, list, (uint64_t[]){ 2, 3, 4, 3, 8 }, 5, "child 4:2 joins 4:1, in a full list");
+    r = tariff_add_child(list, 5, r.terms, 3, 1);
+    child(r, TARIFF_CHILD_FULL, 2, list, (uint64_t[]){ 2, 3, 4, 3, 8 }, 5, "a third class in a full list");
+    r = tariff_add_child(list, 5, r.terms, 4, UINT64_MAX - 3);
+    child(r, TARIFF_CHILD_ADDED, 2, list, (uint64_t[]){ 2, 3, 4, UINT64_MAX, 8 }, 5, "a count of 64 bits");
+    r = tariff_add_child(list, 5, r.terms, 4, 1);
+    child(r, TARIFF_CHILD_OVERFLOW, 2, list, (uint64_t[]){ 2, 3, 4, UINT64_MAX, 8 }, 5, "one more");
+    r = tariff_add_child(list, 5, 3, 2, 1);
+    child(r, TARIFF_CHILD_FULL, 3, list, (uint64_t[]){ 2, 3, 4, UINT64_MAX, 8 }, 5, "more terms than the list can have");
+    r = tariff_add_child(list, 0, 0, 2, 1);
+    child(r, TARIFF_CHILD_FULL, 0, list, (uint64_t[]){ 2, 3, 4, UINT64_MAX, 8 }, 5, "a list of no numbers");
+
+    struct tariff_monomial m = { 0 };
+    uint64_t total = 7;
+    for (uint16_t c = 64; c < 65; c--)
+        expect(tariff_monomial_add(&m, c, 2 * (uint64_t)c + 1) == TARIFF_CHILD_ADDED, "65 classes, falling");
+    for (size_t i = 0; i < TARIFF_MONOMIAL_TERMS; i++)
+        expect(tariff_monomial_class(&m, i) == i && tariff_monomial_count(&m, i) == 2 * i + 1, "classes rising");
+    expect(m.terms == TARIFF_MONOMIAL_TERMS && tariff_monomial_total(&m, &total) && total == 65 * 65, "the counts' sum");
+    expect(tariff_monomial_add(&m, 65, 1) == TARIFF_CHILD_FULL && m.terms == TARIFF_MONOMIAL_TERMS, "a class too many");
+    expect(tariff_monomial_add(&m, 0, UINT64_MAX - 65 * 65) == TARIFF_CHILD_ADDED, "a sum of 64 bits");
+    expect(tariff_monomial_total(&m, &total) && total == UINT64_MAX, "the sum of 64 bits");
+    expect(tariff_monomial_add(&m, 1, 1) == TARIFF_CHILD_ADDED && !tariff_monomial_total(&m, &total), "a sum past 64 bits");
+}
+
 int main(void)
 {
     struct tariff_lengths lengths = tariff_lengths();
@@ -124,6 +165,8 @@ int main(void)
     soil();
     refused(tariff_merge_in(&work, clashes, sizeof clashes, 0, 1, 14, out, sizeof out), TARIFF_LITERAL, 1,
         "refusal 10: literal 20 in classes 2 and 3, literal 10 in classes 1 and 4");
+
+    children();
 
     if (!failed)
         puts("C interface: ok");

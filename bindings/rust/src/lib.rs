@@ -19,7 +19,9 @@
 //! # }
 //! ```
 //!
-//! `unsafe` stands in two places: at the call of the library (`raw`), and where a [`Merger`]'s
+//! A [`Monomial`] adds up a member's children as they arrive.
+//!
+//! `unsafe` stands in two places: at the calls of the library (`raw`), and where a [`Merger`]'s
 //! thread promises it enough stack.
 
 #[cfg(not(all(target_arch = "x86_64", target_os = "linux")))]
@@ -27,6 +29,7 @@ compile_error!("libtariff.a is for x86-64 Linux");
 
 mod listing;
 mod merger;
+mod monomial;
 pub mod raw;
 mod reading;
 mod refusal;
@@ -34,5 +37,6 @@ mod text;
 
 pub use listing::{Line, Listing, Run};
 pub use merger::{Merger, Query};
+pub use monomial::{Monomial, Terms, Unadded};
 pub use reading::{Reading, Term};
 pub use refusal::Refusal;

@@ -34,6 +34,14 @@ pub struct Lengths {
     pub runs: usize,
 }
 
+/// 0, or 1 with a full list and 2 with a count past 64 bits; and how many terms the list holds.
+#[repr(C)]
+#[derive(Clone, Copy, Debug, PartialEq, Eq)]
+pub struct AddedChild {
+    pub number: u32,
+    pub terms: usize,
+}
+
 unsafe extern "C" {
     /// The lengths above, as the library has them.
     pub safe fn tariff_lengths() -> Lengths;
@@ -61,6 +69,23 @@ unsafe extern "C" {
         out: *mut u8,
         out_bytes: usize,
     ) -> Returned;
+
+    /// The pointer is valid for as many numbers as the length after it says.
+    pub fn tariff_add_child(
+        list: *mut u64,
+        list_length: usize,
+        terms: usize,
+        class: u16,
+        count: u64,
+    ) -> AddedChild;
+}
+
+/// A child in a list of so many terms, each a class and its count, two numbers of the slice. After
+/// each child the list is the monomial of the children added so far; a child that is refused leaves
+/// every number as it was. Any slice and any number of terms has its answer.
+pub fn add_child(list: &mut [u64], terms: usize, class: u16, count: u64) -> AddedChild {
+    // SAFETY: pointer and length are the slice's own.
+    unsafe { tariff_add_child(list.as_mut_ptr(), list.len(), terms, class, count) }
 }
 
 /// The buffers of one call after another.

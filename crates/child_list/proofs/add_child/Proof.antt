@@ -13,13 +13,13 @@ use Rattle.child_list.proofs.place.Reads as place-reads
 returns : tie.Need-returns
 returns c =
     let b = c .before .before in
-    adds-unlisted (b .args .n) (b .args .c) (b .args .k) (b .args .mono .now) (c .if1 .taken)
+    adds-unlisted (b .args .n) (b .args .c) (b .args .k) (b .args .mono .now) (omega arith)
 
 place-requires : tie.Need-place-requires
-place-requires c κs = search needs
+place-requires c κs = omega arith
 
 lacks-place-requires : tie.Need-lacks-place-requires
-lacks-place-requires c κs = search needs
+lacks-place-requires c κs = omega arith
 
 same-length : tie.Need-same-length
 same-length c = search needs

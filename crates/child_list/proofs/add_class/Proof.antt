@@ -20,7 +20,7 @@ same-length : tie.Need-same-length
 same-length c = search needs
 
 returns : tie.Need-returns
-returns c = search needs
+returns c = c .before .before .add-at .ensures .0
 
 pub add-class-spec : {M : Type 1} → statement M
 add-class-spec = tie.close (tie.spec place-requires add-at-requires same-length returns)

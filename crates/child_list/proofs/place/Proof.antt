@@ -25,7 +25,7 @@ returns : tie.Need-returns Inv-loop μ-loop
 returns c =
     let l = c .before .before .before in
     let b = l .before .before in
-    omega (arith, scan-stop (b .args .c) (b .args .mono .now) (b .args .n) (l .loop .i) (c .before .class-at .result) (b .pre) (omega arith) (c .before .class-at .ensures) (c .if1 .taken), l .loop .inv .1)
+    omega (arith, scan-stop (b .args .c) (b .args .mono .now) (b .args .n) (l .loop .i) (c .before .class-at .result) (b .pre) (omega arith) (c .before .class-at .ensures) (omega arith), l .loop .inv .1)
 
 add-i : tie.Need-add-i Inv-loop μ-loop
 add-i c = search needs
@@ -38,7 +38,7 @@ loop-again c =
     let l = c .before .before .before in
     let b = l .before .before in
     rw add-one
-    (omega (arith, scan-more (b .args .c) (b .args .mono .now) (b .args .n) (l .loop .i) (c .before .class-at .result) (b .pre) (omega arith) (c .before .class-at .ensures) (c .if1 .left), l .loop .inv .1))
+    (omega (arith, scan-more (b .args .c) (b .args .mono .now) (b .args .n) (l .loop .i) (c .before .class-at .result) (b .pre) (omega arith) (c .before .class-at .ensures) (omega arith), l .loop .inv .1))
 
 returns-2 : tie.Need-returns-2 Inv-loop μ-loop
 returns-2 c =
