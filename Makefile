@@ -38,14 +38,16 @@ bindings:
 	target/staticlib/test
 	cd bindings && cargo test --release --offline --quiet
 
-# The listed Rust and the static library on the same queries, in one process; then the memory of both; then what the test of an image costs by its literals.
+# The listed Rust and the static library on the same queries, in one process; then the memory of both; then what the test of an image costs by its literals, and what a member's children cost as they arrive.
 bench:
 	rt staticlib tariff
 	cd bindings && cargo run --release --offline --quiet -p bench --bin bench
 	cd bindings && cargo run --release --offline --quiet -p bench --bin memory
 	cd bindings && cargo run --release --offline --quiet -p bench --bin judging
+	cd bindings && cargo run --release --offline --quiet -p bench --bin streaming
 
-# A million random and damaged inputs for the static library, each answer and buffer held to the promises and to the model.
+# A million random and damaged inputs for the static library, and a million children in lists, each answer and buffer held to the promises and to the model.
 fuzz:
 	rt staticlib tariff
 	cd bindings && cargo run --release --offline --quiet -p bench --bin fuzz 1 1000000
+	cd bindings && cargo run --release --offline --quiet -p bench --bin children 1 1000000

@@ -1,5 +1,5 @@
 #!/usr/bin/env python3
-# run.py [LABEL | mod:MODULE ..]: tries slips of slips.py, each on a copy of crate spec that is checked against the test modules of crates spec and samples one after the other, and prints what refuses it. From the repository's root; --jobs N at a time (2).
+# run.py [LABEL | mod:MODULE ..]: tries slips of slips.py, each on a copy of crate spec that is checked against the test modules of crates spec and samples one after the other, and prints what refuses it; those of module Adding on a copy of the definitions of crate child_list, over the libraries in target/ (rt check child_list). From the repository's root; --jobs N at a time (2).
 import os, queue, re, shutil, subprocess, sys, tempfile, threading
 
 from slips import SLIPS
@@ -14,16 +14,24 @@ samples = 'Samples Slips Bounds Refusals Limits'.split()
 tests = [['Asked', 'Belonging', 'Lowest'], ['Asked', 'Edges', 'Found', 'Kept'], ['Asked', 'Slips'], ['Asked', 'Refusals'], ['Asked', 'Limits', 'Bounds'], ['Asked', 'Samples']]
 
 
+# definitions of another crate: the crate, what it needs, the type of its code that they name, and their tests
+beside = {'Adding': ('child_list', ['spec', 'monomial_terms'], 'Added', ['Trials', 'Drawn'])}
+
+
 # PASSED; REFUSED with the tests that fail; FORM where the definition itself no longer stands
 def check(module, changes, group):
     folder = tempfile.mkdtemp()
     try:
         os.makedirs(folder + '/src')
         os.makedirs(folder + '/specs')
-        shutil.copy(crates + '/spec/src/lib.rt', folder + '/src/lib.rt')
-        modules = definitions + group
+        crate, needs, kind, _ = beside.get(module, ('spec', [], None, None))
+        code = open(f'{crates}/{crate}/src/lib.rt', encoding='utf-8').read()
+        open(folder + '/src/lib.rt', 'w', encoding='utf-8').write(re.search(r'pub enum %s \{.*?\n\}\n' % kind, code, re.S).group() if kind else code)
+        modules = ([module] if kind else definitions) + group
         for m in modules:
-            text = open(f"{crates}/{'samples' if m in samples else 'spec'}/specs/{m}.antt", encoding='utf-8').read().replace('Rattle.spec.', 'Rattle.spec.specs.')
+            text = open(f"{crates}/{'samples' if m in samples else crate}/specs/{m}.antt", encoding='utf-8').read()
+            if not kind:
+                text = text.replace('Rattle.spec.', 'Rattle.spec.specs.')
             if m == module:
                 for old, new in changes:
                     if text.count(old) != 1:
@@ -31,7 +39,9 @@ def check(module, changes, group):
                     text = text.replace(old, new)
             open(f'{folder}/specs/{m}.antt', 'w', encoding='utf-8').write(text)
         open(folder + '/specs/Lib.antt', 'w', encoding='utf-8').write(''.join(f'pub mod {m}\n' for m in modules))
-        command = [own + '/bin/rattle', 'check', '--crate-name', 'spec', folder + '/src/lib.rt', '--extern', f'std={own}/rlib/std.rlib', '-L', f'dependency={own}/rlib', '--antt-project', home + '/logic/antt-project.json', '--logic-built', own + '/logic-built']
+        built = os.path.join(here, '../../target/rlib')
+        externs = [word for need in needs for word in ('--extern', f'{need}={built}/{need}.rlib')] + (['-L', f'dependency={built}'] if needs else [])
+        command = [own + '/bin/rattle', 'check', '--crate-name', crate, folder + '/src/lib.rt', '--extern', f'std={own}/rlib/std.rlib', *externs, '-L', f'dependency={own}/rlib', '--antt-project', home + '/logic/antt-project.json', '--logic-built', own + '/logic-built']
         try:
             done = subprocess.run(command, capture_output=True, text=True, timeout=300)
         except subprocess.TimeoutExpired:
@@ -40,7 +50,7 @@ def check(module, changes, group):
         errors = [(os.path.basename(f)[:-5], name) for f, name in re.findall(r'^(\S+\.antt):\d+:\d+: error: (?:`([^`]*)`)?', out, re.M)]
         if 'logic=proved' in out:
             return 'PASSED', []
-        if not errors or any(m in definitions for m, _ in errors):
+        if not errors or any(m in definitions or m == module for m, _ in errors):
             return 'FORM', [f'{m} {name}' for m, name in errors]
         return 'REFUSED', [f'{m} {name}' for m, name in errors]
     finally:
@@ -48,7 +58,7 @@ def check(module, changes, group):
 
 
 def try_slip(module, changes):
-    for group in tests[:1] if module == 'Meaning' else tests:
+    for group in [beside[module][3]] if module in beside else tests[:1] if module == 'Meaning' else tests:
         verdict, why = check(module, changes, group)
         if verdict != 'PASSED':
             break
@@ -62,7 +72,7 @@ if '--jobs' in words:
     jobs = int(words[i + 1])
     del words[i:i + 2]
 todo = queue.Queue()
-for module in definitions:
+for module in definitions + list(beside):
     for label, changes in SLIPS[module]:
         if not words or label in words or 'mod:' + module in words:
             todo.put((label, module, changes))

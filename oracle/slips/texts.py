@@ -3,11 +3,12 @@
 import os
 from slips import SLIPS
 
-specs = os.path.join(os.path.dirname(os.path.abspath(__file__)), '../../crates/spec/specs')
+crates = os.path.join(os.path.dirname(os.path.abspath(__file__)), '../../crates')
+beside = {'Adding': 'child_list'}
 labels = []
 bad = 0
 for module in SLIPS:
-    whole = open(f'{specs}/{module}.antt', encoding='utf-8').read()
+    whole = open(f"{crates}/{beside.get(module, 'spec')}/specs/{module}.antt", encoding='utf-8').read()
     for label, changes in SLIPS[module]:
         text = whole
         for old, new in changes:

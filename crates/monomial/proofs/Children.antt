@@ -115,8 +115,8 @@ module _ (s : List ℕ) (im : Image) (l : Loaded s im) (v : Valid (tablesOf s)) 
       let g : m < length (tablesOf s .members) = rw (members-many s im l) h in
       rw (e, part-slice (tablesOf s .children) (theMember (tablesOf s) m .first) (theMember (tablesOf s) m .count) (childrenWithin (tablesOf s) v m g)) at d
 
-  pub child-number : (m : ℕ) (p : Span) (k : ℕ) → m < im .members → p ≡ childSpan (theMember (tablesOf s) m) → k < p .to → k < im .children
-  child-number m p k h e f = omega (arith, member-few m p h e .in-table, children-many s im l)
+  pub span-within : (m : ℕ) (p : Span) → m < im .members → p ≡ childSpan (theMember (tablesOf s) m) → p .to ≤ im .children
+  span-within m p h e = omega (arith, member-few m p h e .in-table, children-many s im l)
 
 -- ---- a class itself once, in a buffer
 pub none-roomy : (s : List ℕ) → length s ≡ 130 → Roomy 0 1 s

@@ -1,4 +1,4 @@
-use Rattle.monomial.proofs.Children.{Upto, upto-none, upto-room, upto-turn, upto-all, member-few, member-made, child-number}
+use Rattle.monomial.proofs.Children.{Upto, upto-none, upto-room, upto-turn, upto-all, member-few, member-made, span-within}
 use Rattle.spec.specs.Image.{tablesOf}
 use borrow.Author.Needs.{needs}
 use Prim.Native.Nat.{_-_}
@@ -27,7 +27,7 @@ add-kth-requires c κs =
     let d = l .before in
     let b = d .before .before .before in (
       b .pre .0,
-      child-number (b .args .s .now) (b .args .im) (b .pre .0) (b .pre .1) (b .args .m) (d .children-of .result) (l .loop .k) (b .pre .2) (d .children-of .ensures .0) (omega arith),
+      omega (arith, span-within (b .args .s .now) (b .args .im) (b .pre .0) (b .pre .1) (b .args .m) (d .children-of .result) (b .pre .2) (d .children-of .ensures .0), l .loop .inv .from),
       upto-room (tablesOf (b .args .s .now)) (d .children-of .result .from) (d .children-of .result .to)
           (member-few (b .args .s .now) (b .args .im) (b .pre .0) (b .pre .1) (b .args .m) (d .children-of .result) (b .pre .2) (d .children-of .ensures .0))
           (b .args .mono .now) (l .loop .mono) (l .loop .n) (l .loop .k) (l .loop .inv) (omega arith),
