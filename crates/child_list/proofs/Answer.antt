@@ -1,18 +1,17 @@
 -- The answers of add_child, one law for each way out.
 use mathlib.Core.Path.{_≡_, refl, sym, ap, _∙_}
 use mathlib.Core.Bool.{Bool, true, false}
-use mathlib.Core.List.{List, [], _∷_, _++_}
-use Prim.Native.Nat.{ℕ, suc, _+_, _-_, _*_, _/_, _≤_, _<_, _^_}
+use mathlib.Core.List.{List}
+use Prim.Native.Nat.{ℕ, _+_, _-_, _*_, _/_, _≤_, _<_, _^_}
 use native.Mathlib.Omega.{arith}
 use borrow.Author.Tests.{lt-ltb, le-ltb, le-leb, lt-leb, ltb-true, ltb-false, leb-true, leb-false}
 use lib.Dec.{ltb, leb}
-use lib.ListN.{length, drop}
-use lib.Seq.{take-at}
+use lib.ListN.{length}
 use Rattle.spec.specs.Bytes.{Two, pick}
-use Rattle.spec.specs.Monomial.{Monomial, insertAdd, addAll, monomial}
+use Rattle.spec.specs.Monomial.{Monomial, insertAdd, monomial}
 use Rattle.laws.specs.Tests.{clash}
 use Rattle.laws.specs.Monomials.{monomial-more}
-use Rattle.monomial_terms.specs.Terms.{terms, held, position, front, Holds}
+use Rattle.monomial_terms.specs.Terms.{terms, held, position, Holds}
 use Rattle.child_list.specs.Adding.{places, countWith, addedOf, laid, listAfter, termsAfter, readAfter, Adds, rest, stands, countThere, Fits}
 use Rattle.child_list.specs.AddLaws.{two-each, same-buffer, laid-terms, laid-rest, held-laid, hit-length, miss-length, hit-count, miss-count}
 use Rattle.child_list.specs.declared.Added.{Added}

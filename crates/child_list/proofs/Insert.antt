@@ -1,15 +1,15 @@
 -- The scan for a class's place, and what add_at leaves.
 use mathlib.Core.Path.{_≡_, refl, sym, ap, _∙_}
-use mathlib.Core.Bool.{Bool, true, false}
+use mathlib.Core.Bool.{true, false}
 use mathlib.Core.List.{List, [], _∷_, _++_}
-use Prim.Native.Nat.{ℕ, zero, suc, _+_, _*_, _≤_, _<_, _^_, zero-le}
+use Prim.Native.Nat.{ℕ, zero, suc, _+_, _*_, _≤_, _<_, zero-le}
 use native.Mathlib.Numerals.{add-one}
 use native.Mathlib.Omega.{arith}
-use borrow.Author.Tests.{lt-ltb, le-ltb, eq-eqb, ne-eqb, eqb-true}
-use lib.Dec.{ltb, eqb}
-use lib.ListN.{length, take, drop, getD, set, length-set, take-append-drop, drop-of-length-le}
+use borrow.Author.Tests.{lt-ltb, le-ltb}
+use lib.Dec.{eqb}
+use lib.ListN.{length, take, drop, getD, set, take-append-drop, drop-of-length-le}
 use lib.Seq.{drop-cons, paste, take-take, take-add, drop-at, getD-take, length-take-le, set-append-left}
-use Rattle.spec.specs.Bytes.{Two, both, sum}
+use Rattle.spec.specs.Bytes.{Two, sum}
 use Rattle.spec.specs.Monomial.{Monomial, insertAdd, total}
 use Rattle.monomial_terms.specs.Terms.{terms, held, position, Holds, Roomy}
 use Rattle.child_list.specs.Adding.{stands, countThere, Fits}

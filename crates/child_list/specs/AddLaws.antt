@@ -9,7 +9,7 @@ use borrow.Author.Tests.{lt-ltb, eq-eqb, ne-eqb, ltb-true, eqb-true}
 use lib.Dec.{ltb, eqb}
 use lib.ListN.{length, take, drop, getD, set, length-append, length-take, length-drop, length-set}
 use lib.Seq.{take-at, getD-at, getD-set-same, length-take-le}
-use Rattle.spec.specs.Bytes.{Two, pick, both}
+use Rattle.spec.specs.Bytes.{Two, pick}
 use Rattle.spec.specs.Monomial.{Monomial, insertAdd}
 use Rattle.laws.specs.Tests.{both-true, clash}
 use Rattle.monomial_terms.specs.Terms.{terms, held, position, front}

@@ -6,7 +6,7 @@ use Prim.Native.Nat.{ℕ, _+_, _*_, _≤_, _<_, _^_}
 use lib.Dec.{ltb, eqb}
 use lib.ListN.{length, drop, getD}
 use Rattle.spec.specs.Bytes.{Two, pick, both}
-use Rattle.spec.specs.Monomial.{Monomial, insertAdd, addAll, monomial}
+use Rattle.spec.specs.Monomial.{Monomial, insertAdd, monomial}
 use Rattle.monomial_terms.specs.Terms.{terms, held, position}
 use Rattle.child_list.specs.declared.Added.{Added}
 use Rattle.child_list.specs.declared.Added.the-variants.{Held, Full, Overflow}
@@ -32,7 +32,7 @@ unfoldable pub laid : Monomial → List ℕ → List ℕ
 laid [] s = s
 laid (t ∷ m) s = t .0 ∷ t .1 ∷ laid m (drop 2 s)
 
--- the buffer afterwards; "leaves the list as it was"
+-- the buffer afterwards; a refusal leaves it as it was
 abbrev pub listAfter : Added → ℕ → ℕ → ℕ → List ℕ → List ℕ
 listAfter (Held m) n c k s = laid (insertAdd c k (held n s)) s
 listAfter Full n c k s = s

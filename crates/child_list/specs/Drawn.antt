@@ -1,6 +1,6 @@
 -- Drawn children, and the model's states after each: made by `harness children` of the oracle.
 use mathlib.Core.Path.{_≡_, refl}
-use mathlib.Core.List.{List, [], _∷_}
+use mathlib.Core.List.{[], _∷_}
 use Rattle.child_list.specs.Adding.{addedOf, laid}
 use Rattle.child_list.specs.Trials.{stream}
 

@@ -4,7 +4,7 @@ use mathlib.Core.List.{List, [], _∷_}
 use Prim.Native.Nat.{ℕ}
 use Rattle.spec.specs.Bytes.{Two}
 use Rattle.spec.specs.Monomial.{Monomial, addAll, monomial}
-use Rattle.child_list.specs.Adding.{addedOf, laid, listAfter, termsAfter}
+use Rattle.child_list.specs.Adding.{addedOf, laid, listAfter, termsAfter, readAfter}
 use Rattle.child_list.specs.declared.Added.{Added}
 use Rattle.child_list.specs.declared.Added.the-variants.{Held, Full, Overflow}
 
@@ -84,3 +84,13 @@ brim-of-each = refl
 everywhere : stream 0 (0 ∷ 0 ∷ 0 ∷ 0 ∷ 0 ∷ 0 ∷ 0 ∷ 0 ∷ []) ((9, 1) ∷ (0, 2) ∷ (65535, 3) ∷ (5, 4) ∷ []) ≡ ((0 ∷ 1 ∷ 9 ∷ 1 ∷ 0 ∷ 0 ∷ 0 ∷ 0 ∷ 0 ∷ 0 ∷ []) ∷ (0 ∷ 2 ∷ 0 ∷ 2 ∷ 9 ∷ 1 ∷ 0 ∷ 0 ∷ 0 ∷ 0 ∷ []) ∷ (0 ∷ 3 ∷ 0 ∷ 2 ∷ 9 ∷ 1 ∷ 65535 ∷ 3 ∷ 0 ∷ 0 ∷ []) ∷ (0 ∷ 4 ∷ 0 ∷ 2 ∷ 5 ∷ 4 ∷ 9 ∷ 1 ∷ 65535 ∷ 3 ∷ []) ∷ [])
 unfolding addedOf laid
 everywhere = refl
+
+-- ---- the children read so far: the child last, and none that was refused
+read-added : readAfter (Held 2) 4 2 ((4, 1) ∷ (2, 3) ∷ []) ≡ (4, 1) ∷ (2, 3) ∷ (4, 2) ∷ []
+read-added = refl
+
+read-full : readAfter Full 4 2 ((4, 1) ∷ (2, 3) ∷ []) ≡ (4, 1) ∷ (2, 3) ∷ []
+read-full = refl
+
+read-overflow : readAfter Overflow 4 2 ((4, 1) ∷ (2, 3) ∷ []) ≡ (4, 1) ∷ (2, 3) ∷ []
+read-overflow = refl

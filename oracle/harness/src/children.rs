@@ -76,7 +76,7 @@ pub fn module(seed: u64, count: usize) -> String {
     let mut rng = Rng::new(seed);
     let mut text = "-- Drawn children, and the model's states after each: made by `harness children` of the oracle.\n\
                     use mathlib.Core.Path.{_≡_, refl}\n\
-                    use mathlib.Core.List.{List, [], _∷_}\n\
+                    use mathlib.Core.List.{[], _∷_}\n\
                     use Rattle.child_list.specs.Adding.{addedOf, laid}\n\
                     use Rattle.child_list.specs.Trials.{stream}\n"
         .to_string();
