@@ -11,12 +11,12 @@ use Rattle.spec.specs.Bytes.{Two, pick}
 use Rattle.spec.specs.Monomial.{Monomial, insertAdd, monomial}
 use Rattle.laws.specs.Tests.{clash}
 use Rattle.laws.specs.Monomials.{monomial-more}
-use Rattle.monomial_terms.specs.Terms.{terms, held, position, Holds}
-use Rattle.child_list.specs.Adding.{places, countWith, addedOf, laid, listAfter, termsAfter, readAfter, Adds, rest, stands, countThere, Fits}
-use Rattle.child_list.specs.AddLaws.{two-each, same-buffer, laid-terms, laid-rest, held-laid, hit-length, miss-length, hit-count, miss-count}
+use Rattle.monomial_terms.specs.Terms.{terms, rest, held, position, Holds}
+use Rattle.monomial_terms.specs.TermLaws.{two-each, same-buffer, held-full}
+use Rattle.child_list.specs.Adding.{places, countWith, addedOf, laid, listAfter, termsAfter, readAfter, Adds, stands, countThere, Fits}
+use Rattle.child_list.specs.AddLaws.{laid-terms, laid-rest, held-laid, hit-length, miss-length, hit-count, miss-count}
 use Rattle.child_list.specs.declared.Added.{Added}
 use Rattle.child_list.specs.declared.Added.the-variants.{Held, Full, Overflow}
-use Rattle.child_list.proofs.Insert.{held-full}
 
 pub half-places : (s : List ℕ) → length s / 2 ≡ places s
 half-places s = omega (arith, two-each s)

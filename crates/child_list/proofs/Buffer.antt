@@ -8,7 +8,7 @@ use lib.ListN.{length, take, drop, getD, set, length-drop}
 use lib.Seq.{drop-cons, paste, paste-suc, paste-zero, getD-drop, getD-at, length-paste-head}
 use Rattle.spec.specs.Bytes.{Two}
 use Rattle.monomial_terms.specs.Terms.{terms}
-use Rattle.child_list.specs.AddLaws.{two-each}
+use Rattle.monomial_terms.specs.TermLaws.{two-each}
 
 -- ---- a carry that ripples up: place p + j takes the carry, and hands its own term on
 module _ (l : List Two) (p j : ℕ) (t : Two) (h : p + j < length l) where

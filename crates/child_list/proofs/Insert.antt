@@ -13,10 +13,8 @@ use Rattle.spec.specs.Bytes.{Two, sum}
 use Rattle.spec.specs.Monomial.{Monomial, insertAdd, total}
 use Rattle.monomial_terms.specs.Terms.{terms, held, position, Holds, Roomy}
 use Rattle.child_list.specs.Adding.{stands, countThere, Fits}
-use Rattle.child_list.specs.AddLaws.{two-each, stands-there, hit, miss, hit-length, miss-length}
-
-pub held-full : (n : ℕ) (s : List ℕ) → 2 * n ≤ length s → length (held n s) ≡ n
-held-full n s h = length-take-le n (terms s) (omega (arith, two-each s))
+use Rattle.monomial_terms.specs.TermLaws.{two-each, held-full}
+use Rattle.child_list.specs.AddLaws.{stands-there, hit, miss, hit-length, miss-length}
 
 -- ---- position
 module _ (c : ℕ) (m : Monomial) (i : ℕ) (h : i < length m) where

@@ -1,8 +1,8 @@
--- Laws of the list: a buffer is its terms and the number behind them; how long a list is with a child more, and what count the child's class has then.
+-- Laws of the list: how it lies in a buffer; how long a list is with a child more, and what count the child's class has then.
 use mathlib.Core.Path.{_≡_, refl, sym, ap, _∙_}
 use mathlib.Core.Bool.{Bool, true, false}
 use mathlib.Core.List.{List, [], _∷_, _++_}
-use Prim.Native.Nat.{ℕ, zero, suc, _+_, _*_, _≤_, _<_, suc-le-suc, zero-le}
+use Prim.Native.Nat.{ℕ, suc, _+_, _≤_, _<_, suc-le-suc, zero-le}
 use native.Mathlib.Nat.{not-suc-le-zero, le-of-suc-le-suc}
 use native.Mathlib.Omega.{arith}
 use borrow.Author.Tests.{lt-ltb, eq-eqb, ne-eqb, ltb-true, eqb-true}
@@ -12,44 +12,10 @@ use lib.Seq.{take-at, getD-at, getD-set-same, length-take-le}
 use Rattle.spec.specs.Bytes.{Two, pick}
 use Rattle.spec.specs.Monomial.{Monomial, insertAdd}
 use Rattle.laws.specs.Tests.{both-true, clash}
-use Rattle.monomial_terms.specs.Terms.{terms, held, position, front}
-use Rattle.child_list.specs.Adding.{places, countWith, laid, rest, stands, countThere}
+use Rattle.monomial_terms.specs.Terms.{terms, rest, held, position, front}
+use Rattle.child_list.specs.Adding.{places, countWith, laid, stands, countThere}
 
 -- ---- buffers
--- two numbers a term, and one behind them at most
-pub two-each : (s : List ℕ) → (2 * places s ≤ length s) × (length s ≤ 2 * places s + 1)
-unfolding terms
-two-each [] = omega arith
-two-each (x ∷ []) = omega arith
-two-each (x ∷ y ∷ s) = omega (arith, two-each s)
-
--- a buffer is its terms and the number behind them
-pub same-buffer : (s u : List ℕ) → terms s ≡ terms u → rest s ≡ rest u → s ≡ u
-unfolding terms rest
-same-buffer [] [] q e = refl
-same-buffer [] (y ∷ []) q e = absurd (let z : _≡_ {A = ℕ} 0 1 = ap length e in omega arith)
-same-buffer [] (y ∷ w ∷ u) q e = absurd (let z : 0 ≡ suc (length (terms u)) = ap length q in omega arith)
-same-buffer (x ∷ []) [] q e = absurd (let z : _≡_ {A = ℕ} 1 0 = ap length e in omega arith)
-same-buffer (x ∷ []) (y ∷ []) q e = e
-same-buffer (x ∷ []) (y ∷ w ∷ u) q e = absurd (let z : 0 ≡ suc (length (terms u)) = ap length q in omega arith)
-same-buffer (x ∷ v ∷ s) [] q e = absurd (let z : suc (length (terms s)) ≡ 0 = ap length q in omega arith)
-same-buffer (x ∷ v ∷ s) (y ∷ []) q e = absurd (let z : suc (length (terms s)) ≡ 0 = ap length q in omega arith)
-same-buffer (x ∷ v ∷ s) (y ∷ w ∷ u) q e =
-    let r : terms s ≡ terms u = cc in
-    let a : x ≡ y = ap (λ (l : List Two). getD l 0 (0, 0) .0) q in
-    let b : v ≡ w = ap (λ (l : List Two). getD l 0 (0, 0) .1) q in
-    rw (a, b, same-buffer s u r e) refl
-
-pub rest-set : (s : List ℕ) (i c k : ℕ) → 2 * i + 1 < length s → rest (set (set s (2 * i) c) (2 * i + 1) k) ≡ rest s
-unfolding rest
-rest-set [] i c k h = absurd (not-suc-le-zero h)
-rest-set (x ∷ []) i c k h = absurd (omega arith)
-rest-set (x ∷ y ∷ s) zero c k h = refl
-rest-set (x ∷ y ∷ s) (suc i) c k h =
-    let a : 2 * suc i ≡ suc (suc (2 * i)) = omega arith in
-    let b : 2 * suc i + 1 ≡ suc (suc (2 * i + 1)) = omega arith in
-    rw (b, a) (rest-set s i c k (omega arith))
-
 pub laid-terms : (m : Monomial) (s : List ℕ) → length m ≤ places s → terms (laid m s) ≡ front m (terms s)
 unfolding laid terms
 laid-terms [] s h = refl

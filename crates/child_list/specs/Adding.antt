@@ -58,12 +58,6 @@ pub record Adds (n c k : ℕ) (s s′ : List ℕ) (r : Added) : Type 0 where
   pub monomial-of : (l : List Two) → held n s ≡ monomial l → held (termsAfter r n) s′ ≡ monomial (readAfter r c k l)
 
 -- ---- for the private functions
--- the last number of an odd buffer, which no term has
-unfoldable pub rest : List ℕ → List ℕ
-rest [] = []
-rest (x ∷ []) = x ∷ []
-rest (x ∷ y ∷ s) = rest s
-
 -- class c stands in the list
 unfoldable pub stands : ℕ → Monomial → Bool
 unfolding position

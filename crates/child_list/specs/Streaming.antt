@@ -12,9 +12,9 @@ use Rattle.spec.specs.Monomial.{Monomial, insertAdd, addAll, monomial, total, C
 use Rattle.spec.specs.Meaning.{countIn}
 use Rattle.laws.specs.Monomials.{Rising, end, more, monomial-rises, monomial-more, monomial-counts}
 use Rattle.monomial_terms.specs.Terms.{terms, held, position}
-use Rattle.monomial_terms.specs.TermLaws.{grow}
+use Rattle.monomial_terms.specs.TermLaws.{two-each, grow}
 use Rattle.child_list.specs.Adding.{places, countWith, addedOf, laid, listAfter, termsAfter, readAfter, Adds}
-use Rattle.child_list.specs.AddLaws.{laid-terms, two-each}
+use Rattle.child_list.specs.AddLaws.{laid-terms}
 use Rattle.child_list.specs.declared.Added.{Added}
 use Rattle.child_list.specs.declared.Added.the-variants.{Held, Full, Overflow}
 

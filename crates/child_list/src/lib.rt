@@ -8,8 +8,8 @@ ghost use lib.ListN.{length, set, drop};
 ghost use lib.Seq.{paste};
 ghost use Rattle.spec.specs.Bytes.{pick};
 ghost use Rattle.spec.specs.Monomial.{insertAdd};
-ghost use Rattle.monomial_terms.specs.Terms.{terms, held, position, Holds, Roomy};
-ghost use Rattle.child_list.specs.Adding.{Adds, Fits, stands, countThere, places, rest};
+ghost use Rattle.monomial_terms.specs.Terms.{terms, rest, held, position, Holds, Roomy};
+ghost use Rattle.child_list.specs.Adding.{Adds, Fits, stands, countThere, places};
 use monomial_terms::class_at;
 use monomial_terms::count_at;
 

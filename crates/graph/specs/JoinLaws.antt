@@ -5,7 +5,7 @@ use Prim.Native.Nat.{ℕ, suc, _+_, _≤_, _<_}
 use native.Mathlib.Numerals.{add-one}
 use native.Mathlib.Omega.{arith}
 use lib.ListN.{length, getD, drop, drop-of-length-le}
-use lib.Seq.{drop-cons, getD-take, length-take-le}
+use lib.Seq.{drop-cons, getD-take}
 use Rattle.spec.specs.Bytes.{Two, each}
 use Rattle.spec.specs.Image.{Tables, tablesOf}
 use Rattle.spec.specs.Monomial.{Monomial, classes, pairOf}
@@ -24,7 +24,7 @@ use Rattle.enumeration.specs.Remaining as R
 use Rattle.enumeration.specs.Seek.{seekOf}
 use Rattle.enumeration.specs.SeekLaws.{seek-list}
 use Rattle.monomial_terms.specs.Terms.{TERMS, NUMBERS, terms, held}
-use Rattle.monomial_terms.specs.TermLaws.{terms-length}
+use Rattle.monomial_terms.specs.TermLaws.{held-length}
 use Rattle.padding.specs.Pad.{Few}
 use Rattle.ac_repr.specs.Walk.{Within, Stepped, walks, allWalks, leftOf, afterOf}
 use Rattle.ac_monomials.specs.Actions.{Answered, actionsAt}
@@ -73,17 +73,14 @@ rowFrom l cols right j = map (λ b. (l, b)) (classes (drop j (held cols right)))
 abbrev pub cellsFrom : ℕ → List ℕ → ℕ → List ℕ → ℕ → List Two
 cellsFrom rows left cols right i = each (λ a. map (λ b. (a, b)) (classes (held cols right))) (classes (drop i (held rows left)))
 
-held-many : (n : ℕ) (s : List ℕ) → length s ≡ NUMBERS → n ≤ TERMS → length (held n s) ≡ n
-held-many n s e h = length-take-le n (terms s) (omega (arith, h, terms-length 65 s e))
-
 held-next : (n : ℕ) (s : List ℕ) (j x : ℕ) → length s ≡ NUMBERS → n ≤ TERMS → j < n → x ≡ getD (terms s) j (0, 0) .0 → classes (drop j (held n s)) ≡ x ∷ classes (drop (j + 1) (held n s))
 held-next n s j x e h k f =
-    let d : drop j (held n s) ≡ getD (held n s) j (0, 0) ∷ drop (suc j) (held n s) = drop-cons (held n s) j (0, 0) (omega (arith, k, held-many n s e h)) in
+    let d : drop j (held n s) ≡ getD (held n s) j (0, 0) ∷ drop (suc j) (held n s) = drop-cons (held n s) j (0, 0) (omega (arith, k, held-length n s e h)) in
     let g : getD (held n s) j (0, 0) ≡ getD (terms s) j (0, 0) = getD-take n (terms s) j (0, 0) k in
     rw (d, f, add-one j, g) refl
 
 held-end : (n : ℕ) (s : List ℕ) (j : ℕ) → length s ≡ NUMBERS → n ≤ TERMS → n ≤ j → drop j (held n s) ≡ []
-held-end n s j e h k = drop-of-length-le (held n s) {i = j} (omega (arith, k, held-many n s e h))
+held-end n s j e h k = drop-of-length-le (held n s) {i = j} (omega (arith, k, held-length n s e h))
 
 module _ (l cols : ℕ) (right : List ℕ) (e : length right ≡ NUMBERS) (h : cols ≤ TERMS) where
   pub row-next : (j r : ℕ) (x : ℕ) → j < cols → r ≡ x → x ≡ getD (terms right) j (0, 0) .0 → rowFrom l cols right j ≡ ((l, r) ∷ []) ++ rowFrom l cols right (j + 1)

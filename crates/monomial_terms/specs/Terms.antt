@@ -20,6 +20,12 @@ terms [] = []
 terms (x ∷ []) = []
 terms (x ∷ y ∷ s) = (x, y) ∷ terms s
 
+-- the last number of an odd buffer, which no term has
+unfoldable pub rest : List ℕ → List ℕ
+rest [] = []
+rest (x ∷ []) = x ∷ []
+rest (x ∷ y ∷ s) = rest s
+
 abbrev pub held : ℕ → List ℕ → Monomial
 held n s = take n (terms s)
 

@@ -1,6 +1,5 @@
 use Rattle.child_list.proofs.Buffer.{Rippled, rippled-none, rippled-more}
-use Rattle.monomial_terms.specs.Terms.{terms}
-use Rattle.child_list.specs.Adding.{rest}
+use Rattle.monomial_terms.specs.Terms.{terms, rest}
 use borrow.Author.Needs.{needs}
 use Prim.Native.Nat.{_≤_, _<_, _-_, _+_, _*_}
 use native.Mathlib.Omega.{arith}

@@ -1,5 +1,4 @@
-use Rattle.monomial_terms.specs.TermLaws.{terms-set}
-use Rattle.child_list.specs.AddLaws.{rest-set}
+use Rattle.monomial_terms.specs.TermLaws.{terms-set, rest-set}
 use native.Mathlib.Omega.{arith}
 use lib.ListN.{length-set}
 use borrow.Author.Needs.{needs}
