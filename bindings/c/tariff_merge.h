@@ -158,7 +158,8 @@ struct tariff_added {
  *
  * From `terms` 0 on, whatever the array held, and with the `terms` of each answer given to the next call:
  * after each child the list is the monomial of the children added so far. Numbers behind the list stay as
- * they were, and a child that is refused leaves every number as it was. Needs little stack.
+ * they were, and a child that is refused leaves every number as it was. Class and count are not judged: a
+ * count of 0 makes a term of count 0, which no image has. Needs little stack.
  */
 struct tariff_added tariff_add_child(
     uint64_t *list, size_t list_length, size_t terms,

@@ -45,7 +45,7 @@ impl Monomial {
         }
     }
 
-    /// A child of this class, so many times.
+    /// A child of this class, so many times; 0 times makes a term of count 0, which no image has.
     ///
     /// # Errors
     ///
