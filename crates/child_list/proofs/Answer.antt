@@ -51,7 +51,7 @@ unfolding addedOf
 adds-unlisted n c k s h = refused-as n c k s Full (sym (rw (lt-ltb (places s) n (omega (arith, half-places s))) refl)) refl (λ l e. e)
 
 -- the n terms have places
-module _ (n p c k : ℕ) (s : List ℕ) (h : n ≤ length s / 2) where
+module _ (n c k : ℕ) (s : List ℕ) (h : n ≤ length s / 2) where
   listed : 2 * n ≤ length s
   listed = omega (arith, two-each s)
 
@@ -108,8 +108,8 @@ module _ (n p c k : ℕ) (s : List ℕ) (h : n ≤ length s / 2) where
           step true q = omega (arith, hit-count c k (held n s) q, there-fits q)
           step false q = omega (arith, miss-count c k (held n s) q)
 
-      pub fits-at : p ≡ position c (held n s) → p ≤ n → Fits n p c k s
-      fits-at g w = record { listed = listed; place = g; within = w; room = λ q. omega (arith, new-place q, two-each s); count = there-fits }
+      pub fits-at : (p : ℕ) → p ≡ position c (held n s) → p ≤ n → Fits n p c k s
+      fits-at p g w = record { listed = listed; place = g; within = w; room = λ q. omega (arith, new-place q, two-each s); count = there-fits }
 
       pub adds-held : (s′ : List ℕ) (m : ℕ) → Holds (insertAdd c k (held n s)) s s′ m × (rest s′ ≡ rest s) → Adds n c k s s′ (Held m)
       unfolding addedOf

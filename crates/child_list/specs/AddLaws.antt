@@ -34,7 +34,7 @@ pub held-laid : (m : Monomial) (s : List ℕ) → length m ≤ places s → held
 held-laid m s h = rw (laid-terms m s h) (take-at m (drop (length m) (terms s)) (length m) refl)
 
 -- ---- a class and its place
-pub position-le : (c : ℕ) (m : Monomial) → position c m ≤ length m
+position-le : (c : ℕ) (m : Monomial) → position c m ≤ length m
 unfolding position
 position-le c [] = zero-le
 position-le c (t ∷ m) = step (ltb (t .0) c) (position-le c m)
@@ -50,11 +50,11 @@ module _ (c : ℕ) (m : Monomial) where
       let (a, b) = both-true (ltb (position c m) (length m)) (eqb (getD m (position c m) (0, 0) .0) c) .0 e in
       (ltb-true (position c m) (length m) a, eqb-true (getD m (position c m) (0, 0) .0) c b)
 
-  pub stands-by : position c m < length m → getD m (position c m) (0, 0) .0 ≡ c → stands c m ≡ true
+  stands-by : position c m < length m → getD m (position c m) (0, 0) .0 ≡ c → stands c m ≡ true
   unfolding stands
   stands-by h e = rw (lt-ltb (position c m) (length m) h, eq-eqb (getD m (position c m) (0, 0) .0) c e) refl
 
-  pub stands-not : stands c m ≡ false → position c m < length m → getD m (position c m) (0, 0) .0 ≡ c → ⊥
+  stands-not : stands c m ≡ false → position c m < length m → getD m (position c m) (0, 0) .0 ≡ c → ⊥
   stands-not n h e = clash (sym (stands-by h e) ∙ n)
 
 -- the class stands there: its count grows

@@ -4,12 +4,13 @@ use mathlib.Core.Bool.{Bool, true, false}
 use mathlib.Core.List.{List, [], _∷_, _++_}
 use Prim.Native.Nat.{ℕ, suc, _+_, _*_, _≤_, _<_, _^_}
 use native.Mathlib.Omega.{arith}
-use borrow.Author.Tests.{lt-ltb, le-ltb, ltb-true, ltb-false, eqb-true, ne-eqb}
-use lib.Dec.{ltb, eqb}
+use borrow.Author.Tests.{lt-ltb, le-ltb, ltb-true, ltb-false, eqb-true, ne-eqb, leb-true}
+use lib.Dec.{ltb, leb, eqb}
 use lib.ListN.{length, drop, getD, length-append, length-drop}
-use Rattle.spec.specs.Bytes.{Two, pick, sum}
-use Rattle.spec.specs.Monomial.{Monomial, insertAdd, addAll, monomial, total, COUNT}
+use Rattle.spec.specs.Bytes.{Two, pick, all, sum}
+use Rattle.spec.specs.Monomial.{Monomial, insertAdd, addAll, monomial, total, narrow}
 use Rattle.spec.specs.Meaning.{countIn}
+use Rattle.laws.specs.Tests.{clash}
 use Rattle.laws.specs.Monomials.{Rising, end, more, monomial-rises, monomial-more, monomial-counts}
 use Rattle.monomial_terms.specs.Terms.{terms, held, position}
 use Rattle.monomial_terms.specs.TermLaws.{two-each, grow}
@@ -116,7 +117,16 @@ always-added {l} {n} {s} d c k h g =
     let z : countIn c l + k < 2 ^ 64 = omega (arith, count-within c l) in
     answer-by l n c k s (after-each d) (listed d) ∙ rw (le-ltb (places s) (length (monomial (l ++ ((c, k) ∷ [])))) f, lt-ltb (countIn c l + k) (2 ^ 64) z) refl
 
--- "child count (2, at most 64)", "count (4, at least 1)": a member's children in a buffer of 128 numbers, or of the engine's 130
-pub member-added : {l : List Two} {n : ℕ} {s : List ℕ} → Streamed l n s → (c k : ℕ) → 128 ≤ length s → length l < 64 → total l ≤ 63 * COUNT → k ≤ COUNT
+narrow-total : (l : List Two) → narrow l ≡ true → total l ≤ length l * 4294967295
+unfolding all total sum
+narrow-total [] e = omega arith
+narrow-total (t ∷ l) e = step (leb (t .1) 4294967295) refl e (narrow-total l)
+  where
+    step : (b : Bool) → leb (t .1) 4294967295 ≡ b → elim b [ true ↦ narrow l | false ↦ false ] ≡ true → (narrow l ≡ true → total l ≤ length l * 4294967295) → t .1 + total l ≤ suc (length l) * 4294967295
+    step true q f ih = omega (arith, leb-true (t .1) 4294967295 q, ih f)
+    step false q f ih = absurd (clash (sym f))
+
+-- "child count (2, at most 64)", "count (4, at least 1)": a member's children, each count at most 4,294,967,295, in a buffer of 128 numbers or more
+pub member-added : {l : List Two} {n : ℕ} {s : List ℕ} → Streamed l n s → (c k : ℕ) → 128 ≤ length s → length l < 64 → narrow l ≡ true → k ≤ 4294967295
     → addedOf n c k s ≡ Held (length (monomial (l ++ ((c, k) ∷ []))))
-member-added {l} {n} {s} d c k w h t u = always-added d c k (omega (arith, two-each s)) (omega arith)
+member-added {l} {n} {s} d c k w h t u = always-added d c k (omega (arith, two-each s)) (omega (arith, narrow-total l t))

@@ -5,12 +5,6 @@ use mathlib.Core.Path.{sym, _∙_}
 use borrow.Author.Needs.{needs}
 use Rattle.child_list.proofs.add_at.Statement.{statement}
 use Rattle.child_list.proofs.add_at.Tie as tie
-use Rattle.child_list.proofs.add_at.Reads as reads
-use Rattle.child_list.proofs.add_at.Lts as lts
-use Rattle.child_list.proofs.insert_term.Reads as insert-term-reads
-use Rattle.child_list.proofs.put_term.Reads as put-term-reads
-use Rattle.child_list.proofs.stands_at.Reads as stands-at-reads
-use Rattle.monomial_terms.proofs.count_at.Reads as count-at-reads
 
 stands-at-requires : tie.Need-stands-at-requires
 stands-at-requires c κs = search needs

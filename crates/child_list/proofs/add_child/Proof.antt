@@ -3,12 +3,6 @@ use native.Mathlib.Omega.{arith}
 use borrow.Author.Needs.{needs}
 use Rattle.child_list.proofs.add_child.Statement.{statement}
 use Rattle.child_list.proofs.add_child.Tie as tie
-use Rattle.child_list.proofs.add_child.Reads as reads
-use Rattle.child_list.proofs.add_child.Lts as lts
-use Rattle.child_list.proofs.add_at.Reads as add-at-reads
-use Rattle.child_list.proofs.lacks_place.Reads as lacks-place-reads
-use Rattle.child_list.proofs.overflows.Reads as overflows-reads
-use Rattle.child_list.proofs.place.Reads as place-reads
 
 returns : tie.Need-returns
 returns c =
@@ -29,7 +23,7 @@ returns-2 c =
     let l = c .before in
     let e = l .before .before .before .before in
     let b = e .before .before in
-    adds-full (b .args .n) (l .before .before .place .result) (b .args .c) (b .args .k) (b .args .mono .now) (e .if1 .left) (l .lacks-place .result) (l .lacks-place .ensures) (c .if2 .taken)
+    adds-full (b .args .n) (b .args .c) (b .args .k) (b .args .mono .now) (e .if1 .left) (l .lacks-place .result) (l .lacks-place .ensures) (c .if2 .taken)
 
 overflows-requires : tie.Need-overflows-requires
 overflows-requires c κs = search needs
@@ -44,7 +38,7 @@ returns-3 c =
     let l = i .before in
     let e = l .before .before .before .before in
     let b = e .before .before in
-    adds-overflow (b .args .n) (l .before .before .place .result) (b .args .c) (b .args .k) (b .args .mono .now) (e .if1 .left) (l .lacks-place .result) (l .lacks-place .ensures) (i .if2 .left) (o .overflows .result) (o .overflows .ensures) (c .if3 .taken)
+    adds-overflow (b .args .n) (b .args .c) (b .args .k) (b .args .mono .now) (e .if1 .left) (l .lacks-place .result) (l .lacks-place .ensures) (i .if2 .left) (o .overflows .result) (o .overflows .ensures) (c .if3 .taken)
 
 add-at-requires : tie.Need-add-at-requires
 add-at-requires c κs =
@@ -55,7 +49,7 @@ add-at-requires c κs =
     let q = l .before .before in
     let e = q .before .before in
     let b = e .before .before in
-    fits-at (b .args .n) (q .place .result) (b .args .c) (b .args .k) (b .args .mono .now) (e .if1 .left) (l .lacks-place .result) (l .lacks-place .ensures) (i .if2 .left) (omega arith) (o .overflows .result) (o .overflows .ensures) (j .if3 .left) (q .place .ensures .0) (q .place .ensures .1)
+    fits-at (b .args .n) (b .args .c) (b .args .k) (b .args .mono .now) (e .if1 .left) (l .lacks-place .result) (l .lacks-place .ensures) (i .if2 .left) (omega arith) (o .overflows .result) (o .overflows .ensures) (j .if3 .left) (q .place .result) (q .place .ensures .0) (q .place .ensures .1)
 
 same-length-3 : tie.Need-same-length-3
 same-length-3 c = search needs
@@ -67,10 +61,9 @@ returns-4 c =
     let o = j .before in
     let i = o .before .before in
     let l = i .before in
-    let q = l .before .before in
-    let e = q .before .before in
+    let e = l .before .before .before .before in
     let b = e .before .before in
-    adds-held (b .args .n) (q .place .result) (b .args .c) (b .args .k) (b .args .mono .now) (e .if1 .left) (l .lacks-place .result) (l .lacks-place .ensures) (i .if2 .left) (omega arith) (o .overflows .result) (o .overflows .ensures) (j .if3 .left) _ (d .add-at .result) (d .add-at .ensures)
+    adds-held (b .args .n) (b .args .c) (b .args .k) (b .args .mono .now) (e .if1 .left) (l .lacks-place .result) (l .lacks-place .ensures) (i .if2 .left) (omega arith) (o .overflows .result) (o .overflows .ensures) (j .if3 .left) _ (d .add-at .result) (d .add-at .ensures)
 
 pub add-child-spec : {M : Type 1} → statement M
 add-child-spec =

@@ -2,10 +2,6 @@ use Rattle.child_list.proofs.Insert.{roomy-fits}
 use borrow.Author.Needs.{needs}
 use Rattle.child_list.proofs.add_class.Statement.{statement}
 use Rattle.child_list.proofs.add_class.Tie as tie
-use Rattle.child_list.proofs.add_class.Reads as reads
-use Rattle.child_list.proofs.add_class.Lts as lts
-use Rattle.child_list.proofs.add_at.Reads as add-at-reads
-use Rattle.child_list.proofs.place.Reads as place-reads
 
 place-requires : tie.Need-place-requires
 place-requires c κs = search needs

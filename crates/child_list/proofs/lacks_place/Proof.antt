@@ -3,9 +3,6 @@ use mathlib.Core.Path.{sym, _∙_}
 use borrow.Author.Needs.{needs}
 use Rattle.child_list.proofs.lacks_place.Statement.{statement}
 use Rattle.child_list.proofs.lacks_place.Tie as tie
-use Rattle.child_list.proofs.lacks_place.Reads as reads
-use Rattle.child_list.proofs.lacks_place.Lts as lts
-use Rattle.child_list.proofs.stands_at.Reads as stands-at-reads
 
 stands-at-requires : tie.Need-stands-at-requires
 stands-at-requires c κs = search needs

@@ -5,10 +5,6 @@ use mathlib.Core.Path.{sym, _∙_}
 use borrow.Author.Needs.{needs}
 use Rattle.child_list.proofs.overflows.Statement.{statement}
 use Rattle.child_list.proofs.overflows.Tie as tie
-use Rattle.child_list.proofs.overflows.Reads as reads
-use Rattle.child_list.proofs.overflows.Lts as lts
-use Rattle.child_list.proofs.stands_at.Reads as stands-at-reads
-use Rattle.monomial_terms.proofs.count_at.Reads as count-at-reads
 
 stands-at-requires : tie.Need-stands-at-requires
 stands-at-requires c κs = search needs

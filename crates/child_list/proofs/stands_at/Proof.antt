@@ -2,9 +2,6 @@ use Rattle.child_list.proofs.Insert.{stands-read, stands-past}
 use borrow.Author.Needs.{needs}
 use Rattle.child_list.proofs.stands_at.Statement.{statement}
 use Rattle.child_list.proofs.stands_at.Tie as tie
-use Rattle.child_list.proofs.stands_at.Reads as reads
-use Rattle.child_list.proofs.stands_at.Lts as lts
-use Rattle.monomial_terms.proofs.class_at.Reads as class-at-reads
 
 class-at-requires : tie.Need-class-at-requires
 class-at-requires c κs = search needs
