@@ -1,5 +1,5 @@
 #!/usr/bin/env python3
-# run.py [LABEL | mod:MODULE ..]: tries slips of slips.py, each on a copy of crate spec that is checked against the test modules of crates spec and samples one after the other, and prints what refuses it; those of module Adding on a copy of the definitions of crate child_list, over the libraries in target/ (rt check child_list). From the repository's root; --jobs N at a time (2).
+# run.py [LABEL | mod:MODULE ..]: tries slips of slips.py, each on a copy of crate spec that is checked against the test modules of crates spec and samples one after the other, and prints what refuses it; those of modules Terms and Adding on a copy of these definitions, of crates monomial_terms and child_list, over the library in target/ (rt check spec). From the repository's root; --jobs N at a time (2).
 import os, queue, re, shutil, subprocess, sys, tempfile, threading
 
 from slips import SLIPS
@@ -14,8 +14,9 @@ samples = 'Samples Slips Bounds Refusals Limits'.split()
 tests = [['Asked', 'Belonging', 'Lowest'], ['Asked', 'Edges', 'Found', 'Kept'], ['Asked', 'Slips'], ['Asked', 'Refusals'], ['Asked', 'Limits', 'Bounds'], ['Asked', 'Samples']]
 
 
-# definitions of another crate: the crate, what it needs, the type of its code that they name, and their tests
-beside = {'Adding': ('child_list', ['spec', 'monomial_terms'], 'Added', ['Trials', 'Drawn'])}
+# definitions beside crate spec, with the crate of each; they stand in one copy with their tests, over spec and with the type of the code that they name
+beside = {'Terms': 'monomial_terms', 'Adding': 'child_list'}
+beside_tests = ['Trials', 'Drawn']
 
 
 # PASSED; REFUSED with the tests that fail; FORM where the definition itself no longer stands
@@ -24,13 +25,15 @@ def check(module, changes, group):
     try:
         os.makedirs(folder + '/src')
         os.makedirs(folder + '/specs')
-        crate, needs, kind, _ = beside.get(module, ('spec', [], None, None))
+        crate = 'child_list' if module in beside else 'spec'
         code = open(f'{crates}/{crate}/src/lib.rt', encoding='utf-8').read()
-        open(folder + '/src/lib.rt', 'w', encoding='utf-8').write(re.search(r'pub enum %s \{.*?\n\}\n' % kind, code, re.S).group() if kind else code)
-        modules = ([module] if kind else definitions) + group
+        open(folder + '/src/lib.rt', 'w', encoding='utf-8').write(re.search(r'pub enum Added \{.*?\n\}\n', code, re.S).group() if module in beside else code)
+        modules = (list(beside) if module in beside else definitions) + group
         for m in modules:
-            text = open(f"{crates}/{'samples' if m in samples else crate}/specs/{m}.antt", encoding='utf-8').read()
-            if not kind:
+            text = open(f"{crates}/{'samples' if m in samples else beside.get(m, crate)}/specs/{m}.antt", encoding='utf-8').read()
+            if module in beside:
+                text = text.replace('Rattle.monomial_terms.specs.', 'Rattle.child_list.specs.')
+            else:
                 text = text.replace('Rattle.spec.', 'Rattle.spec.specs.')
             if m == module:
                 for old, new in changes:
@@ -40,7 +43,7 @@ def check(module, changes, group):
             open(f'{folder}/specs/{m}.antt', 'w', encoding='utf-8').write(text)
         open(folder + '/specs/Lib.antt', 'w', encoding='utf-8').write(''.join(f'pub mod {m}\n' for m in modules))
         built = os.path.join(here, '../../target/rlib')
-        externs = [word for need in needs for word in ('--extern', f'{need}={built}/{need}.rlib')] + (['-L', f'dependency={built}'] if needs else [])
+        externs = ['--extern', f'spec={built}/spec.rlib', '-L', f'dependency={built}'] if module in beside else []
         command = [own + '/bin/rattle', 'check', '--crate-name', crate, folder + '/src/lib.rt', '--extern', f'std={own}/rlib/std.rlib', *externs, '-L', f'dependency={own}/rlib', '--antt-project', home + '/logic/antt-project.json', '--logic-built', own + '/logic-built']
         try:
             done = subprocess.run(command, capture_output=True, text=True, timeout=300)
@@ -50,7 +53,7 @@ def check(module, changes, group):
         errors = [(os.path.basename(f)[:-5], name) for f, name in re.findall(r'^(\S+\.antt):\d+:\d+: error: (?:`([^`]*)`)?', out, re.M)]
         if 'logic=proved' in out:
             return 'PASSED', []
-        if not errors or any(m in definitions or m == module for m, _ in errors):
+        if not errors or any(m in definitions or m in beside for m, _ in errors):
             return 'FORM', [f'{m} {name}' for m, name in errors]
         return 'REFUSED', [f'{m} {name}' for m, name in errors]
     finally:
@@ -58,7 +61,7 @@ def check(module, changes, group):
 
 
 def try_slip(module, changes):
-    for group in [beside[module][3]] if module in beside else tests[:1] if module == 'Meaning' else tests:
+    for group in [beside_tests] if module in beside else tests[:1] if module == 'Meaning' else tests:
         verdict, why = check(module, changes, group)
         if verdict != 'PASSED':
             break

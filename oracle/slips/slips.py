@@ -689,6 +689,18 @@ SLIPS = {
         ('HoldsDoubled: any operation', [('pub alike : (here .op ≡ there .op) ×', 'pub alike : (here .op ≡ here .op) ×')]),
         ('HoldsDoubled: any value', [('× (here .value ≡ there .value)', '× (here .value ≡ here .value)')]),
     ],
+    'Terms': [
+        ('terms: count before class', [('terms (x ∷ y ∷ s) = (x, y) ∷ terms s', 'terms (x ∷ y ∷ s) = (y, x) ∷ terms s')]),
+        ('terms: the last number is a class', [('terms (x ∷ []) = []', 'terms (x ∷ []) = (x, 0) ∷ []')]),
+        ('terms: one at every number', [('terms (x ∷ y ∷ s) = (x, y) ∷ terms s', 'terms (x ∷ y ∷ s) = (x, y) ∷ terms (y ∷ s)')]),
+        ('terms: the first alone', [('terms (x ∷ y ∷ s) = (x, y) ∷ terms s', 'terms (x ∷ y ∷ s) = (x, y) ∷ []')]),
+        ('held: one more', [('held n s = take n (terms s)', 'held n s = take (suc n) (terms s)')]),
+        ('held: all', [('held n s = take n (terms s)', 'held n s = terms s')]),
+        ('position: behind an equal class', [('position c (t ∷ m) = pick (ltb (t .0) c)', 'position c (t ∷ m) = pick (leb (t .0) c)'), ('use lib.Dec.{ltb}', 'use lib.Dec.{ltb, leb}')]),
+        ('position: the first', [('(suc (position c m)) 0', '0 0')]),
+        ('position: one at most', [('(suc (position c m)) 0', '1 0')]),
+        ('position: the end', [('(suc (position c m)) 0', '(suc (position c m)) (suc (position c m))')]),
+    ],
     'Adding': [
         ('list: the terms said are not tested', [('    pick (ltb (places s) n) Full\n    (pick', '    pick false Full\n    (pick')]),
         ('list: as many terms as places refused', [('pick (ltb (places s) n) Full', 'pick (leb (places s) n) Full'), ('use lib.Dec.{ltb, eqb}', 'use lib.Dec.{ltb, leb, eqb}')]),

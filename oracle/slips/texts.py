@@ -4,7 +4,7 @@ import os
 from slips import SLIPS
 
 crates = os.path.join(os.path.dirname(os.path.abspath(__file__)), '../../crates')
-beside = {'Adding': 'child_list'}
+beside = {'Terms': 'monomial_terms', 'Adding': 'child_list'}
 labels = []
 bad = 0
 for module in SLIPS:

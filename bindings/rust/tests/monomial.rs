@@ -28,7 +28,7 @@ fn child_by_child() {
 #[test]
 fn full() {
     let mut held = Monomial::default();
-    for class in (0..Monomial::CAPACITY as u16).rev() {
+    for class in (0..65).rev() {
         held.add(1000 * class, 1).unwrap();
     }
     let before = held.clone();
@@ -39,7 +39,7 @@ fn full() {
     held.add(64_000, 2).unwrap();
     assert_ne!(held, before);
     assert_eq!(terms(&held).last(), Some(&(64_000, 3)));
-    assert_eq!(held.len(), Monomial::CAPACITY);
+    assert_eq!((held.len(), Monomial::CAPACITY), (65, 65));
     assert!(Unadded::Full.to_string().contains("65 classes"));
 }
 
