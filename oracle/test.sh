@@ -16,7 +16,15 @@ $bin/harness pairs sample/frames.bin | cmp - ../crates/representation/stdout
 $bin/harness images damaged | cmp - ../crates/verdict/stdin
 $bin/harness verdicts <../crates/verdict/stdin | cmp - ../crates/verdict/stdout
 $bin/harness children 6 60 | cmp - ../crates/child_list/specs/Drawn.antt
+$bin/harness interleave sample/frames.bin sample/answers.bin | cmp - ../crates/replay/stdin
+$bin/model <../crates/merge/stdin | cmp - ../crates/merge/stdout
+frame=$(mktemp)
+trap 'rm -f "$frame" "$frame.rust"' EXIT
 for name in E airport night luggage cap zones; do
-    $bin/harness bytes <"../examples/$name.txt" | $bin/listed | cmp - "../examples/$name.listing"
+    $bin/harness bytes <"../examples/$name.txt" >"$frame"
+    $bin/model <"$frame" | cmp - "../examples/$name.listing"
+    # the Rust does not write the first line's last field
+    $bin/harness as-the-rust <"../examples/$name.listing" >"$frame.rust"
+    $bin/listed <"$frame" | cmp - "$frame.rust"
 done
 echo "oracle: the listed Rust, the model and the stored answers agree"

@@ -3,8 +3,9 @@
  * The tariff merge with a C interface: libtariff.a, made by `rt staticlib tariff`, for x86-64 Linux.
  *
  * `tariff_merge` merges two classes of an image into a listing; `tariff_add_child` adds up a member's
- * children as they arrive. The same arguments give the same answer: the library keeps nothing between
- * calls, and calls with buffers of their own may run at the same time.
+ * children as they arrive, and `tariff_narrow` says whether their counts have 32 bits. The same arguments
+ * give the same answer: the library keeps nothing between calls, and calls with buffers of their own may
+ * run at the same time.
  *
  * The contract of each is proved for every call with pointers as C asks them: not null (also where the
  * length is 0), aligned for their type, with as many elements behind them as the length says, and no lent
@@ -39,7 +40,10 @@ extern "C" {
 
 /* What `number` says. */
 enum tariff_number {
-    /* a listing: the first `bytes` bytes of the output buffer */
+    /* a listing: the first `bytes` bytes of the output buffer. Its first line is the status (`complete` or
+       `partial`) and, each behind its word, pairs, rounds, size, mass and skipped: how many monomial pairs
+       were passed over in building since a count in them is above 4,294,967,295. Above 0, a complete run
+       is least among the formulas that do without them */
     TARIFF_LISTING = 0,
     /* a work buffer below its constant length: lend buffers of the lengths above */
     TARIFF_WORK_SHORT = 1,
@@ -165,6 +169,32 @@ struct tariff_added tariff_add_child(
     uint64_t *list, size_t list_length, size_t terms,
     uint16_t class_number, uint64_t count);
 
+/* What `number` says of a list's counts. */
+enum tariff_narrowing {
+    /* every count is at most 4,294,967,295 */
+    TARIFF_NARROW_FITS = 0,
+    /* the count of term `entry` is above: bring the count of class list[2 * entry] down to 4,294,967,295,
+       or the merge does without this list. It passes over every monomial pair in which a count, after
+       padding, is above, and its listing's field skipped counts them */
+    TARIFF_NARROW_FAILS = 1
+};
+
+struct tariff_narrowed {
+    uint32_t number;
+    /* with TARIFF_NARROW_FAILS the first term, from 0, whose count is above 4,294,967,295; else 0 */
+    size_t entry;
+};
+
+/*
+ * Whether every count of the list's terms, as `tariff_add_child` holds them, is at most 4,294,967,295. Of
+ * more terms than the list has places for, as many as it has; a list without terms fits. Nothing is
+ * written, and classes are not judged. Needs little stack.
+ *
+ * A list that fails is in no monomial pair that the merge aligns. One that fits can be passed over too:
+ * padding adds to the count of the operation's identity.
+ */
+struct tariff_narrowed tariff_narrow(const uint64_t *list, size_t list_length, size_t terms);
+
 /* Places for the 64 children that a member has at most, and for an identity: a member's children always
    fit. Empty where `terms` is 0, as `struct tariff_monomial m = { 0 };` has it. */
 #define TARIFF_MONOMIAL_TERMS 65
@@ -180,6 +210,12 @@ static inline uint32_t tariff_monomial_add(struct tariff_monomial *m, uint16_t c
     struct tariff_added added = tariff_add_child(m->list, 2 * TARIFF_MONOMIAL_TERMS, m->terms, class_number, count);
     m->terms = added.terms;
     return added.number;
+}
+
+/* `tariff_narrow` of this list. */
+static inline struct tariff_narrowed tariff_monomial_narrow(const struct tariff_monomial *m)
+{
+    return tariff_narrow(m->list, 2 * TARIFF_MONOMIAL_TERMS, m->terms);
 }
 
 /* The class of term i, i below m->terms; classes rise. */

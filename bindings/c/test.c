@@ -1,5 +1,5 @@
 /* SPDX-License-Identifier: Apache-2.0 */
-/* The C interface on image E: listings at four budgets, refusals 1, 2, 10, 11 and 14, and what each leaves in the buffers; the class with 10 on an image of literals. Children as they arrive: in front, joined, refused by a full list and by a count of 64 bits. */
+/* The C interface on image E: listings at four budgets, and of a pair whose counts are too large; refusals 1, 2, 10, 11 and 14, and what each leaves in the buffers; the class with 10 on an image of literals. Children as they arrive: in front, joined, refused by a full list and by a count of 64 bits. Narrowing: at the limit and one above, and the first entry that fails. */
 #include <stdio.h>
 #include <string.h>
 
@@ -40,8 +40,31 @@ static const uint8_t clashes[117] = {
     0, 0, 0, 0, 0, 10, 0, 0, 0, 0,
 };
 
+/* operation 0 Lit, 1 MSet; class 0 literal 5, 1 literal 7 and operation 1 over 0 4,294,967,296 times, 2 literal 9 and
+   operation 1 over 0 4,294,967,295 times and 1 once: the pair of the two sums is skipped */
+static const uint8_t large[125] = {
+    0, 0, 0, 121, 1, 0, 2, 0, 3, 0, 5, 0, 4,
+    9, 0, 255, 255,
+    7, 1, 255, 255,
+    0, 0, 0, 1, 0, 0, 0, 0, 0, 1,
+    0, 1, 0, 2, 0, 1, 0, 0, 0, 1,
+    0, 3, 0, 2, 0, 3, 0, 0, 0, 1,
+    0, 0, 0, 0, 0, 5, 0, 0, 0, 0,
+    0, 0, 0, 0, 0, 7, 0, 0, 0, 0,
+    0, 1, 0, 0, 0, 0, 0, 0, 0, 2,
+    0, 0, 0, 0, 0, 9, 0, 2, 0, 0,
+    0, 1, 0, 0, 0, 0, 0, 2, 0, 2,
+    0, 0, 255, 255, 255, 255,
+    0, 0, 0, 0, 0, 1,
+    0, 0, 255, 255, 255, 255,
+    0, 1, 0, 0, 0, 1,
+};
+
+_Static_assert(sizeof large == sizeof image, "one length for both");
+
 #define MERGED "0 lit 0 5\n1 lit 0 7\n2 variants 1:1 0:1\n3 op 1 0:1 2:1\n"
 #define APART "0 lit 0 5\n1 lit 0 7\n2 op 1 0:1 1:1\n3 op 1 0:2\n4 variants 2:1 3:1\n"
+#define TWO "0 lit 0 7\n1 lit 0 9\n2 variants 0:1 1:1\n"
 
 static struct tariff_work work;
 static uint8_t out[TARIFF_OUTPUT_BYTES];
@@ -70,13 +93,14 @@ static void soil(void)
     memset(out, 0x5a, sizeof out);
 }
 
-static void listed(uint32_t budget, const char *text)
+/* A listing of one of the images, each of 125 bytes. */
+static void listed(const uint8_t *of, uint16_t left, uint32_t budget, const char *text)
 {
     char what[64];
     size_t length = strlen(text);
-    snprintf(what, sizeof what, "image E with budget %u", (unsigned)budget);
+    snprintf(what, sizeof what, "image %s with budget %u", of == image ? "E" : "of a skipped pair", (unsigned)budget);
     soil();
-    struct tariff_returned r = tariff_merge_in(&work, image, sizeof image, 2, 3, budget, out, sizeof out);
+    struct tariff_returned r = tariff_merge_in(&work, of, sizeof image, left, left + 1, budget, out, sizeof out);
     expect(r.number == TARIFF_LISTING && r.bytes == length && r.class_number == 0, what);
     expect(memcmp(out, text, length) == 0, what);
     expect(all(out + length, sizeof out - length, 0x5a), "output past the listing untouched");
@@ -131,6 +155,41 @@ static void children(void)
     expect(tariff_monomial_add(&m, 1, 1) == TARIFF_CHILD_ADDED && !tariff_monomial_total(&m, &total), "a sum past 64 bits");
 }
 
+static void narrowed(struct tariff_narrowed r, uint32_t number, size_t entry, const char *what)
+{
+    expect(r.number == number && r.entry == entry, what);
+}
+
+static void narrowing(void)
+{
+    const uint64_t most = 4294967295;
+    /* three places, and a number behind them */
+    const uint64_t list[7] = { 2, most, 4, most + 1, 5, UINT64_MAX, UINT64_MAX };
+    narrowed(tariff_narrow(list, 7, 1), TARIFF_NARROW_FITS, 0, "4,294,967,295 fits, what stands behind is not asked");
+    narrowed(tariff_narrow(list, 7, 2), TARIFF_NARROW_FAILS, 1, "4,294,967,296 at entry 1");
+    narrowed(tariff_narrow(list, 7, 3), TARIFF_NARROW_FAILS, 1, "the first of two that fail");
+    narrowed(tariff_narrow(list + 2, 5, 2), TARIFF_NARROW_FAILS, 0, "one above at entry 0");
+    narrowed(tariff_narrow(list + 4, 2, 1), TARIFF_NARROW_FAILS, 0, "a count of 64 bits");
+    narrowed(tariff_narrow(list, 3, 2), TARIFF_NARROW_FITS, 0, "two terms said, places for one");
+    narrowed(tariff_narrow(list, 2, SIZE_MAX), TARIFF_NARROW_FITS, 0, "more terms than the list has, all fit");
+    narrowed(tariff_narrow(list, 4, SIZE_MAX), TARIFF_NARROW_FAILS, 1, "more terms than the list has, one fails");
+    narrowed(tariff_narrow(list + 2, 5, 0), TARIFF_NARROW_FITS, 0, "an empty list");
+    narrowed(tariff_narrow(list + 2, 0, 0), TARIFF_NARROW_FITS, 0, "a list of no numbers");
+    narrowed(tariff_narrow(list + 2, 0, 1), TARIFF_NARROW_FITS, 0, "a term said of a list of no numbers");
+    narrowed(tariff_narrow(list + 5, 1, 1), TARIFF_NARROW_FITS, 0, "a term said of a list of one number");
+    narrowed(tariff_narrow((const uint64_t[]){ most + 1, most }, 2, 1), TARIFF_NARROW_FITS, 0, "classes are not judged");
+
+    struct tariff_monomial m = { 0 };
+    narrowed(tariff_monomial_narrow(&m), TARIFF_NARROW_FITS, 0, "no children");
+    for (uint16_t c = 64; c < 65; c--)
+        expect(tariff_monomial_add(&m, c, most) == TARIFF_CHILD_ADDED, "65 classes at the limit");
+    narrowed(tariff_monomial_narrow(&m), TARIFF_NARROW_FITS, 0, "65 classes at the limit");
+    for (uint16_t c = 64; c < 65; c--) {
+        expect(tariff_monomial_add(&m, c, 1) == TARIFF_CHILD_ADDED, "one more");
+        narrowed(tariff_monomial_narrow(&m), TARIFF_NARROW_FAILS, c, "the first above the limit");
+    }
+}
+
 int main(void)
 {
     struct tariff_lengths lengths = tariff_lengths();
@@ -138,10 +197,13 @@ int main(void)
             && lengths.flow == TARIFF_FLOW && lengths.terms == TARIFF_TERMS && lengths.runs == TARIFF_RUNS,
         "the header's lengths are the library's");
 
-    listed(14, "complete pairs 3 rounds 1 size 4 mass 2\n" MERGED);
-    listed(13, "partial pairs 3 rounds 1 size 4 mass 2\n" MERGED);
-    listed(9, "partial pairs 3 rounds 0 size 6 mass 6\n" APART);
-    listed(2, "partial pairs 1 rounds 0 size 6 mass 6\n" APART);
+    listed(image, 2, 14, "complete pairs 3 rounds 1 size 4 mass 2 skipped 0\n" MERGED);
+    listed(image, 2, 13, "partial pairs 3 rounds 1 size 4 mass 2 skipped 0\n" MERGED);
+    listed(image, 2, 9, "partial pairs 3 rounds 0 size 6 mass 6 skipped 0\n" APART);
+    listed(image, 2, 2, "partial pairs 1 rounds 0 size 6 mass 6 skipped 0\n" APART);
+    listed(large, 1, 14, "complete pairs 1 rounds 0 size 2 mass 2 skipped 1\n" TWO);
+    listed(large, 1, 1, "partial pairs 1 rounds 0 size 2 mass 2 skipped 1\n" TWO);
+    listed(large, 1, 0, "partial pairs 1 rounds 0 size 2 mass 2 skipped 0\n" TWO);
 
     soil();
     refused(tariff_merge(image, sizeof image, 2, 3, 14,
@@ -154,7 +216,7 @@ int main(void)
     soil();
     refused(tariff_merge_in(&work, image, sizeof image, 2, 4, 14, out, sizeof out), TARIFF_QUERY, 0, "refusal 11: class 4");
     soil();
-    refused(tariff_merge_in(&work, image, sizeof image, 2, 3, 14, out, 93), TARIFF_OUTPUT_SHORT, 0, "refusal 14: one byte too few");
+    refused(tariff_merge_in(&work, image, sizeof image, 2, 3, 14, out, 103), TARIFF_OUTPUT_SHORT, 0, "refusal 14: one byte too few");
 
     uint8_t doubled[sizeof image];
     memcpy(doubled, image, sizeof image);
@@ -167,6 +229,7 @@ int main(void)
         "refusal 10: literal 20 in classes 2 and 3, literal 10 in classes 1 and 4");
 
     children();
+    narrowing();
 
     if (!failed)
         puts("C interface: ok");

@@ -1,5 +1,6 @@
 #!/usr/bin/env python3
-"""Writes the definitions' tests from the small queries: Samples.antt of crate samples and Refusals.antt of crate spec from oracle/sample/small.txt,
+"""Writes the definitions' tests from the small queries: Samples.antt and Refusals.antt of crate samples from oracle/sample/small.txt,
+Skipped.antt of crate samples from oracle/sample/skipped.txt (monomial pairs passed over),
 Slips.antt of crate samples and Kept.antt of crate spec from oracle/sample/slips.txt (queries that tell the rules from a porter's slips).
 Run from the repository's root; then `rt fmt`."""
 import re
@@ -13,9 +14,10 @@ use Prim.Native.Nat.{ℕ}
 use Prim.Native.String.{String}
 use Rattle.spec.specs.Bytes.{text}
 use Rattle.spec.specs.Merge.{programOf}
-use Rattle.spec.specs.Asked.{Asked, asked, frame, cut, answers, expected, hex, put}
+use Rattle.spec.specs.Asked.{Asked, asked, frame, answers, expected, hex}
 '''
 INSIDE = HEAD.replace('Rattle.spec.', 'Rattle.spec.specs.')
+DAMAGED = HEAD.replace('frame, answers, expected, hex', 'cut, answers, expected, hex, put')
 
 def blocks(path):
     title, frame, answer = None, None, []
@@ -68,11 +70,13 @@ def queries(path, heading, head, groups):
     open(path, 'w', encoding='utf-8').write('\n'.join(out).rstrip() + '\n')
 
 slips = grouped('oracle/sample/slips.txt').items()
+skipped = grouped('oracle/sample/skipped.txt').items()
 queries('crates/samples/specs/Samples.antt', '-- Small queries for each feature, and budgets that cut in each phase: answers of the listed Rust (oracle/sample/small.txt).', HEAD, samples)
+queries('crates/samples/specs/Skipped.antt', "-- (02, Paper 7) Monomial pairs passed over: answers of the listed Rust, the number of skipped pairs from the model (oracle/sample/skipped.txt).", HEAD, skipped)
 queries('crates/samples/specs/Slips.antt', "-- Queries whose answer tells the rules from a porter's slip: answers of the listed Rust (oracle/sample/slips.txt).", HEAD, [(t, qs) for t, qs in slips if t not in KEPT])
 queries('crates/spec/specs/Kept.antt', "-- Two queries of crate samples' kind (oracle/sample/slips.txt) that stand here since they refuse a must-fail edit that no other test of this crate refuses.", INSIDE, [(t, qs) for t, qs in slips if t in KEPT])
 
-out = ['-- A sound image, and a damaged one for each way to break a rule, refusals 2 to 11; images that break two rules show the order (oracle/sample/small.txt).', INSIDE]
+out = ['-- A sound image, and a damaged one for each way to break a rule, refusals 2 to 11; images that break two rules show the order (oracle/sample/small.txt).', DAMAGED]
 out += ['-- five classes over Lit, Plain2, SPair and MSet, and a query', 'unfoldable sound : List ℕ', 'unfolding hex', f'sound = hex "{bytes(sound).hex()}"', '']
 tables = {}
 for t, qs in refusals:
@@ -95,4 +99,4 @@ for key, rows in tables.items():
     for i, (t, e, a) in enumerate(rows):
         out += [f'    -- {t}', '    ' + ('∷ ' if i else '') + f'asked ({e}) "{a}"']
     out += ['    ∷ []', '', f'{n}-holds : answers {n} ≡ expected {n}', f'unfolding programOf text answers expected {n}', f'{n}-holds = refl', '']
-open('crates/spec/specs/Refusals.antt', 'w', encoding='utf-8').write('\n'.join(out).rstrip() + '\n')
+open('crates/samples/specs/Refusals.antt', 'w', encoding='utf-8').write('\n'.join(out).rstrip() + '\n')

@@ -4,8 +4,7 @@
 use harness::r#gen::{class, lit, over};
 use harness::img::{Class, Img, Member, Operation, Query};
 use harness::limits::{many_terms, pairs};
-use harness::text;
-use harness::{draw, draw_first};
+use harness::{draw, draw_first, text};
 
 fn op(kind: u8) -> Operation {
     Operation {
@@ -123,5 +122,6 @@ pub fn families() -> Vec<Family> {
         family("graph of 4,096 pairs", vec![frame(full, 127, 128)]),
         family("terms: 30 × 30 chains", vec![frame(chains, n - 2, n - 1)]),
         family("rounds: cycles of 31 and 32", vec![cycles(31, 32)]),
+        family("drawn, family skipped", draw(7, 300, Some("skipped"))),
     ]
 }

@@ -11,6 +11,7 @@ use std::hint::black_box;
 use std::time::{Duration, Instant};
 
 use bench::{Family, families};
+use harness::judge::as_the_rust;
 use listed::au::egraph_api::AuSnapshot;
 use listed::config::ImageConfig;
 use listed::egraph::EGraph;
@@ -70,8 +71,10 @@ fn measure(family: &Family, work: &mut Work, merger: &mut Merger) {
         let returned = unsafe { work.merge(q.image, q.left, q.right, q.budget) };
         refused += usize::from(returned.number != 0);
         returned.number != 0 || {
+            // The Rust does not write the first line's last field.
+            let ours = as_the_rust(&work.output()[..returned.bytes]);
             assert!(
-                work.output()[..returned.bytes] == *text.as_bytes(),
+                ours.as_deref() == Some(text.as_bytes()),
                 "the answers differ"
             );
             true

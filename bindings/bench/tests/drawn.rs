@@ -2,7 +2,7 @@
 //! Drawn and damaged frames through the safe interface, against the model.
 
 use harness::judge::Judge;
-use harness::{damage, draw, limits};
+use harness::{damage, draw, limits, skipped};
 use model::image::verdict;
 use model::slip::Slip;
 use tariff_merge::{Merger, Refusal};
@@ -57,6 +57,21 @@ fn doubled_literals() {
         &damage::doubled()
             .into_iter()
             .map(|case| case.1)
+            .collect::<Vec<_>>(),
+    );
+}
+
+#[test]
+fn skipped_pairs() {
+    compare(&draw(8, 2_000, Some("skipped")));
+}
+
+#[test]
+fn as_many_skipped_pairs_as_there_can_be() {
+    compare(
+        &skipped::COSTLY
+            .iter()
+            .filter_map(|name| skipped::costly(name))
             .collect::<Vec<_>>(),
     );
 }

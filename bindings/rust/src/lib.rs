@@ -11,6 +11,7 @@
 //! let mut merger = Merger::new();
 //! let listing = merger.merge(&image, 2, 3, 14)?;
 //! assert!(listing.complete);
+//! assert_eq!(listing.skipped, 0);
 //! assert_eq!(listing.text(100), "op1(5, {7 | 5})");
 //! assert_eq!(listing.left_reading().text(100), "op1(5, 7)");
 //! assert_eq!(listing.right_reading().text(100), "op1(5:2)");
@@ -19,7 +20,8 @@
 //! # }
 //! ```
 //!
-//! A [`Monomial`] adds up a member's children as they arrive.
+//! A [`Monomial`] adds up a member's children as they arrive, and says whether their counts have the 32
+//! bits that the merge takes.
 //!
 //! `unsafe` stands in two places: at the calls of the library (`raw`), and where a [`Merger`]'s
 //! thread promises it enough stack.
@@ -37,6 +39,6 @@ mod text;
 
 pub use listing::{Line, Listing, Run};
 pub use merger::{Merger, Query};
-pub use monomial::{Monomial, Terms, Unadded};
+pub use monomial::{Monomial, Terms, TooLarge, Unadded};
 pub use reading::{Reading, Term};
 pub use refusal::Refusal;

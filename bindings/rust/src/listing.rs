@@ -31,6 +31,27 @@ pub enum Line {
     },
 }
 
+/// The words of the first line behind the status, each with a number behind it.
+const FIELDS: [&str; 5] = ["pairs", "rounds", "size", "mass", "skipped"];
+
+/// Whether the run is complete, and the numbers of the first line's fields.
+fn first_line(line: &str) -> Option<(bool, [u64; FIELDS.len()])> {
+    let mut words = line.split(' ');
+    let complete = match words.next()? {
+        "complete" => true,
+        "partial" => false,
+        _ => return None,
+    };
+    let mut numbers = [0; FIELDS.len()];
+    for (field, number) in FIELDS.iter().zip(&mut numbers) {
+        if words.next()? != *field {
+            return None;
+        }
+        *number = words.next()?.parse().ok()?;
+    }
+    words.next().is_none().then_some((complete, numbers))
+}
+
 /// The merged formula, and how the run ended.
 ///
 /// The formula is a graph: line `k` is a subterm, and what it is made of stands on lower lines.
@@ -46,6 +67,11 @@ pub struct Listing {
     /// The formula's size and mass.
     pub size: u64,
     pub mass: u64,
+    /// How many monomial pairs were passed over in building, since a count in them is above
+    /// 4,294,967,295; a pair that occurs again for the same classes and operation counts once.
+    /// Above 0, a complete run is least among the formulas that do without them; where the run
+    /// was cut short in building, they are those met until then.
+    pub skipped: u64,
     /// The distinct subterms; the last one is the formula. Never empty.
     pub terms: Vec<Line>,
     bytes: Vec<u8>,
@@ -99,26 +125,7 @@ impl Listing {
     fn parse(bytes: Vec<u8>) -> Option<Listing> {
         let text = std::str::from_utf8(&bytes).ok()?;
         let mut lines = text.strip_suffix('\n')?.split('\n');
-        let first: Vec<&str> = lines.next()?.split(' ').collect();
-        let [
-            status,
-            "pairs",
-            pairs,
-            "rounds",
-            rounds,
-            "size",
-            size,
-            "mass",
-            mass,
-        ] = first[..]
-        else {
-            return None;
-        };
-        let complete = match status {
-            "complete" => true,
-            "partial" => false,
-            _ => return None,
-        };
+        let (complete, [pairs, rounds, size, mass, skipped]) = first_line(lines.next()?)?;
         let mut terms = Vec::new();
         for line in lines {
             let line = Line::parse(terms.len(), line)?;
@@ -129,10 +136,11 @@ impl Listing {
         }
         Some(Listing {
             complete,
-            pairs: pairs.parse().ok()?,
-            rounds: rounds.parse().ok()?,
-            size: size.parse().ok()?,
-            mass: mass.parse().ok()?,
+            pairs,
+            rounds,
+            size,
+            mass,
+            skipped,
             terms,
             bytes,
         })
@@ -185,6 +193,38 @@ impl Line {
                 right: a.child,
             }),
             _ => None,
+        }
+    }
+}
+
+#[cfg(test)]
+mod tests {
+    use super::first_line;
+
+    #[test]
+    fn first_lines() {
+        let read = Some((true, [3, 1, 4, 2, 262_144]));
+        assert_eq!(
+            first_line("complete pairs 3 rounds 1 size 4 mass 2 skipped 262144"),
+            read
+        );
+        let read = Some((false, [1, 0, 6, 6, 0]));
+        assert_eq!(
+            first_line("partial pairs 1 rounds 0 size 6 mass 6 skipped 0"),
+            read
+        );
+        for broken in [
+            "",
+            "refused 2",
+            "done pairs 3 rounds 1 size 4 mass 2 skipped 0",
+            "complete pairs 3 rounds 1 size 4 mass 2",
+            "complete pairs 3 rounds 1 size 4 mass 2 skipped",
+            "complete pairs 3 rounds 1 size 4 mass 2 skipped 0 ",
+            "complete pairs 3 rounds 1 size 4 mass 2 skipped 0 checks 14",
+            "complete pairs 3 rounds 1 mass 2 size 4 skipped 0",
+            "complete pairs 3 rounds 1 size 4 mass 2 skipped -1",
+        ] {
+            assert_eq!(first_line(broken), None, "{broken}");
         }
     }
 }

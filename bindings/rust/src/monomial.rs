@@ -62,6 +62,38 @@ impl Monomial {
         }
     }
 
+    /// Whether every count is at most 4,294,967,295, as the merge takes them.
+    ///
+    /// A list that fails is in no monomial pair that the merge aligns: it passes over every one in which a
+    /// count, after padding, is above, and [`Listing::skipped`](crate::Listing::skipped) counts them. A
+    /// list that fits can be passed over too, since padding adds to the count of the operation's identity.
+    ///
+    /// ```
+    /// use tariff_merge::{Monomial, TooLarge};
+    ///
+    /// let mut children = Monomial::new();
+    /// children.add(2, 3)?;
+    /// children.add(4, 4_294_967_295)?;
+    /// assert_eq!(children.narrow(), Ok(()));
+    /// children.add(4, 1)?;
+    /// assert_eq!(children.narrow(), Err(TooLarge { entry: 1 }));
+    /// # Ok::<(), tariff_merge::Unadded>(())
+    /// ```
+    ///
+    /// # Errors
+    ///
+    /// [`TooLarge`] with the first entry whose count is above.
+    pub fn narrow(&self) -> Result<(), TooLarge> {
+        let narrowed = raw::narrow(&self.numbers, self.terms);
+        match narrowed.number {
+            0 => Ok(()),
+            1 => Err(TooLarge {
+                entry: narrowed.entry,
+            }),
+            number => unreachable!("number {number} from libtariff.a: is it of this version?"),
+        }
+    }
+
     /// Each class with its count, classes rising.
     pub fn iter(&self) -> Terms<'_> {
         Terms(self.numbers[..2 * self.terms].chunks_exact(2))
@@ -160,3 +192,23 @@ impl fmt::Display for Unadded {
 }
 
 impl std::error::Error for Unadded {}
+
+/// A count is above 4,294,967,295.
+#[derive(Clone, Copy, Debug, PartialEq, Eq, Hash)]
+pub struct TooLarge {
+    /// The first term of which that is so, from 0, in the order of [`Monomial::iter`].
+    pub entry: usize,
+}
+
+impl fmt::Display for TooLarge {
+    fn fmt(&self, f: &mut fmt::Formatter<'_>) -> fmt::Result {
+        write!(
+            f,
+            "the count of entry {}, from 0, is above 4,294,967,295; the merge passes over every monomial \
+             pair with such a count, so bring it down, or the merge does without these children",
+            self.entry
+        )
+    }
+}
+
+impl std::error::Error for TooLarge {}

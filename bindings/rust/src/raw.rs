@@ -42,6 +42,14 @@ pub struct AddedChild {
     pub terms: usize,
 }
 
+/// 0 where every count is at most 4,294,967,295; or 1, and the first entry, from 0, whose count is above.
+#[repr(C)]
+#[derive(Clone, Copy, Debug, PartialEq, Eq)]
+pub struct NarrowedList {
+    pub number: u32,
+    pub entry: usize,
+}
+
 unsafe extern "C" {
     /// The lengths above, as the library has them.
     pub safe fn tariff_lengths() -> Lengths;
@@ -78,6 +86,9 @@ unsafe extern "C" {
         class: u16,
         count: u64,
     ) -> AddedChild;
+
+    /// The pointer is valid for as many numbers as the length after it says.
+    pub fn tariff_narrow(list: *const u64, list_length: usize, terms: usize) -> NarrowedList;
 }
 
 /// A child in a list of so many terms, each a class and its count, two numbers of the slice. After
@@ -86,6 +97,13 @@ unsafe extern "C" {
 pub fn add_child(list: &mut [u64], terms: usize, class: u16, count: u64) -> AddedChild {
     // SAFETY: pointer and length are the slice's own.
     unsafe { tariff_add_child(list.as_mut_ptr(), list.len(), terms, class, count) }
+}
+
+/// Whether every count of the list's terms, as [`add_child`] holds them, is at most 4,294,967,295. Of more
+/// terms than the slice has places for, as many as it has. Any slice and any number of terms has its answer.
+pub fn narrow(list: &[u64], terms: usize) -> NarrowedList {
+    // SAFETY: pointer and length are the slice's own, and nothing is written.
+    unsafe { tariff_narrow(list.as_ptr(), list.len(), terms) }
 }
 
 /// The buffers of one call after another.

@@ -108,13 +108,25 @@ fn lengths_are_the_librarys() {
 fn image_e_at_its_budgets() {
     let mut merger = Merger::new();
     for (budget, first, rest) in [
-        (14, "complete pairs 3 rounds 1 size 4 mass 2", MERGED),
-        (13, "partial pairs 3 rounds 1 size 4 mass 2", MERGED),
-        (10, "partial pairs 3 rounds 1 size 4 mass 2", MERGED),
-        (9, "partial pairs 3 rounds 0 size 6 mass 6", APART),
-        (3, "partial pairs 3 rounds 0 size 6 mass 6", APART),
-        (2, "partial pairs 1 rounds 0 size 6 mass 6", APART),
-        (0, "partial pairs 1 rounds 0 size 6 mass 6", APART),
+        (
+            14,
+            "complete pairs 3 rounds 1 size 4 mass 2 skipped 0",
+            MERGED,
+        ),
+        (
+            13,
+            "partial pairs 3 rounds 1 size 4 mass 2 skipped 0",
+            MERGED,
+        ),
+        (
+            10,
+            "partial pairs 3 rounds 1 size 4 mass 2 skipped 0",
+            MERGED,
+        ),
+        (9, "partial pairs 3 rounds 0 size 6 mass 6 skipped 0", APART),
+        (3, "partial pairs 3 rounds 0 size 6 mass 6 skipped 0", APART),
+        (2, "partial pairs 1 rounds 0 size 6 mass 6 skipped 0", APART),
+        (0, "partial pairs 1 rounds 0 size 6 mass 6 skipped 0", APART),
     ] {
         let listing = merger.merge(IMAGE, 2, 3, budget).unwrap();
         assert_eq!(listing.bytes(), format!("{first}\n{rest}").as_bytes());
@@ -128,6 +140,7 @@ fn image_e_parsed_and_read() {
     let run = |child: usize, count: u64| Run { child, count };
     assert_eq!((listing.pairs, listing.rounds), (3, 1));
     assert_eq!((listing.size, listing.mass), (4, 2));
+    assert_eq!(listing.skipped, 0);
     assert_eq!(
         listing.terms,
         [
@@ -199,9 +212,9 @@ fn refusals_are_typed() {
     assert_eq!(doubled, Err(Refusal::Literal { class: 0 }));
     assert_eq!(merger.merge(IMAGE, 4, 3, 14), Err(Refusal::Query));
     assert_eq!(merger.merge(IMAGE, 2, u16::MAX, 14), Err(Refusal::Query));
-    let mut short = Merger::with_output(93);
+    let mut short = Merger::with_output(103);
     assert_eq!(short.merge(IMAGE, 2, 3, 14), Err(Refusal::Output));
-    assert!(Merger::with_output(94).merge(IMAGE, 2, 3, 14).is_ok());
+    assert!(Merger::with_output(104).merge(IMAGE, 2, 3, 14).is_ok());
     assert_eq!(
         Merger::with_output(0).merge(IMAGE, 2, 3, 14),
         Err(Refusal::Output)
@@ -271,6 +284,42 @@ fn stored_answers() {
             assert!(text.len() <= 1_003);
         }
     }
+}
+
+/// Each query of `skipped.txt`, as a frame, with its answer.
+fn skipping() -> Vec<(Vec<u8>, String)> {
+    let mut found: Vec<(Vec<u8>, String)> = Vec::new();
+    for line in include_str!("../../../oracle/sample/skipped.txt").lines() {
+        if line.starts_with(|first: char| first.is_ascii_digit()) {
+            let frame = line.split(' ').map(|byte| byte.parse().unwrap()).collect();
+            found.push((frame, String::new()));
+        } else if let Some(text) = line.strip_prefix("  ") {
+            let answer = &mut found.last_mut().unwrap().1;
+            *answer += text;
+            answer.push('\n');
+        }
+    }
+    found
+}
+
+#[test]
+fn skipped_pairs_are_reported() {
+    let mut merger = Merger::new();
+    let mut above = 0;
+    for (frame, answer) in skipping() {
+        let (image, &[a, b, c, d, e, f, g, h]) = frame.split_last_chunk::<8>().unwrap();
+        let q = query(
+            u16::from_be_bytes([a, b]),
+            u16::from_be_bytes([c, d]),
+            u32::from_be_bytes([e, f, g, h]),
+        );
+        let listing = ask(&mut merger, image, q).unwrap();
+        assert_eq!(listing.bytes(), answer.as_bytes());
+        let first = answer.lines().next().unwrap();
+        assert!(first.ends_with(&format!(" skipped {}", listing.skipped)));
+        above += usize::from(listing.skipped > 0);
+    }
+    assert!(above > 15, "only {above} above 0");
 }
 
 #[test]

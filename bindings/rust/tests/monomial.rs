@@ -3,8 +3,8 @@
 
 use std::collections::BTreeMap;
 
-use tariff_merge::raw::{self, AddedChild};
-use tariff_merge::{Monomial, Unadded};
+use tariff_merge::raw::{self, AddedChild, NarrowedList};
+use tariff_merge::{Monomial, TooLarge, Unadded};
 
 fn terms(monomial: &Monomial) -> Vec<(u16, u64)> {
     monomial.iter().collect()
@@ -92,4 +92,70 @@ fn any_slice() {
     assert_eq!(odd, [3, 1, 8]);
     let added = raw::add_child(&mut odd, 1, 3, 1);
     assert_eq!((added.number, added.terms, odd), (0, 1, [3, 2, 8]));
+}
+
+const MOST: u64 = 4_294_967_295;
+
+/// (02, Paper 7) Narrowing says "at which entry (from 0) first" it fails, child by child.
+#[test]
+fn narrow_child_by_child() {
+    let failed = |entry| Err(TooLarge { entry });
+    let mut held = Monomial::new();
+    assert_eq!(held.narrow(), Ok(()));
+    held.add(4, MOST).unwrap();
+    assert_eq!(held.narrow(), Ok(()));
+    held.add(4, 1).unwrap();
+    assert_eq!(held.narrow(), failed(0));
+    held.add(2, MOST - 1).unwrap();
+    assert_eq!(held.narrow(), failed(1));
+    held.add(9, u64::MAX).unwrap();
+    assert_eq!(held.narrow(), failed(1));
+    held.add(2, 1).unwrap();
+    assert_eq!(held.narrow(), failed(1));
+    held.add(2, 1).unwrap();
+    assert_eq!(held.narrow(), failed(0));
+    assert_eq!(terms(&held), [(2, MOST + 1), (4, MOST + 1), (9, u64::MAX)]);
+    assert_eq!(held.add(9, 1), Err(Unadded::Overflow));
+    assert_eq!(held.narrow(), failed(0));
+}
+
+#[test]
+fn narrow_a_full_list() {
+    let mut held = Monomial::new();
+    for class in 0..65 {
+        held.add(1000 * class, MOST).unwrap();
+    }
+    assert_eq!(held.narrow(), Ok(()));
+    for entry in (0..65).rev() {
+        held.add(1000 * entry, 1).unwrap();
+        let entry = usize::from(entry);
+        assert_eq!(held.narrow(), Err(TooLarge { entry }));
+        assert_eq!(held.iter().nth(entry).unwrap().1, MOST + 1);
+    }
+    let said = TooLarge { entry: 64 }.to_string();
+    assert!(said.contains("entry 64") && said.contains("4,294,967,295"));
+}
+
+/// Lists of any length, and a number of terms that a list has not.
+#[test]
+fn narrow_any_slice() {
+    let fits = NarrowedList {
+        number: 0,
+        entry: 0,
+    };
+    let fails = |entry| NarrowedList { number: 1, entry };
+    let list = [2, MOST, 4, MOST + 1, 5, u64::MAX, u64::MAX];
+    assert_eq!(raw::narrow(&list, 1), fits);
+    assert_eq!(raw::narrow(&list, 2), fails(1));
+    assert_eq!(raw::narrow(&list, 3), fails(1));
+    assert_eq!(raw::narrow(&list[2..], 2), fails(0));
+    assert_eq!(raw::narrow(&list[2..], 0), fits);
+    for terms in [0, 1, 2, usize::MAX] {
+        assert_eq!(raw::narrow(&[], terms), fits);
+        assert_eq!(raw::narrow(&[u64::MAX], terms), fits);
+        assert_eq!(raw::narrow(&list[..3], terms), fits);
+        assert_eq!(raw::narrow(&[MOST + 1, MOST], terms), fits);
+    }
+    assert_eq!(raw::narrow(&list, usize::MAX), fails(1));
+    assert_eq!(raw::narrow(&list[4..], usize::MAX), fails(0));
 }

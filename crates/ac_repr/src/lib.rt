@@ -37,7 +37,7 @@ fn has_place(s: &[u8], im: Image, end: usize, op: usize, x: usize) -> bool
 }
 
 // The first place from x on that has a monomial; one past the end where there is none.
-fn next_place(s: &[u8], im: Image, end: usize, op: usize, x: usize) -> usize
+pub fn next_place(s: &[u8], im: Image, end: usize, op: usize, x: usize) -> usize
     requires { ⌜ Loaded (now s) im × (end ≤ im .members) × (op < im .operations) × (end < 131072) ⌝ }
     ensures { λ r. ⌜ r ≡ firstFrom (hasPlace (tablesOf (now (s .entry))) end op) x (suc end) ⌝ }
 {

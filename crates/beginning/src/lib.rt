@@ -45,11 +45,11 @@ pub fn begin(
                 Built::Full => {
                     return Begun::Stopped(12);
                 }
-                Built::Cut => {
-                    return Begun::Cut(root);
+                Built::Cut(k) => {
+                    return Begun::Cut(root, k);
                 }
-                Built::All(n, c) => {
-                    return Begun::All(root, n, c);
+                Built::All(n, c, k) => {
+                    return Begun::All(root, n, c, k);
                 }
             }
         }

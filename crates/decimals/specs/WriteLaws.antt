@@ -40,6 +40,10 @@ wrote-then {l = l} {m = m} {out = out} {at = at} {out′ = out′} {out″ = out
 pub wrote-length : {l out : List ℕ} {at : ℕ} {out′ : List ℕ} {r : ℕ} → at + length l ≤ length out → Wrote l out at out′ r → length out′ ≡ length out
 wrote-length {l = l} {out = out} {at = at} h A = ap length (A .bytes) ∙ put-length out at l h
 
+-- what stands at the front
+pub wrote-front : {l out out′ : List ℕ} {r : ℕ} → Wrote l out 0 out′ r → take r out′ ≡ l
+wrote-front {l = l} {out = out} A = let e : 0 + length l ≡ length l = omega arith in rw (A .bytes, A .after, e) (take-at l (drop (length l) out) (length l) refl)
+
 -- one byte
 pub wrote-one : (out : List ℕ) (at x : ℕ) → at < length out → Wrote (x ∷ []) out at (set out at x) (at + 1)
 wrote-one out at x h = record { bytes = set-split out at x h ∙ (let e : suc at ≡ at + 1 = omega arith in ap (λ (z : ℕ). take at out ++ (x ∷ drop z out)) e); after = refl }

@@ -11,6 +11,7 @@ use lib.Seq.{length-take-le, drop-at}
 use borrow.Author.Tests.{lt-ltb, ltb-true, ltb-false, leb-true, leb-false}
 use Rattle.spec.specs.Bytes.{Res, ok, refused, rule, _>>=_}
 use Rattle.spec.specs.Image.{Tables, tablesOf, imageOf}
+use Rattle.spec.specs.Graph.{skippedIn}
 use Rattle.spec.specs.Run.{documentLimits, Outcome, runOf}
 use Rattle.spec.specs.Listing.{listingOf}
 use Rattle.spec.specs.Merge.{mergeOf, outputAfter}
@@ -36,14 +37,22 @@ pub record Taken (fit : Bool) (image : List ℕ) (left right : ℕ) : Type 0 whe
   pub sound : Sound image 11
   pub asked : Asked image left right
 
+-- (02, Paper 7) "the number of monomial pairs passed over in building" of a call
+abbrev pub passedOver : List ℕ → ℕ → ℕ → ℕ → ℕ
+passedOver image left right budget = skippedIn documentLimits (tablesOf image) (left, right) budget
+
+-- what a call whose run has the outcome o prints
+abbrev pub shown : List ℕ → ℕ → ℕ → ℕ → Outcome → List ℕ
+shown image left right budget o = listingOf (passedOver image left right budget) o
+
 -- ---- the definition, case by case
 pub data Way (fit : Bool) (image : List ℕ) (left right budget room : ℕ) (m : Res (List ℕ)) : Type 0 where
   short : m ≡ refused 1 → fit ≡ false → Way fit image left right budget room m
   unsound : (k : ℕ) → m ≡ refused k → fit ≡ true → imageOf image ≡ refused k → Way fit image left right budget room m
   outside : m ≡ refused 11 → fit ≡ true → imageOf image ≡ ok (tablesOf image) → (Asked image left right → ⊥) → Way fit image left right budget room m
   stopped : (k : ℕ) → m ≡ refused k → Taken fit image left right → runOf documentLimits (tablesOf image) (left, right) budget ≡ refused k → Way fit image left right budget room m
-  over : (o : Outcome) → m ≡ refused 14 → Taken fit image left right → runOf documentLimits (tablesOf image) (left, right) budget ≡ ok o → room < length (listingOf o) → Way fit image left right budget room m
-  listed : (o : Outcome) → m ≡ ok (listingOf o) → Taken fit image left right → runOf documentLimits (tablesOf image) (left, right) budget ≡ ok o → length (listingOf o) ≤ room → Way fit image left right budget room m
+  over : (o : Outcome) → m ≡ refused 14 → Taken fit image left right → runOf documentLimits (tablesOf image) (left, right) budget ≡ ok o → room < length (shown image left right budget o) → Way fit image left right budget room m
+  listed : (o : Outcome) → m ≡ ok (shown image left right budget o) → Taken fit image left right → runOf documentLimits (tablesOf image) (left, right) budget ≡ ok o → length (shown image left right budget o) ≤ room → Way fit image left right budget room m
 
 sound-of : (image : List ℕ) (t : Tables) → imageOf image ≡ ok t → (t ≡ tablesOf image) × Sound image 11
 sound-of image t e = let (q, k) = A.accepted image t .0 e in (q, λ j a b. k j a (omega arith))
@@ -53,7 +62,7 @@ read-of image s = A.accepted image (tablesOf image) .1 (refl, λ n a b. s n a (o
 
 -- past the rules 1 to 11 it is the run, and 14 last
 pub taken-is : (fit : Bool) (image : List ℕ) (left right budget room : ℕ) → Taken fit image left right
-    → mergeOf fit image left right budget room ≡ (runOf documentLimits (tablesOf image) (left, right) budget >>= λ o. rule 14 (leb (length (listingOf o)) room) >>= λ _. ok (listingOf o))
+    → mergeOf fit image left right budget room ≡ (runOf documentLimits (tablesOf image) (left, right) budget >>= λ o. rule 14 (leb (length (shown image left right budget o)) room) >>= λ _. ok (shown image left right budget o))
 unfolding mergeOf
 taken-is fit image left right budget room T =
     rw (T .fits, read-of image (T .sound), lt-ltb left (length (tablesOf image .classes)) (T .asked .0), lt-ltb right (length (tablesOf image .classes)) (T .asked .1)) refl
@@ -66,13 +75,13 @@ way true image left right budget room = go (imageOf image) refl
     n : ℕ
     n = length (tablesOf image .classes)
 
-    fits : (o : Outcome) → Taken true image left right → runOf documentLimits (tablesOf image) (left, right) budget ≡ ok o → (b : Bool) → leb (length (listingOf o)) room ≡ b → Way true image left right budget room (mergeOf true image left right budget room)
-    fits o T k true q = listed o (taken-is true image left right budget room T ∙ rw (k, q) refl) T k (leb-true (length (listingOf o)) room q)
-    fits o T k false q = over o (taken-is true image left right budget room T ∙ rw (k, q) refl) T k (leb-false (length (listingOf o)) room q)
+    fits : (o : Outcome) → Taken true image left right → runOf documentLimits (tablesOf image) (left, right) budget ≡ ok o → (b : Bool) → leb (length (shown image left right budget o)) room ≡ b → Way true image left right budget room (mergeOf true image left right budget room)
+    fits o T k true q = listed o (taken-is true image left right budget room T ∙ rw (k, q) refl) T k (leb-true (length (shown image left right budget o)) room q)
+    fits o T k false q = over o (taken-is true image left right budget room T ∙ rw (k, q) refl) T k (leb-false (length (shown image left right budget o)) room q)
 
     ran : Taken true image left right → (x : Res Outcome) → runOf documentLimits (tablesOf image) (left, right) budget ≡ x → Way true image left right budget room (mergeOf true image left right budget room)
     ran T (refused k) q = stopped k (taken-is true image left right budget room T ∙ rw q refl) T q
-    ran T (ok o) q = fits o T q (leb (length (listingOf o)) room) refl
+    ran T (ok o) q = fits o T q (leb (length (shown image left right budget o)) room) refl
 
     asks : imageOf image ≡ ok (tablesOf image) → Sound image 11 → (a b : Bool) → ltb left n ≡ a → ltb right n ≡ b → Way true image left right budget room (mergeOf true image left right budget room)
     asks e S false b p q = outside (rw (e, p) refl) refl e (λ h. absurd (omega (arith, h .0, ltb-false left n p)))
@@ -121,12 +130,12 @@ pub record Accepted (image : List ℕ) (left right budget : ℕ) (fit : Bool) (o
   pub taken : Taken fit image left right
   pub o : Outcome
   pub ran : runOf documentLimits (tablesOf image) (left, right) budget ≡ ok o
-  pub long : n ≡ length (listingOf o)
+  pub long : n ≡ length (shown image left right budget o)
   pub room : n ≤ length out
-  pub listed : take n out′ ≡ listingOf o
+  pub listed : take n out′ ≡ shown image left right budget o
   -- "leaves output past the listing untouched"
   pub rest : drop n out′ ≡ drop n out
-  pub whole : out′ ≡ listingOf o ++ drop n out
+  pub whole : out′ ≡ shown image left right budget o ++ drop n out
 
 take-short : (n : ℕ) (l s : List ℕ) → take n l ≡ s → n ≤ length l → n ≡ length s
 take-short n l s e h = sym (length-take-le n l h) ∙ ap length e
@@ -145,8 +154,8 @@ accepted image left right budget fit out out′ n m = go (way fit image left rig
     go (stopped k e T f) = none k e
     go (over o e T f h) = none 14 e
     go (listed o e T f h) =
-        let l : take n out′ ≡ listingOf o = ok-inj (m .answer ∙ e) in
-        let z : n ≡ length (listingOf o) = take-short n out′ (listingOf o) l (m .carries) in
-        let w : out′ ≡ listingOf o ++ drop (length (listingOf o)) out = m .output ∙ ap (outputAfter out) e in
-        let v : out′ ≡ listingOf o ++ drop n out = w ∙ ap (λ (k : ℕ). listingOf o ++ drop k out) (sym z) in
-        record { taken = T; o = o; ran = f; long = z; room = omega arith; listed = l; rest = ap (drop n) v ∙ drop-at (listingOf o) (drop n out) n (sym z); whole = v }
+        let l : take n out′ ≡ shown image left right budget o = ok-inj (m .answer ∙ e) in
+        let z : n ≡ length (shown image left right budget o) = take-short n out′ (shown image left right budget o) l (m .carries) in
+        let w : out′ ≡ shown image left right budget o ++ drop (length (shown image left right budget o)) out = m .output ∙ ap (outputAfter out) e in
+        let v : out′ ≡ shown image left right budget o ++ drop n out = w ∙ ap (λ (k : ℕ). shown image left right budget o ++ drop k out) (sym z) in
+        record { taken = T; o = o; ran = f; long = z; room = omega arith; listed = l; rest = ap (drop n) v ∙ drop-at (shown image left right budget o) (drop n out) n (sym z); whole = v }

@@ -26,7 +26,7 @@ use Rattle.lgg.specs.Moves.{each-offer}
 use Rattle.readings.specs.Readings as L
 use Rattle.contract.specs.declared.Answer.the-variants.{Listing}
 use Rattle.contract.specs.Merges.{Merges}
-use Rattle.demands.specs.Calls.{accepted, read-of}
+use Rattle.demands.specs.Calls.{passedOver, shown, accepted, read-of}
 
 module _ (image : List ℕ) (left right budget : ℕ) (fit : Bool) (out out′ : List ℕ) (n : ℕ) (m : Merges image left right budget fit out out′ (Listing n)) where
   abbrev t : Tables
@@ -43,15 +43,15 @@ module _ (image : List ℕ) (left right budget : ℕ) (fit : Bool) (out out′ :
   valid = A.valid image t (read-of image (accepted image left right budget fit out out′ n m .taken .sound))
 
   -- o is what the run of the definitions gives, and the first n bytes of the output are its listing.
-  pub the-listing : (runOf documentLimits t (left, right) budget ≡ ok o) × (n ≡ length (listingOf o)) × (take n out′ ≡ listingOf o)
+  pub the-listing : (runOf documentLimits t (left, right) budget ≡ ok o) × (n ≡ length (shown image left right budget o)) × (take n out′ ≡ shown image left right budget o)
   the-listing = let a = accepted image left right budget fit out out′ n m in (a .ran, a .long, a .listed)
 
   -- The output begins with o's first line; what its bytes tell: `first-line-tells` (FirstLine).
-  pub the-first-line : take (length (firstLine o)) out′ ≡ firstLine o
+  pub the-first-line : take (length (firstLine (passedOver image left right budget) o)) out′ ≡ firstLine (passedOver image left right budget) o
   unfolding listingOf
   the-first-line =
       let a = accepted image left right budget fit out out′ n m in
-      ap (take (length (firstLine o))) (a .whole ∙ append-assoc (firstLine o) _ _) ∙ take-at (firstLine o) _ (length (firstLine o)) refl
+      ap (take (length (firstLine (passedOver image left right budget) o))) (a .whole ∙ append-assoc (firstLine (passedOver image left right budget) o) _ _) ∙ take-at (firstLine (passedOver image left right budget) o) _ (length (firstLine (passedOver image left right budget) o)) refl
 
   -- o has a term: the pool's terms stand over earlier ones, no two alike, and the root is one of them.
   pub the-term : PoolValid (o .pool) × (o .root < length (o .pool))

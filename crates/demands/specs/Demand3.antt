@@ -1,5 +1,5 @@
 -- Demand 3, of calls of `merge`, from their contracts: short and long runs, least derivations, what is reported. Besides a call's contract and budget, `least-after`, `completes` and `pairs-reported` take the number of pairs of its full graph (`pair-count`: there is one).
-use mathlib.Core.Path.{_≡_, refl, sym, ap, _∙_}
+use mathlib.Core.Path.{_≡_, refl, sym, ap, ap₂, _∙_}
 use mathlib.Core.Logic.{_↔_}
 use mathlib.Core.Bool.{Bool, true, false}
 use mathlib.Core.List.{List, _∷_}
@@ -22,10 +22,11 @@ use Rattle.steps.specs.Demand3 as D
 use Rattle.lgg.specs.Pairs.{PairCount, qualityAfter, LeastOf, FirstQuiet, Reported}
 use Rattle.lgg.specs.Moves.{pair-moves, pair-backs}
 use Rattle.lgg.specs.Count.{pair-count as pair-count-of}
+use Rattle.lgg.specs.Skipped.{same-skipped}
 use Rattle.contract.specs.declared.Answer.{Answer}
 use Rattle.contract.specs.declared.Answer.the-variants.{Listing, Refused}
 use Rattle.contract.specs.Merges.{Merges}
-use Rattle.demands.specs.Calls.{Taken, accepted}
+use Rattle.demands.specs.Calls.{Taken, shown, accepted}
 use Rattle.demands.specs.Refusals.{refused-12, refused-13, listing-where}
 
 -- ---- one call that is not refused
@@ -121,7 +122,7 @@ module _ (image : List ℕ) (left right b c : ℕ) (h : b ≤ c) (fit fit₂ : B
       same-bytes e =
           let a = accepted image left right b fit out out′ n short in
           let z = accepted image left right c fit₂ out₂ out₂′ k long in
-          let q = ap (λ (z : Outcome). listingOf z) (same-run e) in
+          let q : shown image left right c l ≡ shown image left right b s = ap₂ listingOf (same-skipped documentLimits (tablesOf image) (left, right) b c s h (a .ran) e) (same-run e) in
           (z .long ∙ ap length q ∙ sym (a .long), z .listed ∙ q ∙ sym (a .listed))
 
     -- .. and the long one is not refused, where no work buffer is too short and the output has room for the short one's listing
@@ -129,7 +130,7 @@ module _ (image : List ℕ) (left right b c : ℕ) (h : b ≤ c) (fit fit₂ : B
     long-answers e r m f w =
         let a = accepted image left right b fit out out′ n short in
         listing-where image left right c fit₂ out₂ out₂′ r m .1
-        (record { fits = f; sound = a .taken .sound; asked = a .taken .asked }, (s, D.stays-complete (pairs (tablesOf image)) (making documentLimits (tablesOf image)) (left, right) b c s h (a .ran) e, rw (a .long) at w))
+        (record { fits = f; sound = a .taken .sound; asked = a .taken .asked }, (s, D.stays-complete (pairs (tablesOf image)) (making documentLimits (tablesOf image)) (left, right) b c s h (a .ran) e, rw (same-skipped documentLimits (tablesOf image) (left, right) b c s h (a .ran) e, ← a .long) w))
 
   -- A short run that is refused by 12 or 13 makes a long one refused by the same number, where no work buffer is too short.
   stays : (k : ℕ) (r₂ : Answer) → fit₂ ≡ true → (Taken fit₂ image left right × (runOf documentLimits (tablesOf image) (left, right) c ≡ refused k) → r₂ ≡ Refused k)

@@ -53,6 +53,15 @@ solid-of (x ∷ l) e = go (ltb 32 x) refl e (λ q. solid-of l q)
     go true p q ih = (ltb-true 32 x p, ih q)
     go false p q ih = let z : _≡_ {A = ℕ} 0 1 = cc in absurd (omega arith)
 
+pub solids-of : (fs : List (List ℕ)) → all (λ f. all (λ x. ltb 32 x) f) fs ≡ true → Solids fs
+unfolding all Solids
+solids-of [] e = tt
+solids-of (f ∷ fs) e = go (all (λ x. ltb 32 x) f) refl e (λ q. solids-of fs q)
+  where
+    go : (b : Bool) → all (λ x. ltb 32 x) f ≡ b → elim b [ true ↦ all (λ g. all (λ x. ltb 32 x) g) fs | false ↦ false ] ≡ true → (all (λ g. all (λ x. ltb 32 x) g) fs ≡ true → Solids fs) → Solid f × Solids fs
+    go true p q ih = (solid-of f p, ih q)
+    go false p q ih = let z : _≡_ {A = ℕ} 0 1 = cc in absurd (omega arith)
+
 -- ---- what stands before the first byte of another kind
 pub heads : {A : Type 0} {x y : A} {l m : List A} → x ∷ l ≡ y ∷ m → (x ≡ y) × (l ≡ m)
 heads e = (cc, cc)

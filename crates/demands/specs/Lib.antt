@@ -6,3 +6,5 @@ pub mod Demand2
 pub mod Demand3
 pub mod ListingTells
 pub mod Terms13
+pub mod SkippedPairs
+pub mod Skipped

@@ -21,7 +21,7 @@ use Rattle.numbering.specs.WalkLaws.{visit-fresh, visit-new, subterms-closed}
 use Rattle.numbering.specs.NumberLaws.{at-in}
 use Rattle.contract.specs.declared.Answer.the-variants.{Listing}
 use Rattle.contract.specs.Merges.{Merges}
-use Rattle.demands.specs.Calls.{accepted}
+use Rattle.demands.specs.Calls.{passedOver, accepted}
 use Rattle.demands.specs.Demand2 as D
 use Rattle.demands.specs.Fields.{Solid, Solids, all-append, solids-append, solid-of, heads, nil-cons, cut, line-cut, decimal-digits, decimal-solid, decimal-tells}
 use Rattle.demands.specs.FirstLine.{SameReport, first-line-cut}
@@ -212,20 +212,20 @@ module _ (p q : Pool) (v : PoolValid p) (w : PoolValid q) (a b : ℕ) (ha : a < 
       sym (ap (treeAt p) g) ∙ line-tree (suc (getD L (length X) 0)) (length X) (omega arith) (omega arith) ∙ ap (treeAt q) k
 
 -- Two listings of the same bytes have the same first line and the same term.
-pub listing-tells : (o u : Outcome) → PoolValid (o .pool) → PoolValid (u .pool) → o .root < length (o .pool) → u .root < length (u .pool) → listingOf o ≡ listingOf u
-    → SameReport o u × (treeAt (o .pool) (o .root) ≡ treeAt (u .pool) (u .root))
+pub listing-tells : (k j : ℕ) (o u : Outcome) → PoolValid (o .pool) → PoolValid (u .pool) → o .root < length (o .pool) → u .root < length (u .pool) → listingOf k o ≡ listingOf j u
+    → SameReport k j o u × (treeAt (o .pool) (o .root) ≡ treeAt (u .pool) (u .root))
 unfolding listingOf
-listing-tells o u v w h k e =
-    let (r, l) = first-line-cut o u _ _ e in
-    (r, root-tree (o .pool) (u .pool) v w (o .root) (u .root) h k l)
+listing-tells k j o u v w h i e =
+    let (r, l) = first-line-cut k j o u _ _ e in
+    (r, root-tree (o .pool) (u .pool) v w (o .root) (u .root) h i l)
 
 -- ---- of two calls
--- Two calls that print the same bytes have the same formula, whatever their images, queries and buffers: `D.o` is the run behind a call's listing.
+-- Two calls that print the same bytes have the same formula and the same number of pairs passed over, whatever their images, queries and buffers: `D.o` is the run behind a call's listing.
 pub same-bytes-same-formula : (image image₂ : List ℕ) (left right budget left₂ right₂ budget₂ : ℕ) (fit fit₂ : Bool) (out out′ out₂ out₂′ : List ℕ) (n n₂ : ℕ)
     → (m : Merges image left right budget fit out out′ (Listing n)) (m₂ : Merges image₂ left₂ right₂ budget₂ fit₂ out₂ out₂′ (Listing n₂)) → take n out′ ≡ take n₂ out₂′
-    → SameReport (D.o image left right budget fit out out′ n m) (D.o image₂ left₂ right₂ budget₂ fit₂ out₂ out₂′ n₂ m₂)
+    → SameReport (passedOver image left right budget) (passedOver image₂ left₂ right₂ budget₂) (D.o image left right budget fit out out′ n m) (D.o image₂ left₂ right₂ budget₂ fit₂ out₂ out₂′ n₂ m₂)
     × (treeAt (D.o image left right budget fit out out′ n m .pool) (D.o image left right budget fit out out′ n m .root) ≡ treeAt (D.o image₂ left₂ right₂ budget₂ fit₂ out₂ out₂′ n₂ m₂ .pool) (D.o image₂ left₂ right₂ budget₂ fit₂ out₂ out₂′ n₂ m₂ .root))
 same-bytes-same-formula image image₂ left right budget left₂ right₂ budget₂ fit fit₂ out out′ out₂ out₂′ n n₂ m m₂ e =
     let (v, h) = D.the-term image left right budget fit out out′ n m in
     let (w, k) = D.the-term image₂ left₂ right₂ budget₂ fit₂ out₂ out₂′ n₂ m₂ in
-    listing-tells _ _ v w h k (sym (accepted image left right budget fit out out′ n m .listed) ∙ e ∙ accepted image₂ left₂ right₂ budget₂ fit₂ out₂ out₂′ n₂ m₂ .listed)
+    listing-tells _ _ _ _ v w h k (sym (accepted image left right budget fit out out′ n m .listed) ∙ e ∙ accepted image₂ left₂ right₂ budget₂ fit₂ out₂ out₂′ n₂ m₂ .listed)

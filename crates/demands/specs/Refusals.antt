@@ -13,7 +13,6 @@ use Rattle.spec.specs.Image.{lowestDoubled, tablesOf}
 use Rattle.spec.specs.Pairs.{pairs, making}
 use Rattle.spec.specs.Graph.{PAIRS}
 use Rattle.spec.specs.Run.{documentLimits, Outcome, runOf}
-use Rattle.spec.specs.Listing.{listingOf}
 use Rattle.spec.specs.Merge.{mergeOf, outputAfter}
 use Rattle.spec.specs.Meaning.{HoldsDoubled}
 use Rattle.laws.specs.Tests.{clash}
@@ -32,7 +31,7 @@ use Rattle.contract.specs.Merges.{Merges}
 use Rattle.contract.specs.Answers.{answerOf, Carries, Cleared, Table}
 use Rattle.pair_search.specs.declared.Pair.{Pair}
 use Rattle.pair_search.specs.Records.{none}
-use Rattle.demands.specs.Calls.{Asked, Sound, Taken, Way, short, unsound, outside, stopped, over, listed, read-of, taken-is, way, refused-iff, doubled-iff, listing-iff}
+use Rattle.demands.specs.Calls.{Asked, Sound, Taken, shown, Way, short, unsound, outside, stopped, over, listed, read-of, taken-is, way, refused-iff, doubled-iff, listing-iff}
 
 module _ (image : List ℕ) (left right budget : ℕ) (fit : Bool) (out out′ : List ℕ) (r : Answer) (m : Merges image left right budget fit out out′ r) where
   abbrev R : Res Outcome
@@ -163,13 +162,13 @@ module _ (image : List ℕ) (left right budget : ℕ) (fit : Bool) (out out′ :
   refused-13 = of-run 13 (omega arith) (omega arith)
 
   -- ---- "14 last": "the listing exceeds the output buffer"
-  pub refused-14 : (r ≡ Refused 14) ↔ (Taken fit image left right × ((o : Outcome) × (R ≡ ok o) × (length out < length (listingOf o))))
-  refused-14 = (λ e. go (way fit image left right budget (length out)) (iff .0 e), λ h. iff .1 (taken-is fit image left right budget (length out) (h .0) ∙ rw (h .1 .1, lt-leb (length (listingOf (h .1 .0))) (length out) (h .1 .2)) refl))
+  pub refused-14 : (r ≡ Refused 14) ↔ (Taken fit image left right × ((o : Outcome) × (R ≡ ok o) × (length out < length (shown image left right budget o))))
+  refused-14 = (λ e. go (way fit image left right budget (length out)) (iff .0 e), λ h. iff .1 (taken-is fit image left right budget (length out) (h .0) ∙ rw (h .1 .1, lt-leb (length (shown image left right budget (h .1 .0))) (length out) (h .1 .2)) refl))
     where
       iff : (r ≡ Refused 14) ↔ (M ≡ refused 14)
       iff = refused-iff image left right budget fit out out′ r m 14 (λ z. absurd (omega arith))
 
-      go : Way fit image left right budget (length out) M → M ≡ refused 14 → Taken fit image left right × ((o : Outcome) × (R ≡ ok o) × (length out < length (listingOf o)))
+      go : Way fit image left right budget (length out) M → M ≡ refused 14 → Taken fit image left right × ((o : Outcome) × (R ≡ ok o) × (length out < length (shown image left right budget o)))
       go (short e f) q = absurd (omega (arith, as-refused e q))
       go (unsound j e f g) q = let z = A.refused-in-its-case image j .0 g .1 in absurd (omega (arith, as-refused e q))
       go (outside e f g h) q = absurd (omega (arith, as-refused e q))
@@ -178,16 +177,16 @@ module _ (image : List ℕ) (left right budget : ℕ) (fit : Bool) (out out′ :
       go (listed o e T f h) q = absurd (refused-ok (sym q ∙ e))
 
   -- ---- a listing: nothing of 1 to 14 is the case
-  pub listing-where : ((n : ℕ) × (r ≡ Listing n)) ↔ (Taken fit image left right × ((o : Outcome) × (R ≡ ok o) × (length (listingOf o) ≤ length out)))
+  pub listing-where : ((n : ℕ) × (r ≡ Listing n)) ↔ (Taken fit image left right × ((o : Outcome) × (R ≡ ok o) × (length (shown image left right budget o) ≤ length out)))
   listing-where = (
     λ e. let (l, q) = iff .0 e in go l (way fit image left right budget (length out)) q,
-    λ h. iff .1 (listingOf (h .1 .0), taken-is fit image left right budget (length out) (h .0) ∙ rw (h .1 .1, le-leb (length (listingOf (h .1 .0))) (length out) (h .1 .2)) refl),
+    λ h. iff .1 (shown image left right budget (h .1 .0), taken-is fit image left right budget (length out) (h .0) ∙ rw (h .1 .1, le-leb (length (shown image left right budget (h .1 .0))) (length out) (h .1 .2)) refl),
   )
     where
       iff : ((n : ℕ) × (r ≡ Listing n)) ↔ ((l : List ℕ) × (M ≡ ok l))
       iff = listing-iff image left right budget fit out out′ r m
 
-      go : (l : List ℕ) → Way fit image left right budget (length out) M → M ≡ ok l → Taken fit image left right × ((o : Outcome) × (R ≡ ok o) × (length (listingOf o) ≤ length out))
+      go : (l : List ℕ) → Way fit image left right budget (length out) M → M ≡ ok l → Taken fit image left right × ((o : Outcome) × (R ≡ ok o) × (length (shown image left right budget o) ≤ length out))
       go l (short e f) q = absurd (refused-ok (sym e ∙ q))
       go l (unsound j e f g) q = absurd (refused-ok (sym e ∙ q))
       go l (outside e f g h) q = absurd (refused-ok (sym e ∙ q))

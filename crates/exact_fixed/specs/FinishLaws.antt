@@ -1,5 +1,6 @@
 -- `start`, by what `begin` and starting terms answered.
 use mathlib.Core.Path.{_≡_, refl, sym, ap, ap₂, _∙_}
+use mathlib.Core.Logic.{_⊎_, inl, inr, ⊎-elim}
 use mathlib.Core.List.{List, []}
 use Prim.Native.Nat.{ℕ, _+_, _*_, _≤_, _<_}
 use native.Mathlib.Omega.{arith}
@@ -8,7 +9,7 @@ use Rattle.spec.specs.Bytes.{Two, Limits, Res, ok, refused, Checked, passed, cu
 use Rattle.spec.specs.Image.{Tables}
 use Rattle.spec.specs.System as system
 use Rattle.spec.specs.Pairs as P
-use Rattle.spec.specs.Graph.{build}
+use Rattle.spec.specs.Graph.{build, skippedIn}
 use Rattle.spec.specs.Pool.{Interned, interned, startingTerm}
 use Rattle.spec.specs.Run.{startingTerms, runOf, afterBuilding}
 use Rattle.laws.specs.Valid.{Valid}
@@ -27,7 +28,10 @@ use Rattle.terms.specs.Chains.{Holds}
 use Rattle.entering.specs.Entered.{entered}
 use Rattle.graph.specs.Building.{graphAfter}
 use Rattle.graph.specs.Built.{built-pairs}
+use Rattle.outcome.specs.Answers.{Answers}
+use Rattle.outcome.specs.AnswerLaws.{answer-any}
 use Rattle.outcome.specs.Outcomes.{RanTo}
+use Rattle.outcome.specs.declared.Answer.{Answer}
 use Rattle.outcome.specs.declared.Outcome.{Outcome}
 use Rattle.outcome.specs.declared.Ran.{Ran}
 use Rattle.outcome.specs.declared.Ran.the-variants as R
@@ -40,6 +44,7 @@ use Rattle.exact_fixed.specs.Following.{ToRounds}
 use Rattle.exact_fixed.specs.declared.Started.{Started}
 use Rattle.exact_fixed.specs.declared.Started.the-variants as S
 use Rattle.beginning.specs.Beginning.{begunOf, Ready}
+use Rattle.prepared.specs.Pairs.{skippedOf}
 use Rattle.prepared.specs.declared.Begun.{Begun}
 use Rattle.prepared.specs.declared.Begun.the-variants as N
 
@@ -47,54 +52,73 @@ graphs-as : (lim : Limits) (t : Tables) (w : ℕ) (ps qs : List Two) (m n : ℕ)
 graphs-as lim t w ps qs m n graph e f G = rw (← e, ← f) G
 
 -- ---- what an answer of `begin` says
-cut-says : (x : Res Interned) (g : Res (Checked (List Two))) (root : ℕ) → N.Cut root ≡ begunOf x g → (a : Interned) × (x ≡ ok a) × (a .term ≡ root) × (g ≡ ok cutShort)
-cut-says (refused n) g root e = absurd (let z : _≡_ {A = ℕ} 0 1 = cc in omega arith)
-cut-says (ok a) (refused n) root e = absurd (let z : _≡_ {A = ℕ} 0 1 = cc in omega arith)
-cut-says (ok a) (ok cutShort) root e = (a, refl, cc, refl)
-cut-says (ok a) (ok (passed ps c)) root e = absurd (let z : _≡_ {A = ℕ} 0 1 = cc in omega arith)
+cut-says : (k : ℕ) (x : Res Interned) (g : Res (Checked (List Two))) (root j : ℕ) → N.Cut root j ≡ begunOf k x g → (a : Interned) × (x ≡ ok a) × (a .term ≡ root) × (g ≡ ok cutShort)
+cut-says k (refused n) g root j e = absurd (let z : _≡_ {A = ℕ} 0 1 = cc in omega arith)
+cut-says k (ok a) (refused n) root j e = absurd (let z : _≡_ {A = ℕ} 0 1 = cc in omega arith)
+cut-says k (ok a) (ok cutShort) root j e = (a, refl, cc, refl)
+cut-says k (ok a) (ok (passed ps c)) root j e = absurd (let z : _≡_ {A = ℕ} 0 1 = cc in omega arith)
 
-all-says : (x : Res Interned) (g : Res (Checked (List Two))) (root n : ℕ) (b : Budget) → N.All root n b ≡ begunOf x g → (a : Interned) × (ps : List Two) × (c : ℕ) × (x ≡ ok a) × (a .term ≡ root) × (g ≡ ok (passed ps c)) × (length ps ≡ n) × (b .left ≡ c)
-all-says (refused k) g root n b e = absurd (let z : _≡_ {A = ℕ} 0 1 = cc in omega arith)
-all-says (ok a) (refused k) root n b e = absurd (let z : _≡_ {A = ℕ} 0 1 = cc in omega arith)
-all-says (ok a) (ok cutShort) root n b e = absurd (let z : _≡_ {A = ℕ} 0 1 = cc in omega arith)
-all-says (ok a) (ok (passed ps c)) root n b e =
+all-says : (k : ℕ) (x : Res Interned) (g : Res (Checked (List Two))) (root n : ℕ) (b : Budget) (j : ℕ) → N.All root n b j ≡ begunOf k x g → (a : Interned) × (ps : List Two) × (c : ℕ) × (x ≡ ok a) × (a .term ≡ root) × (g ≡ ok (passed ps c)) × (length ps ≡ n) × (b .left ≡ c)
+all-says k (refused i) g root n b j e = absurd (let z : _≡_ {A = ℕ} 0 1 = cc in omega arith)
+all-says k (ok a) (refused i) root n b j e = absurd (let z : _≡_ {A = ℕ} 0 1 = cc in omega arith)
+all-says k (ok a) (ok cutShort) root n b j e = absurd (let z : _≡_ {A = ℕ} 0 1 = cc in omega arith)
+all-says k (ok a) (ok (passed ps c)) root n b j e =
     let y : b ≡ budgetOf c = cc in
     (a, ps, c, refl, cc, refl, cc, ap (λ (z : Budget). z .left) y)
 
+-- `begin` stopped, or it tells the number
+skipped-says : (k : ℕ) (x : Res Interned) (g : Res (Checked (List Two))) (b : Begun) → b ≡ begunOf k x g → ((n : ℕ) × (b ≡ N.Stopped n)) ⊎ (skippedOf b ≡ k)
+skipped-says k (refused n) g b e = inl (n, e)
+skipped-says k (ok a) (refused n) b e = inl (n, e)
+skipped-says k (ok a) (ok cutShort) b e = inr (ap skippedOf e)
+skipped-says k (ok a) (ok (passed ps c)) b e = inr (ap skippedOf e)
+
 module _ (lim : Limits) (t : Tables) (p : Two) (budget w : ℕ) (graph ts us : List ℕ) where
+  -- the number of monomial pairs passed over
+  abbrev passes : ℕ
+  passes = skippedIn lim t p budget
+
   pub finish-stopped : (k : ℕ) (b : Begun) → b ≡ N.Stopped k → Ready lim t p budget w b graph ts us → RanTo (runOf lim t p budget) graph ts us (R.Stopped k)
   finish-stopped k b s Y = go (startingTerm lim t [] p) refl (build lim t p budget) refl (sym s ∙ Y .answer)
     where
-      go : (x : Res Interned) → startingTerm lim t [] p ≡ x → (g : Res (Checked (List Two))) → build lim t p budget ≡ g → N.Stopped k ≡ begunOf x g → runOf lim t p budget ≡ refused k
+      go : (x : Res Interned) → startingTerm lim t [] p ≡ x → (g : Res (Checked (List Two))) → build lim t p budget ≡ g → N.Stopped k ≡ begunOf passes x g → runOf lim t p budget ≡ refused k
       go (refused n) e g f q = let z : n ≡ k = cc in run-no-root (P.pairs t) (P.making lim t) p budget n e ∙ ap (λ (i : ℕ). refused i) z
       go (ok a) e (refused n) f q = let z : n ≡ k = cc in run-no-graph (P.pairs t) (P.making lim t) p budget a e n f ∙ ap (λ (i : ℕ). refused i) z
       go (ok a) e (ok cutShort) f q = absurd (let z : _≡_ {A = ℕ} 0 1 = cc in omega arith)
       go (ok a) e (ok (passed ps c)) f q = absurd (let z : _≡_ {A = ℕ} 0 1 = cc in omega arith)
+
+  -- j is the number that `begin` tells
+  pub finish-answers : (b : Begun) → Ready lim t p budget w b graph ts us → (j : ℕ) → j ≡ skippedOf b → (out out′ : List ℕ) (r : Answer) → Answers j (runOf lim t p budget) out out′ r → Answers (skippedIn lim t p budget) (runOf lim t p budget) out out′ r
+  finish-answers b Y j e out out′ r Z =
+      ⊎-elim
+      (λ s. answer-any j passes (s .0) (runOf lim t p budget) out out′ r (finish-stopped (s .0) b (s .1) Y) Z)
+      (λ s. let z : j ≡ passes = e ∙ s in rw z at Z)
+      (skipped-says passes (startingTerm lim t [] p) (build lim t p budget) b (Y .answer))
 
   module _ (v : Valid t) (i : IsPair t p) where
     -- the root's pool is within its limit
     rooted : (a : Interned) → startingTerm lim t [] p ≡ ok a → poolOf ts us ≡ a .pool → countIn ts ≤ lim .terms
     rooted a e q = omega (arith, starting-within lim t [] p a (omega arith) e, ap length q, pool-length ts us)
 
-    pub finish-cut : 2 * lim .terms ≤ length graph → (root : ℕ) (b : Begun) → b ≡ N.Cut root → Ready lim t p budget w b graph ts us → (o : Outcome) → o ≡ startedIn t p 1 root → RanTo (runOf lim t p budget) graph ts us (R.Done o)
-    finish-cut room root b s X o q =
-        let (a, e, f, g) = cut-says (startingTerm lim t [] p) (build lim t p budget) root (sym s ∙ X .answer) in
+    pub finish-cut : 2 * lim .terms ≤ length graph → (root j : ℕ) (b : Begun) → b ≡ N.Cut root j → Ready lim t p budget w b graph ts us → (o : Outcome) → o ≡ startedIn t p 1 root → RanTo (runOf lim t p budget) graph ts us (R.Done o)
+    finish-cut room root j b s X o q =
+        let (a, e, f, g) = cut-says passes (startingTerm lim t [] p) (build lim t p budget) root j (sym s ∙ X .answer) in
         let W = pair-begins lim t v .start [] p a i empty-valid e in
         let z = ran-started t p (runOf lim t p budget) a 1 graph ts us (run-cut-building (P.pairs t) (P.making lim t) p budget a e g) (W .valid) (W .within) (X .holds a e) (rw (X .pool a e) (extends-refl (a .pool))) (omega (arith, rooted a e (X .pool a e))) in
         rw q (rw f at z)
 
-    module _ (root n : ℕ) (b : Budget) (B : Begun) (s : B ≡ N.All root n b) (X : Ready lim t p budget w B graph ts us) where
+    module _ (root n : ℕ) (b : Budget) (j : ℕ) (B : Begun) (s : B ≡ N.All root n b j) (X : Ready lim t p budget w B graph ts us) where
       pub all-root : root < countIn ts
       all-root =
-          let (a, ps, c, e, f, g, h, k) = all-says (startingTerm lim t [] p) (build lim t p budget) root n b (sym s ∙ X .answer) in
+          let (a, ps, c, e, f, g, h, k) = all-says passes (startingTerm lim t [] p) (build lim t p budget) root n b j (sym s ∙ X .answer) in
           let W = pair-begins lim t v .start [] p a i empty-valid e in
           omega (arith, f, W .within, ap length (X .pool a e), pool-length ts us)
 
       pub all-holds : Holds ts us
-      all-holds = let (a, ps, c, e, f, g, h, k) = all-says (startingTerm lim t [] p) (build lim t p budget) root n b (sym s ∙ X .answer) in X .holds a e
+      all-holds = let (a, ps, c, e, f, g, h, k) = all-says passes (startingTerm lim t [] p) (build lim t p budget) root n b j (sym s ∙ X .answer) in X .holds a e
 
       pub all-within : countIn ts ≤ lim .terms
-      all-within = let (a, ps, c, e, f, g, h, k) = all-says (startingTerm lim t [] p) (build lim t p budget) root n b (sym s ∙ X .answer) in rooted a e (X .pool a e)
+      all-within = let (a, ps, c, e, f, g, h, k) = all-says passes (startingTerm lim t [] p) (build lim t p budget) root n b j (sym s ∙ X .answer) in rooted a e (X .pool a e)
 
       -- the run is what follows building
       run-after : (a : Interned) (g : Checked (List Two)) → startingTerm lim t [] p ≡ ok a → build lim t p budget ≡ ok g → runOf lim t p budget ≡ afterBuilding lim t p a g
@@ -111,16 +135,16 @@ module _ (lim : Limits) (t : Tables) (p : Two) (budget w : ℕ) (graph ts us : L
 
         pub all-graphs : Graphs lim t w (pairsIn w graph n) n graph
         all-graphs =
-            let (a, ps, c, e, f, g, h, k) = all-says (startingTerm lim t [] p) (build lim t p budget) root n b (sym s ∙ X .answer) in
+            let (a, ps, c, e, f, g, h, k) = all-says passes (startingTerm lim t [] p) (build lim t p budget) root n b j (sym s ∙ X .answer) in
             let q : pairsIn w graph n ≡ ps = ap (λ (z : ℕ). pairsIn w graph z) (sym h) ∙ pairs-are a ps c e g in
             let G : Graphs lim t w ps (length ps) graph = rw (sym (laid a ps c e g)) at (graphs-built lim t v p i budget c ps g w many (length graph) wide) in
             graphs-as lim t w ps (pairsIn w graph n) (length ps) n graph (sym q) h G
 
         all-runs : runOf lim t p budget ≡ afterBuilding lim t p (interned (poolOf ts us) root) (passed (pairsIn w graph n) (b .left))
         all-runs =
-            let (a, ps, c, e, f, g, h, k) = all-says (startingTerm lim t [] p) (build lim t p budget) root n b (sym s ∙ X .answer) in
+            let (a, ps, c, e, f, g, h, k) = all-says passes (startingTerm lim t [] p) (build lim t p budget) root n b j (sym s ∙ X .answer) in
             let q : ps ≡ pairsIn w graph n = sym (pairs-are a ps c e g) ∙ ap (λ (z : ℕ). pairsIn w graph z) h in
-            let r : a ≡ interned (poolOf ts us) root = λ j. record { pool = sym (X .pool a e) j; term = f j } in
+            let r : a ≡ interned (poolOf ts us) root = λ y. record { pool = sym (X .pool a e) y; term = f y } in
             run-after a (passed ps c) e g ∙ ap₂ (λ (y : Interned) (z : Checked (List Two)). afterBuilding lim t p y z) r (ap₂ (λ (y : List Two) (z : ℕ). passed y z) q (sym k))
 
         -- by what starting terms answer

@@ -39,5 +39,5 @@ module _ (lim : Limits) (t : Tables) (m : Res Outcome) (w : ℕ) (graph pairs te
   pub follows-rounds : (n : ℕ) (c : Budget) → x ≡ N.Rounds n c → ToRounds lim t m w n graph pairs terms runs (c .left)
   follows-rounds n c e = rw e at X
 
-pub rounds-answer : {lim : Limits} {t : Tables} {m : Res Outcome} {w n : ℕ} {graph pairs terms runs : List ℕ} {c : ℕ} → ToRounds lim t m w n graph pairs terms runs c → (out out′ : List ℕ) (r : Answer) → Answers (roundsOf lim t (pairsIn w graph n) (stateIn pairs terms runs n 0 c)) out out′ r → Answers m out out′ r
-rounds-answer T out out′ r Z = rw (T .is) Z
+pub rounds-answer : {lim : Limits} {t : Tables} {m : Res Outcome} {w n : ℕ} {graph pairs terms runs : List ℕ} {c : ℕ} → ToRounds lim t m w n graph pairs terms runs c → (k : ℕ) (out out′ : List ℕ) (r : Answer) → Answers k (roundsOf lim t (pairsIn w graph n) (stateIn pairs terms runs n 0 c)) out out′ r → Answers k m out out′ r
+rounds-answer T k out out′ r Z = rw (T .is) Z

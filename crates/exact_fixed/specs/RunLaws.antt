@@ -41,7 +41,7 @@ pub ran-started : (t : Tables) (p : Two) (m : Res run.Outcome) (root : Interned)
 ran-started t p m root n marks terms runs e v w h g k = (
   run.started t p root n,
   e,
-  listing-started (P.pairs t) p root n (poolOf terms runs) v w (h .valid) g,
+  λ k. listing-started (P.pairs t) k p root n (poolOf terms runs) v w (h .valid) g,
   h,
   omega (arith, extends-within g (root .term) w, pool-length terms runs),
   k,

@@ -13,6 +13,7 @@ ghost use mathlib.Core.Path.{_≡_};
 ghost use Prim.Native.Nat.{_+_, _*_, _≤_, _<_};
 ghost use lib.ListN.{length};
 ghost use Rattle.spec.specs.Image.{tablesOf};
+ghost use Rattle.spec.specs.Graph.{skippedIn};
 ghost use Rattle.spec.specs.Run.{startingTerms, runOf};
 ghost use Rattle.laws.specs.Valid.{Valid};
 ghost use Rattle.query.specs.Settings.{limitsOf, askedOf};
@@ -137,11 +138,11 @@ fn start(
         Begun::Stopped(k) => {
             return Next::Ended(Ran::Stopped(k));
         }
-        Begun::Cut(root) => {
+        Begun::Cut(root, j) => {
             let o = starting::report_started(s, im, q, 1, root);
             return Next::Ended(Ran::Done(o));
         }
-        Begun::All(root, n, c) => {
+        Begun::All(root, n, c, j) => {
             let x = start_all(lim, s, im, graph, n, pairs, terms, runs, c);
             match x {
                 Started::Full => {
@@ -175,16 +176,31 @@ pub fn finish(
     out: &mut [u8],
 ) -> Answer
     requires { ⌜ Loaded (now s) im × Valid (tablesOf (now s)) × (q .left < im .classes) × (q .right < im .classes) × Lengths (limitsOf lim) (im .classes) (now graph) (now pairs) (now work) (now flow) (now terms) (now runs) × Ready (limitsOf lim) (tablesOf (now s)) (askedOf q) (q .budget) (im .classes) b (now graph) (now terms) (now runs) ⌝ }
-    ensures { λ r. ⌜ Answers (runOf (limitsOf lim) (tablesOf (now (s .entry))) (askedOf q) (q .budget)) (now (out .entry)) (now (out .exit)) r
+    ensures { λ r. ⌜ Answers (skippedIn (limitsOf lim) (tablesOf (now (s .entry))) (askedOf q) (q .budget)) (runOf (limitsOf lim) (tablesOf (now (s .entry))) (askedOf q) (q .budget)) (now (out .entry)) (now (out .exit)) r
         × Cleared (now (graph .entry)) (now (pairs .entry)) (now (work .entry)) (now (flow .entry)) (now (terms .entry)) (now (runs .entry)) (now (graph .exit)) (now (pairs .exit)) (now (work .exit)) (now (flow .exit)) (now (terms .exit)) (now (runs .exit)) ⌝ }
 {
+    let k = prepared::skipped_of(b);
     let x = start(lim, s, im, q, b, graph, pairs, terms, runs);
     match x {
         Next::Ended(y) => {
-            return outcome::conclude(y, graph, pairs, work, flow, terms, runs, out);
+            return outcome::conclude(y, k, graph, pairs, work, flow, terms, runs, out);
         }
         Next::Rounds(n, c) => {
-            return rounds::run_rounds(lim, s, im, n, graph, pairs, work, flow, terms, runs, out, c);
+            return rounds::run_rounds(
+                lim,
+                s,
+                im,
+                n,
+                graph,
+                pairs,
+                work,
+                flow,
+                terms,
+                runs,
+                out,
+                c,
+                k,
+            );
         }
     }
 }

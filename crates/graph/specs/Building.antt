@@ -9,11 +9,11 @@ use Rattle.entering.specs.Entered.{entered, cleared}
 use Rattle.graph.specs.declared.Built.{Built}
 use Rattle.graph.specs.declared.Built.the-variants.{All, Cut, Full}
 
--- built in full: how many pairs, and the budget left; cut short; refusal 12
-abbrev pub builtOf : Res (Checked (List Two)) → Built
-builtOf (ok (passed ps c)) = All (length ps) (budgetOf c)
-builtOf (ok cutShort) = Cut
-builtOf (refused n) = Full
+-- built in full: how many pairs, and the budget left; cut short; both with k, the number of monomial pairs passed over; refusal 12
+abbrev pub builtOf : ℕ → Res (Checked (List Two)) → Built
+builtOf k (ok (passed ps c)) = All (length ps) (budgetOf c) k
+builtOf k (ok cutShort) = Cut k
+builtOf k (refused n) = Full
 
 -- the pairs in their order; cleared unless the graph is built in full
 abbrev pub graphAfter : ℕ → Res (Checked (List Two)) → List ℕ → List ℕ
@@ -21,6 +21,6 @@ graphAfter w (ok (passed ps c)) graph = entered w 0 ps (cleared graph)
 graphAfter w (ok cutShort) graph = cleared graph
 graphAfter w (refused n) graph = cleared graph
 
-pub record Builds (w : ℕ) (g : Res (Checked (List Two))) (before after : List ℕ) (r : Built) : Type 0 where
-  pub answer : r ≡ builtOf g
+pub record Builds (w k : ℕ) (g : Res (Checked (List Two))) (before after : List ℕ) (r : Built) : Type 0 where
+  pub answer : r ≡ builtOf k g
   pub graph : after ≡ graphAfter w g before

@@ -2,23 +2,25 @@
 use mathlib.Core.Path.{_≡_, refl, sym, ap, ap₂, _∙_}
 use mathlib.Core.Logic.{⊎-elim}
 use mathlib.Core.Bool.{true, false, not}
-use mathlib.Core.List.{List, [], _∷_}
+use mathlib.Core.List.{List, [], _∷_, map}
 use Prim.Native.Nat.{ℕ, zero, suc, _+_, _*_, _≤_, _<_}
 use native.Mathlib.Numerals.{add-one}
 use native.Mathlib.Omega.{arith}
 use lib.ListN.{length, getD, replicate}
-use Rattle.spec.specs.Bytes.{Limits, Two, Res, ok, refused, _>>=_, Checked, passed, cutShort}
+use Rattle.spec.specs.Bytes.{sum, Limits, Two, Res, ok, refused, _>>=_, Checked, passed, cutShort}
 use Rattle.spec.specs.Image.{Tables}
-use Rattle.spec.specs.Action.{joins}
+use Rattle.spec.specs.Action.{joins, skippedAt}
 use Rattle.spec.specs.System as system
 use Rattle.spec.specs.Pairs.{pairs}
-use Rattle.spec.specs.Graph.{enter, enterAll, buildFrom, build}
+use Rattle.spec.specs.Graph.{enter, enterAll, buildFrom, build, skippedIn}
 use Rattle.spec.specs.Meaning.{In}
 use Rattle.laws.specs.Tests.{clash}
 use Rattle.laws.specs.Valid.{Valid}
 use Rattle.laws.specs.Lists.{in-nil, in-cons, get-in}
 use Rattle.laws.specs.Results.{refused-ok, ok-inj}
 use Rattle.steps.specs.BuildFrom.{build-stop, build-turn, build-done}
+use Rattle.steps.specs.Turned.{turned-stop, turned-turn, turned-done}
+use Rattle.skips.specs.Few.{pair-few}
 use Rattle.steps.specs.Enter.{Entered, grown, overfull, enterAll-says}
 use Rattle.laws.specs.BestMembers.{IsPair}
 use Rattle.lgg.specs.Within.{joins-within}
@@ -34,7 +36,7 @@ use Rattle.graph.specs.declared.Built.the-variants.{All, Cut, Full}
 use Rattle.entering.specs.Entered.{entered, cleared}
 use Rattle.graph.specs.Building.{Builds}
 use Rattle.entering.specs.Growing.{Graph, Going, Grows}
-use Rattle.graph.specs.Ending.{AllPairs, Whole, Ends}
+use Rattle.graph.specs.Ending.{AllPairs, Whole, Ends, skippedFrom}
 
 -- ---- a check
 pub check-none : (b : Budget) (x : Spent) → x ≡ spendOf b → not (x .passed) ≡ true → b .left ≡ 0
@@ -61,33 +63,42 @@ module _ (lim : Limits) (t : Tables) (ps : List Two) where
       go (ok rs) (grown d k) q = ⊎-elim (λ j. f x j) (λ j. g x j) (d .only x (rw (ok-inj q) i))
       go (refused n) (overfull z o) q = absurd (refused-ok q)
 
--- After i turns there are n pairs, and the rest of building leads to g.
-pub record Turning (lim : Limits) (t : Tables) (w : ℕ) (g : Res (Checked (List Two))) (b : ℕ) (graph : List ℕ) (n i : ℕ) : Type 0 where
+-- After i turns there are n pairs, j monomial pairs were passed over, and the rest of building leads to g and to k in all.
+pub record Turning (lim : Limits) (t : Tables) (w k : ℕ) (g : Res (Checked (List Two))) (b : ℕ) (graph : List ℕ) (n j i : ℕ) : Type 0 where
   pub leads : buildFrom lim b t (pairsIn w graph n) i ≡ g
+  pub counted : j + skippedFrom lim b t (pairsIn w graph n) i ≡ k
+  pub fewOver : j ≤ i * 525376
   pub holds : Graph lim w n graph
   pub pairs : AllPairs t (pairsIn w graph n)
 
 module _ (lim : Limits) (t : Tables) (w : ℕ) where
-  pub turning-start : (b : ℕ) (graph : List ℕ) (n : ℕ) → Graph lim w n graph → AllPairs t (pairsIn w graph n) → Turning lim t w (buildFrom lim b t (pairsIn w graph n) 0) b graph n 0
-  turning-start b graph n g p = record { leads = refl; holds = g; pairs = p }
+  pub turning-start : (b : ℕ) (graph : List ℕ) (n : ℕ) → Graph lim w n graph → AllPairs t (pairsIn w graph n) → Turning lim t w (skippedFrom lim b t (pairsIn w graph n) 0) (buildFrom lim b t (pairsIn w graph n) 0) b graph n 0 0
+  turning-start b graph n g p = record { leads = refl; counted = omega arith; fewOver = omega arith; holds = g; pairs = p }
 
-  module _ {g : Res (Checked (List Two))} {b : ℕ} {graph : List ℕ} {n i : ℕ} (d : Turning lim t w g b graph n i) where
+  module _ {k : ℕ} {g : Res (Checked (List Two))} {b : ℕ} {graph : List ℕ} {n j i : ℕ} (d : Turning lim t w k g b graph n j i) where
     many : length (pairsIn w graph n) ≡ n
     many = unkeyed-length graph (w * w) n
 
     -- no pair is left
-    pub turning-end : (c : Budget) → b ≡ c .left → n ≤ i → Ends lim w g graph (All n c)
+    pub turning-end : (c : Budget) → b ≡ c .left → n ≤ i → Ends lim w k g graph (All n c j)
+    unfolding sum
     turning-end c e h = record {
-      says = record {
-        leads = sym (d .leads) ∙ build-done (pairs t) (lim .pairs) (pairsIn w graph n) b i (omega (arith, h, many)) ∙ ap (λ (m : ℕ). ok (passed (pairsIn w graph n) m)) e;
-        holds = d .holds;
-      };
+      says = (
+        record {
+          leads = sym (d .leads) ∙ build-done (pairs t) (lim .pairs) (pairsIn w graph n) b i (omega (arith, h, many)) ∙ ap (λ (m : ℕ). ok (passed (pairsIn w graph n) m)) e;
+          holds = d .holds;
+        },
+        omega (arith, d .counted, ap (λ (l : List Two). sum (map (skippedAt t) l)) (turned-done (pairs t) (lim .pairs) (pairsIn w graph n) b i (omega (arith, h, many)))),
+      );
     }
 
     module _ (h : i < n) where
       -- the check is expired
-      pub turning-cut : {graph′ : List ℕ} → b ≡ 0 → Ends lim w g graph′ Cut
-      turning-cut e = record { says = sym (d .leads) ∙ build-stop (pairs t) (lim .pairs) (pairsIn w graph n) b i e (omega (arith, h, many)) }
+      pub turning-cut : {graph′ : List ℕ} → b ≡ 0 → Ends lim w k g graph′ (Cut j)
+      unfolding sum
+      turning-cut e = record {
+        says = (sym (d .leads) ∙ build-stop (pairs t) (lim .pairs) (pairsIn w graph n) b i e (omega (arith, h, many)), omega (arith, d .counted, ap (λ (l : List Two). sum (map (skippedAt t) l)) (turned-stop (pairs t) (lim .pairs) (pairsIn w graph n) b i e)));
+      }
 
       -- its key stands in the array
       pub turning-room : w * w + i < length graph
@@ -101,6 +112,10 @@ module _ (lim : Limits) (t : Tables) (w : ℕ) where
         pub turning-pair : IsPair t (l, r)
         turning-pair = d .pairs (l, r) (rw here-is at (get-in (0, 0) (pairsIn w graph n) i (omega (arith, h, many))))
 
+        -- what is counted so far leaves room
+        pub turning-few : Valid t → (x : ℕ) → x ≡ skippedAt t (l, r) → (i + 1) * 525376 ≤ 4096 * 525376 × (j + x ≤ (i + 1) * 525376)
+        turning-few v x q = (omega (arith, h, d .holds .keys .few), omega (arith, q, d .fewOver, pair-few t v l r (turning-pair .0) (turning-pair .1)))
+
         module _ (c : ℕ) (e : b ≡ suc c) where
           after : (z : Res (List Two)) → enterAll lim (pairsIn w graph n) (joins t (l, r)) ≡ z → g ≡ (z >>= λ qs. buildFrom lim c t qs (suc i))
           after z q =
@@ -108,16 +123,27 @@ module _ (lim : Limits) (t : Tables) (w : ℕ) where
               ∙ ap (λ (p : Two). enterAll lim (pairsIn w graph n) (joins t p) >>= λ qs. buildFrom lim c t qs (suc i)) here-is
               ∙ ap (λ (u : Res (List Two)). u >>= λ qs. buildFrom lim c t qs (suc i)) q
 
-          pub turning-full : {graph′ graph″ : List ℕ} (z : G.Grown) → Grows lim w (enterAll lim (pairsIn w graph n) (joins t (l, r))) graph′ z → z ≡ K.Full → Ends lim w g graph″ Full
+          pub turning-full : {graph′ graph″ : List ℕ} (z : G.Grown) → Grows lim w (enterAll lim (pairsIn w graph n) (joins t (l, r))) graph′ z → z ≡ K.Full → Ends lim w k g graph″ Full
           turning-full z u q = record { says = after (refused 12) (rw q at (u .says)) }
 
-          pub turning-on : {m : ℕ} {graph′ : List ℕ} (v : Valid t) (z : G.Grown) → Grows lim w (enterAll lim (pairsIn w graph n) (joins t (l, r))) graph′ z → z ≡ K.To m → Turning lim t w g c graph′ m (i + 1)
+          -- those of this pair, and of the turns after it
+          over : (z : Res (List Two)) → enterAll lim (pairsIn w graph n) (joins t (l, r)) ≡ z
+              → skippedFrom lim b t (pairsIn w graph n) i ≡ skippedAt t (l, r) + sum (map (skippedAt t) (elim z [ ok qs ↦ system.turnedFrom (pairs t) (lim .pairs) c qs (suc i) | refused x ↦ [] ]))
+          unfolding sum
+          over z q =
+              ap (λ (l : List Two). sum (map (skippedAt t) l)) (turned-turn (pairs t) (lim .pairs) (pairsIn w graph n) b c i e (omega (arith, h, many)))
+              ∙ ap (λ (p : Two). skippedAt t p + sum (map (skippedAt t) (elim (enterAll lim (pairsIn w graph n) (joins t p)) [ ok qs ↦ system.turnedFrom (pairs t) (lim .pairs) c qs (suc i) | refused x ↦ [] ]))) here-is
+              ∙ ap (λ (y : Res (List Two)). skippedAt t (l, r) + sum (map (skippedAt t) (elim y [ ok qs ↦ system.turnedFrom (pairs t) (lim .pairs) c qs (suc i) | refused x ↦ [] ]))) q
+
+          pub turning-on : {m : ℕ} {graph′ : List ℕ} (v : Valid t) (s : ℕ) → s ≡ skippedAt t (l, r) → (z : G.Grown) → Grows lim w (enterAll lim (pairsIn w graph n) (joins t (l, r))) graph′ z → z ≡ K.To m → Turning lim t w k g c graph′ m (j + s) (i + 1)
           unfolding system.enterAll
-          turning-on {m} {graph′} v z u q = go (rw q at (u .says))
+          turning-on {m} {graph′} v s f z u q = go (rw q at (u .says))
             where
-              go : Going lim w (enterAll lim (pairsIn w graph n) (joins t (l, r))) [] m graph′ → Turning lim t w g c graph′ m (i + 1)
+              go : Going lim w (enterAll lim (pairsIn w graph n) (joins t (l, r))) [] m graph′ → Turning lim t w k g c graph′ m (j + s) (i + 1)
               go u = record {
                 leads = rw (add-one i) (sym (after (ok (pairsIn w graph′ m)) (sym (u .leads))));
+                counted = rw (add-one i) (omega (arith, f, d .counted, over (ok (pairsIn w graph′ m)) (sym (u .leads))));
+                fewOver = turning-few v s f .1;
                 holds = u .holds;
                 pairs = λ p j. entered-only lim t (pairsIn w graph n) (joins t (l, r)) (pairsIn w graph′ m) (sym (u .leads)) p j (IsPair t) (d .pairs) (λ y k. joins-within t v (l, r) turning-pair y k);
               }
@@ -143,7 +169,16 @@ module _ (lim : Limits) (t : Tables) (w l r b : ℕ) (graph : List ℕ) where
         go (ok qs) = refl
         go (refused n) = refl
 
-    pub first-full : {graph″ : List ℕ} → x ≡ K.Full → Ends lim w (build lim t (l, r) b) graph″ Full
+    counted-first : (z : Res (List Two)) → enterAll lim (pairsIn w graph 0) ((l, r) ∷ []) ≡ z → skippedIn lim t (l, r) b ≡ sum (map (skippedAt t) (elim z [ ok qs ↦ system.turnedFrom (pairs t) (lim .pairs) b qs 0 | refused n ↦ [] ]))
+    unfolding unkeyed system.enterAll system.turned skippedIn
+    counted-first z q = go (enter lim [] (l, r)) ∙ ap (λ (y : Res (List Two)). sum (map (skippedAt t) (elim y [ ok qs ↦ system.turnedFrom (pairs t) (lim .pairs) b qs 0 | refused n ↦ [] ]))) q
+      where
+        go : (y : Res (List Two)) → sum (map (skippedAt t) (elim y [ ok qs ↦ system.turnedFrom (pairs t) (lim .pairs) b qs 0 | refused n ↦ [] ]))
+            ≡ sum (map (skippedAt t) (elim (y >>= λ qs. enterAll lim qs []) [ ok qs ↦ system.turnedFrom (pairs t) (lim .pairs) b qs 0 | refused n ↦ [] ]))
+        go (ok qs) = refl
+        go (refused n) = refl
+
+    pub first-full : {graph″ : List ℕ} → x ≡ K.Full → Ends lim w (skippedIn lim t (l, r) b) (build lim t (l, r) b) graph″ Full
     first-full q = record { says = entered-first (refused 12) (rw q at (u .says)) }
 
     module _ (n : ℕ) (q : x ≡ K.To n) where
@@ -161,23 +196,26 @@ module _ (lim : Limits) (t : Tables) (w l r b : ℕ) (graph : List ℕ) where
       unfolding unkeyed
       first-pairs h p i = entered-only lim t (pairsIn w graph 0) ((l, r) ∷ []) (pairsIn w graph₁ n) first-is p i (IsPair t) (λ y j. absurd (in-nil j)) (λ y j. ⊎-elim (λ e. rw e h) (λ k. absurd (in-nil k)) (in-cons j))
 
-      pub first-on : {graph″ : List ℕ} (y : Built) → Ends lim w (buildFrom lim b t (pairsIn w graph₁ n) 0) graph″ y → Ends lim w (build lim t (l, r) b) graph″ y
-      first-on {graph″} y d = let e : build lim t (l, r) b ≡ buildFrom lim b t (pairsIn w graph₁ n) 0 = entered-first (ok (pairsIn w graph₁ n)) first-is in rw e d
+      pub first-on : {graph″ : List ℕ} (y : Built) → Ends lim w (skippedFrom lim b t (pairsIn w graph₁ n) 0) (buildFrom lim b t (pairsIn w graph₁ n) 0) graph″ y → Ends lim w (skippedIn lim t (l, r) b) (build lim t (l, r) b) graph″ y
+      first-on {graph″} y d =
+          let e : build lim t (l, r) b ≡ buildFrom lim b t (pairsIn w graph₁ n) 0 = entered-first (ok (pairsIn w graph₁ n)) first-is in
+          let k : skippedIn lim t (l, r) b ≡ skippedFrom lim b t (pairsIn w graph₁ n) 0 = counted-first (ok (pairsIn w graph₁ n)) first-is in
+          rw (e, k) d
 
 -- ---- the cleared or full array
-module _ (lim : Limits) (w : ℕ) {g : Res (Checked (List Two))} (graph : List ℕ) {graph′ : List ℕ} (x : Built) (d : Ends lim w g graph′ x) where
-  pub finish-all : (n : ℕ) (c : Budget) → x ≡ All n c → length graph′ ≡ length graph → Builds w g graph graph′ (All n c)
-  finish-all n c e size = go (rw e at (d .says))
+module _ (lim : Limits) (w : ℕ) {k : ℕ} {g : Res (Checked (List Two))} (graph : List ℕ) {graph′ : List ℕ} (x : Built) (d : Ends lim w k g graph′ x) where
+  pub finish-all : (n : ℕ) (c : Budget) (j : ℕ) → x ≡ All n c j → length graph′ ≡ length graph → Builds w k g graph graph′ (All n c j)
+  finish-all n c j e size = go (rw e at (d .says))
     where
-      go : Whole lim w g n c graph′ → Builds w g graph graph′ (All n c)
-      go u = rw (u .leads) (record {
-        answer = ap (λ (m : ℕ). All m c) (sym (unkeyed-length graph′ (w * w) n));
+      go : Whole lim w g n c graph′ × (j ≡ k) → Builds w k g graph graph′ (All n c j)
+      go (u, q) = rw (u .leads, q) (record {
+        answer = ap (λ (m : ℕ). All m c k) (sym (unkeyed-length graph′ (w * w) n));
         graph = u .holds .keys .laid ∙ ap (λ (m : ℕ). entered w 0 (pairsIn w graph′ n) (replicate m 0)) size;
       })
 
   module _ {graph″ : List ℕ} (f : graph″ ≡ cleared graph) where
-    pub finish-cut : x ≡ Cut → Builds w g graph graph″ Cut
-    finish-cut e = let z : g ≡ ok cutShort = rw e at (d .says) in rw z (record { answer = refl; graph = f })
+    pub finish-cut : (j : ℕ) → x ≡ Cut j → Builds w k g graph graph″ (Cut j)
+    finish-cut j e = let (z, q) : (g ≡ ok cutShort) × (j ≡ k) = rw e at (d .says) in rw (z, q) (record { answer = refl; graph = f })
 
-    pub finish-full : x ≡ Full → Builds w g graph graph″ Full
+    pub finish-full : x ≡ Full → Builds w k g graph graph″ Full
     finish-full e = let z : g ≡ refused 12 = rw e at (d .says) in rw z (record { answer = refl; graph = f })

@@ -6,8 +6,9 @@ ghost use lib.ListN.{length, replicate};
 ghost use Rattle.spec.specs.Bytes.{each};
 ghost use Rattle.spec.specs.Image.{tablesOf};
 ghost use Rattle.spec.specs.Monomial.{classes, pairOf};
-ghost use Rattle.spec.specs.Action.{structural, transports, cellPairs, joins};
-ghost use Rattle.spec.specs.Graph.{enterAll, buildFrom, build};
+ghost use Rattle.spec.specs.Action.{structural, transports, cellPairs, joins, skippedAt};
+ghost use Rattle.spec.specs.Graph.{enterAll, buildFrom, build, skippedIn};
+ghost use Rattle.skips.specs.Large as counts;
 ghost use Rattle.laws.specs.Valid.{Valid};
 ghost use Rattle.image.specs.Loaded.{Loaded};
 ghost use Rattle.query.specs.Settings.{limitsOf};
@@ -17,7 +18,7 @@ ghost use Rattle.monomial_terms.specs.Terms.{TERMS, NUMBERS, held};
 ghost use Rattle.ac_monomials.specs.Actions.{actionsAt};
 ghost use Rattle.entering.specs.Growing.{AllSmall, Graph, Grows};
 ghost use Rattle.graph.specs.Building.{Builds};
-ghost use Rattle.graph.specs.Ending.{AllPairs, Ends};
+ghost use Rattle.graph.specs.Ending.{AllPairs, Ends, skippedFrom};
 use ac_monomials::monomials;
 use ac_repr::Step;
 use ac_repr::Walk;
@@ -41,11 +42,13 @@ use monomial_terms::class_at;
 use numbers::size_u64;
 use padding::Padded;
 use query::Limits;
+use skipped::is_large;
+use skipped::skipped_at;
 
-// Built in full: how many pairs, and the budget left; cut short; refusal 12.
+// Built in full: how many pairs, and the budget left; cut short; both with the number of monomial pairs passed over; refusal 12.
 pub enum Built {
-    All(usize, Budget),
-    Cut,
+    All(usize, Budget, u64),
+    Cut(u64),
     Full,
 }
 
@@ -257,29 +260,43 @@ fn enter_joins(
     }
 }
 
+// "the number of monomial pairs passed over" of classes l and r; none where the image's counts are not large.
+fn passed_over(s: &[u8], im: Image, large: bool, l: usize, r: usize) -> u64
+    requires { ⌜ Loaded (now s) im × Valid (tablesOf (now s)) × (l < im .classes) × (r < im .classes) × (large ≡ counts.large (tablesOf (now s))) ⌝ }
+    ensures { λ x. ⌜ x ≡ skippedAt (tablesOf (now (s .entry))) (l, r) ⌝ }
+{
+    if large {
+        return skipped_at(s, im, l, r);
+    }
+    0
+}
+
 // From the n0 pairs at hand on: "one [check] a pair in building", before its turn.
 fn build_from(
     lim: Limits,
     s: &[u8],
     im: Image,
+    large: bool,
     budget: Budget,
     graph: &mut [u16],
     n0: usize,
 ) -> Built
-    requires { ⌜ Loaded (now s) im × Valid (tablesOf (now s)) × Graph (limitsOf lim) (im .classes) n0 (now graph) × AllPairs (tablesOf (now s)) (pairsIn (im .classes) (now graph) n0) ⌝ }
-    ensures { λ x. ⌜ Ends (limitsOf lim) (im .classes) (buildFrom (limitsOf lim) (budget .left) (tablesOf (now (s .entry))) (pairsIn (im .classes) (now (graph .entry)) n0) 0) (now (graph .exit)) x ⌝ }
+    requires { ⌜ Loaded (now s) im × Valid (tablesOf (now s)) × Graph (limitsOf lim) (im .classes) n0 (now graph) × AllPairs (tablesOf (now s)) (pairsIn (im .classes) (now graph) n0) × (large ≡ counts.large (tablesOf (now s))) ⌝ }
+    ensures { λ x. ⌜ Ends (limitsOf lim) (im .classes) (skippedFrom (limitsOf lim) (budget .left) (tablesOf (now (s .entry))) (pairsIn (im .classes) (now (graph .entry)) n0) 0) (buildFrom (limitsOf lim) (budget .left) (tablesOf (now (s .entry))) (pairsIn (im .classes) (now (graph .entry)) n0) 0) (now (graph .exit)) x ⌝ }
 {
     let mut n = n0;
     let mut b = budget;
+    let mut skipped: u64 = 0;
     let mut i = 0;
     while i < n {
         let check = b.spend();
         b = check.budget;
         if !check.passed {
-            return Built::Cut;
+            return Built::Cut(skipped);
         }
         let l = left_at(graph, im.classes, i);
         let r = right_at(graph, im.classes, i);
+        skipped += passed_over(s, im, large, l, r);
         match enter_joins(lim, s, im, l, r, graph, n) {
             Grown::Full => {
                 return Built::Full;
@@ -290,7 +307,7 @@ fn build_from(
         }
         i += 1;
     }
-    Built::All(n, b)
+    Built::All(n, b, skipped)
 }
 
 // From the queried pair on, in a cleared array.
@@ -304,11 +321,14 @@ fn build_first(
     graph: &mut [u16],
 ) -> Built
     requires { ⌜ Loaded (now s) im × Valid (tablesOf (now s)) × (l < im .classes) × (r < im .classes) × (im .classes * im .classes + lim .pairs ≤ length (now graph)) × (lim .pairs ≤ 4096) × (now graph ≡ replicate (length (now graph)) 0) ⌝ }
-    ensures { λ x. ⌜ Ends (limitsOf lim) (im .classes) (build (limitsOf lim) (tablesOf (now (s .entry))) (l, r) (budget .left)) (now (graph .exit)) x ⌝ }
+    ensures { λ x. ⌜ Ends (limitsOf lim) (im .classes) (skippedIn (limitsOf lim) (tablesOf (now (s .entry))) (l, r) (budget .left)) (build (limitsOf lim) (tablesOf (now (s .entry))) (l, r) (budget .left)) (now (graph .exit)) x ⌝ }
 {
     match enter_pair(lim, im.classes, graph, 0, l, r) {
         Grown::Full => Built::Full,
-        Grown::To(n) => build_from(lim, s, im, budget, graph, n),
+        Grown::To(n) => {
+            let large = is_large(s, im);
+            build_from(lim, s, im, large, budget, graph, n)
+        }
     }
 }
 
@@ -324,14 +344,14 @@ pub fn build(
     graph: &mut [u16],
 ) -> Built
     requires { ⌜ Loaded (now s) im × Valid (tablesOf (now s)) × (l < im .classes) × (r < im .classes) × (im .classes * im .classes + lim .pairs ≤ length (now graph)) × (lim .pairs ≤ 4096) ⌝ }
-    ensures { λ x. ⌜ Builds (im .classes) (build (limitsOf lim) (tablesOf (now (s .entry))) (l, r) (budget .left)) (now (graph .entry)) (now (graph .exit)) x ⌝ }
+    ensures { λ x. ⌜ Builds (im .classes) (skippedIn (limitsOf lim) (tablesOf (now (s .entry))) (l, r) (budget .left)) (build (limitsOf lim) (tablesOf (now (s .entry))) (l, r) (budget .left)) (now (graph .entry)) (now (graph .exit)) x ⌝ }
 {
     clear_u16(graph);
     match build_first(lim, s, im, l, r, budget, graph) {
-        Built::All(n, b) => Built::All(n, b),
-        Built::Cut => {
+        Built::All(n, b, k) => Built::All(n, b, k),
+        Built::Cut(k) => {
             clear_u16(graph);
-            Built::Cut
+            Built::Cut(k)
         }
         Built::Full => {
             clear_u16(graph);

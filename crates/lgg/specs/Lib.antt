@@ -9,5 +9,6 @@ pub mod TurnPlaces
 pub mod TurnRead
 pub mod Count
 pub mod Limits
+pub mod Skipped
 pub mod Pairs
 pub mod Stands

@@ -1,20 +1,15 @@
--- A line written piece by piece (its number, its head, its runs, a line feed); the whole listing.
-use mathlib.Core.Path.{_≡_, sym, ap}
+-- A line written piece by piece (its number, its head, its runs, a line feed).
+use mathlib.Core.Path.{_≡_}
 use mathlib.Core.List.{List, [], _∷_, _++_}
 use Prim.Native.Nat.{ℕ, _+_, _-_, _≤_, _<_}
-use native.Mathlib.Omega.{arith}
-use lib.ListN.{length, drop}
+use lib.ListN.{length}
 use Rattle.spec.specs.Bytes.{decimal}
-use Rattle.spec.specs.Listing.{listingOf}
-use Rattle.terms.specs.Buffers.{firstIn, headIn, valueIn, countIn}
+use Rattle.terms.specs.Buffers.{firstIn, headIn, valueIn}
 use Rattle.terms.specs.Chains.{Holds}
-use Rattle.numbering.specs.Numbering.{Listed}
 use Rattle.decimals.specs.Writing.{Wrote}
 use Rattle.decimals.specs.WriteLaws.{room-first, room-second, wrote-both}
-use Rattle.widths.specs.Lines.{headBytes, runsIn, termIn, lineIn, linesIn, firstBytes, outcomeOf, Ready}
-use Rattle.widths.specs.LineLaws.{listing-is}
+use Rattle.widths.specs.Lines.{headBytes, runsIn, termIn, lineIn, Ready}
 use Rattle.widths.specs.WidthLaws.{line-pieces}
-use Rattle.widths.specs.declared.Report.{Report}
 
 module _ (terms runs w : List ℕ) (n k : ℕ) (H : Holds terms runs) (Y : Ready terms runs w n) (b : k < n) {t : ℕ} (e : t ≡ termIn w k) {from to : ℕ} (f : from ≡ firstIn terms t) (g : to ≡ firstIn terms (t + 1)) {h v : ℕ} (p : h ≡ headIn terms t) (q : v ≡ valueIn terms t) where
   abbrev R : List ℕ
@@ -56,21 +51,3 @@ unfolding lineIn
 number-room terms runs w out at k h =
     let t = termIn w k in
     room-first (decimal k) (headBytes (headIn terms t) (valueIn terms t) ++ (runsIn runs w (firstIn terms t) (firstIn terms (t + 1) - firstIn terms t) ++ (10 ∷ []))) out at h
-
--- ---- the whole
-module _ (terms runs w : List ℕ) (root n : ℕ) (H : Holds terms runs) (b : root < countIn terms) (L : Listed terms runs w root n) (f : Report) (out : List ℕ) (h : length (listingOf (outcomeOf f terms runs root)) ≤ length out) where
-  enough : 0 + length (firstBytes f ++ linesIn terms runs w 0 n) ≤ length out
-  enough = omega (arith, ap length (listing-is terms runs w root n H b L f))
-
-  pub first-room : 0 + length (firstBytes f) ≤ length out
-  first-room = room-first (firstBytes f) (linesIn terms runs w 0 n) out 0 enough
-
-  module _ {o₁ : List ℕ} {a₁ : ℕ} (W₁ : Wrote (firstBytes f) out 0 o₁ a₁) where
-    pub lines-room : a₁ + length (linesIn terms runs w 0 n) ≤ length o₁
-    lines-room = room-second (firstBytes f) (linesIn terms runs w 0 n) out 0 enough W₁
-
-    pub listing-wrote : {o₂ : List ℕ} {a₂ : ℕ} → Wrote (linesIn terms runs w 0 n) o₁ a₁ o₂ a₂ → o₂ ≡ listingOf (outcomeOf f terms runs root) ++ drop (length (listingOf (outcomeOf f terms runs root))) out
-    listing-wrote W₂ =
-        let e = sym (listing-is terms runs w root n H b L f) in
-        let z : 0 + length (listingOf (outcomeOf f terms runs root)) ≡ length (listingOf (outcomeOf f terms runs root)) = omega arith in
-        rw (e, z) at (wrote-both (firstBytes f) (linesIn terms runs w 0 n) out 0 enough W₁ W₂ .bytes)

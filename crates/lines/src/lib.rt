@@ -2,17 +2,11 @@
 use decimals::decimal;
 use decimals::labelled;
 use decimals::text;
-use widths::Report;
-ghost use mathlib.Core.Path.{_≡_};
-ghost use mathlib.Core.List.{_++_};
 ghost use Prim.Native.Nat.{_+_, _*_, _-_, _%_, _≤_, _<_};
-ghost use lib.ListN.{length, getD, drop};
-ghost use Rattle.spec.specs.Listing.{listingOf};
-ghost use Rattle.terms.specs.Buffers.{countIn};
+ghost use lib.ListN.{length, getD};
 ghost use Rattle.terms.specs.Chains.{Holds};
-ghost use Rattle.numbering.specs.Numbering.{Listed};
 ghost use Rattle.decimals.specs.Writing.{Wrote};
-ghost use Rattle.widths.specs.Lines.{runIn, runsIn, headBytes, lineIn, linesIn, statusBytes, firstBytes, outcomeOf, Named, Ready};
+ghost use Rattle.widths.specs.Lines.{runIn, runsIn, headBytes, lineIn, linesIn, Named, Ready};
 
 fn write_run(out: &mut [u8], at: usize, marks: &[u16], r: u64) -> usize
     requires { ⌜ (0 < getD (now marks) (2 * (r % 16384)) 0) × (at + length (runIn (now marks) r) ≤ length (now out)) ⌝ }
@@ -77,7 +71,8 @@ fn write_line(
     text(out, c, b"\n")
 }
 
-fn write_lines(
+// The n lines behind the first line, from place at0 on.
+pub fn write_lines(
     out: &mut [u8],
     at0: usize,
     terms: &[u32],
@@ -95,43 +90,4 @@ fn write_lines(
         k += 1;
     }
     at
-}
-
-fn write_status(out: &mut [u8], complete: bool) -> usize
-    requires { ⌜ 0 + length (statusBytes complete) ≤ length (now out) ⌝ }
-    ensures { λ r. ⌜ Wrote (statusBytes complete) (now (out .entry)) 0 (now (out .exit)) r ⌝ }
-{
-    if complete {
-        return text(out, 0, b"complete");
-    }
-    text(out, 0, b"partial")
-}
-
-fn write_first(out: &mut [u8], f: Report) -> usize
-    requires { ⌜ 0 + length (firstBytes f) ≤ length (now out) ⌝ }
-    ensures { λ r. ⌜ Wrote (firstBytes f) (now (out .entry)) 0 (now (out .exit)) r ⌝ }
-{
-    let a = write_status(out, f.complete);
-    let b = labelled(out, a, b" pairs ", f.pairs);
-    let c = labelled(out, b, b" rounds ", f.rounds);
-    let d = labelled(out, c, b" size ", f.size);
-    let e = labelled(out, d, b" mass ", f.mass);
-    text(out, e, b"\n")
-}
-
-// The listing at the output's front, the rest of the output as it was; n is the number of its subterms.
-pub fn write(
-    out: &mut [u8],
-    terms: &[u32],
-    runs: &[u64],
-    marks: &[u16],
-    root: usize,
-    n: usize,
-    f: Report,
-)
-    requires { ⌜ Holds (now terms) (now runs) × (root < countIn (now terms)) × Listed (now terms) (now runs) (now marks) root n × (length (listingOf (outcomeOf f (now terms) (now runs) root)) ≤ length (now out)) ⌝ }
-    ensures { λ _. ⌜ now (out .exit) ≡ listingOf (outcomeOf f (now (terms .entry)) (now (runs .entry)) root) ++ drop (length (listingOf (outcomeOf f (now (terms .entry)) (now (runs .entry)) root))) (now (out .entry)) ⌝ }
-{
-    let at = write_first(out, f);
-    write_lines(out, at, terms, runs, marks, n);
 }

@@ -1,6 +1,6 @@
-// The listing of a run: numbered, measured, then written or refused.
-use widths::Report;
-ghost use mathlib.Core.Path.{_≡_};
+// The listing of a run: its terms numbered, its first line written apart, its lines measured; then written or refused.
+use first_line::LONGEST;
+use first_line::Report;
 ghost use Prim.Native.Nat.{_*_, _≤_, _<_};
 ghost use lib.ListN.{length};
 ghost use Rattle.terms.specs.Buffers.{countIn};
@@ -26,10 +26,13 @@ pub fn list(
     ensures { λ r. ⌜ Lists (now (terms .entry)) (now (runs .entry)) root f (now (marks .entry)) (now (out .entry)) (now (marks .exit)) (now (out .exit)) r ⌝ }
 {
     let n = numbering::number_all(terms, runs, marks, root);
-    let size = widths::measure(terms, runs, marks, root, n, f);
+    let mut line = [0u8; LONGEST];
+    let w = first_line::write_first(&mut line, f);
+    let size = w + widths::lines_width(terms, runs, marks, n);
     if size > out.len() {
         return Written::Full;
     }
-    lines::write(out, terms, runs, marks, root, n, f);
+    let at = decimals::text(out, 0, &line[0..w]);
+    lines::write_lines(out, at, terms, runs, marks, n);
     Written::Bytes(size)
 }

@@ -7,7 +7,7 @@ use lib.ListN.{length, replicate}
 use borrow.Author.Tests.{leb-true}
 use Rattle.spec.specs.Bytes.{Two, Limits, Res, ok, refused, Checked, passed, cutShort}
 use Rattle.spec.specs.Image.{Tables, tablesOf}
-use Rattle.spec.specs.Graph.{build}
+use Rattle.spec.specs.Graph.{build, skippedIn}
 use Rattle.spec.specs.Pool.{Interned, startingTerm}
 use Rattle.laws.specs.Valid.{Valid}
 use Rattle.laws.specs.Accepted as A
@@ -48,7 +48,7 @@ module _ (lim : Limits) (few : lim .pairs ≤ 4096) (t : Tables) (v : Valid t) (
   begun-counts : (b : Begun) (terms runs : List ℕ) → Ready lim t p budget w b graph terms runs → CountsAll graph (w * w) p table (pairsBegun b)
   begun-counts b terms runs R = go (startingTerm lim t [] p) refl (build lim t p budget) refl (R .answer)
     where
-      go : (x : Res Interned) → startingTerm lim t [] p ≡ x → (g : Res (Checked (List Two))) → build lim t p budget ≡ g → b ≡ begunOf x g → CountsAll graph (w * w) p table (pairsBegun b)
+      go : (x : Res Interned) → startingTerm lim t [] p ≡ x → (g : Res (Checked (List Two))) → build lim t p budget ≡ g → b ≡ begunOf (skippedIn lim t p budget) x g → CountsAll graph (w * w) p table (pairsBegun b)
       go (refused k) q g y z = rw z (counts-none graph (w * w) table p)
       go (ok a) q (refused k) y z = rw z (counts-none graph (w * w) table p)
       go (ok a) q (ok cutShort) y z = rw z (counts-none graph (w * w) table p)
@@ -65,5 +65,5 @@ table-counts lim few image q (Go im b) graph terms runs table wide (G, R) =
 -- the run over as many pairs as are counted
 pub counted-same : (b : Begun) (n : ℕ) → n ≡ pairsBegun b → countedAs b n ≡ b
 counted-same (B.Stopped k) n e = refl
-counted-same (B.Cut root) n e = refl
-counted-same (B.All root m left) n e = ap (λ (j : ℕ). B.All root j left) e
+counted-same (B.Cut root k) n e = refl
+counted-same (B.All root m left k) n e = ap (λ (j : ℕ). B.All root j left k) e

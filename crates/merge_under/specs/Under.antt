@@ -6,6 +6,7 @@ use lib.Dec.{leb}
 use lib.ListN.{length}
 use Rattle.spec.specs.Bytes.{Limits, Res, ok, _>>=_, rule}
 use Rattle.spec.specs.System as system
+use Rattle.spec.specs.Graph.{skippedIn}
 use Rattle.spec.specs.Run.{runOf}
 use Rattle.spec.specs.Listing.{listingOf}
 use Rattle.spec.specs.Merge.{outputAfter}
@@ -19,11 +20,11 @@ use Rattle.contract.specs.Answers.{answerOf, Carries}
 
 -- `mergeUnder` past 1 (crate spec), but refused 12 too where the graph's array of m numbers has no room for the classes of the image
 unfoldable pub mergeAt : Limits → ℕ → List ℕ → Query → ℕ → Res (List ℕ)
-unfolding acceptedOf listingOf system.runOf
+unfolding acceptedOf listingOf system.runOf skippedIn
 mergeAt lim m image q room = do
   t ← acceptedOf lim m image q
   o ← runOf lim t (askedOf q) (q .budget)
-  let l = listingOf o
+  let l = listingOf (skippedIn lim t (askedOf q) (q .budget)) o
   _ ← rule 14 (leb (length l) room)
   ok l
 

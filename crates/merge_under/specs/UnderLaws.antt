@@ -11,6 +11,7 @@ use borrow.Author.Tests.{le-leb, leb-true}
 use Rattle.spec.specs.Bytes.{both, workAfter, Limits, Res, ok, refused, _>>=_, rule}
 use Rattle.spec.specs.Image.{Tables, imageOf, lowestDoubled, tablesOf}
 use Rattle.spec.specs.Pairs.{pairs, making}
+use Rattle.spec.specs.Graph.{skippedIn}
 use Rattle.spec.specs.Run.{documentLimits, Outcome, runOf}
 use Rattle.spec.specs.Listing.{listingOf}
 use Rattle.spec.specs.Merge.{mergeUnder, mergeOf, outputAfter}
@@ -77,7 +78,7 @@ module _ (lim : Limits) (m : ℕ) (s : List ℕ) (q : Query) where
   unfolding mergeAt
   at-refused k e room = rw e refl
 
-  at-goes : (im : Image) → Goes lim m s q im → (room : ℕ) → mergeAt lim m s q room ≡ X.listedOf (runOf lim (tablesOf s) (askedOf q) (q .budget)) room
+  at-goes : (im : Image) → Goes lim m s q im → (room : ℕ) → mergeAt lim m s q room ≡ X.listedOf (skippedIn lim (tablesOf s) (askedOf q) (q .budget)) (runOf lim (tablesOf s) (askedOf q) (q .budget)) room
   unfolding mergeAt X.listedOf
   at-goes im G room = rw (goes-accepted lim m s q im G) refl
 
@@ -90,29 +91,32 @@ module _ (lim : Limits) (m : ℕ) (s : List ℕ) (q : Query) where
   merges-doubled c out e h = let r = at-refused 10 e (length out) in record { answer = sym r; output = sym (ap (outputAfter out) r); carries = h }
 
   -- the run's refusals are 12 and 13, and 14 is the listing's
-  listed-not-ten : (room k : ℕ) → X.listedOf (runOf lim (tablesOf s) (askedOf q) (q .budget)) room ≡ refused k → k ≢ 10
+  listed-not-ten : (room k : ℕ) → X.listedOf (skippedIn lim (tablesOf s) (askedOf q) (q .budget)) (runOf lim (tablesOf s) (askedOf q) (q .budget)) room ≡ refused k → k ≢ 10
   unfolding X.listedOf
   listed-not-ten room k e = go (runOf lim (tablesOf s) (askedOf q) (q .budget)) refl e
     where
-      go : (r : Res Outcome) → runOf lim (tablesOf s) (askedOf q) (q .budget) ≡ r → X.listedOf r room ≡ refused k → k ≢ 10
+      over : ℕ
+      over = skippedIn lim (tablesOf s) (askedOf q) (q .budget)
+
+      go : (r : Res Outcome) → runOf lim (tablesOf s) (askedOf q) (q .budget) ≡ r → X.listedOf over r room ≡ refused k → k ≢ 10
       go (refused n) y z =
           let i : n ≡ k = refused-inj z in
           elim (run-refused (pairs (tablesOf s)) (making lim (tablesOf s)) (refuses13 lim (tablesOf s)) (askedOf q) (q .budget) n y) [ inl x ↦ let v = x .0 in λ w. absurd (omega arith) | inr x ↦ λ w. absurd (omega arith) ]
-      go (ok o) y z = by (leb (length (listingOf o)) room) refl z
+      go (ok o) y z = by (leb (length (listingOf over o)) room) refl z
         where
-          by : (x : Bool) → leb (length (listingOf o)) room ≡ x → X.listedOf (ok o) room ≡ refused k → k ≢ 10
-          by true f y = let u : X.listedOf (ok o) room ≡ ok (listingOf o) = rw f refl in absurd (refused-ok (sym y ∙ u))
-          by false f y = let u : X.listedOf (ok o) room ≡ refused 14 = rw f refl in let v : 14 ≡ k = refused-inj (sym u ∙ y) in λ w. absurd (omega arith)
+          by : (x : Bool) → leb (length (listingOf over o)) room ≡ x → X.listedOf over (ok o) room ≡ refused k → k ≢ 10
+          by true f y = let u : X.listedOf over (ok o) room ≡ ok (listingOf over o) = rw f refl in absurd (refused-ok (sym y ∙ u))
+          by false f y = let u : X.listedOf over (ok o) room ≡ refused 14 = rw f refl in let v : 14 ≡ k = refused-inj (sym u ∙ y) in λ w. absurd (omega arith)
 
   -- the engine's answer is the call's
-  pub merges-run : (im : Image) → Goes lim m s q im → (out out′ : List ℕ) (a : O.Answer) → X.Answers (runOf lim (tablesOf s) (askedOf q) (q .budget)) out out′ a → length out′ ≡ length out → MergesUnder lim m s q out out′ (answerAs a)
+  pub merges-run : (im : Image) → Goes lim m s q im → (out out′ : List ℕ) (a : O.Answer) → X.Answers (skippedIn lim (tablesOf s) (askedOf q) (q .budget)) (runOf lim (tablesOf s) (askedOf q) (q .budget)) out out′ a → length out′ ≡ length out → MergesUnder lim m s q out out′ (answerAs a)
   merges-run im G out out′ a F k = let e = at-goes im G (length out) in record { answer = same a ∙ F .answer ∙ sym e; output = F .output ∙ ap (outputAfter out) (sym e); carries = says a (F .answer) (F .fits) }
     where
       same : (x : O.Answer) → answerOf out′ (answerAs x) ≡ X.answerOf out′ x
       same (O′.Listing n) = refl
       same (O′.Refused j) = refl
 
-      says : (x : O.Answer) → X.answerOf out′ x ≡ X.listedOf (runOf lim (tablesOf s) (askedOf q) (q .budget)) (length out) → ((n : ℕ) → x ≡ O′.Listing n → n ≤ length out) → Carries s out′ (answerAs x)
+      says : (x : O.Answer) → X.answerOf out′ x ≡ X.listedOf (skippedIn lim (tablesOf s) (askedOf q) (q .budget)) (runOf lim (tablesOf s) (askedOf q) (q .budget)) (length out) → ((n : ℕ) → x ≡ O′.Listing n → n ≤ length out) → Carries s out′ (answerAs x)
       says (O′.Listing n) y f = rw k (f n refl)
       says (O′.Refused j) y f = listed-not-ten (length out) j (sym y)
 
@@ -141,7 +145,7 @@ work-cleared a b c d e f a′ e′ f′ u v w x y z p₁ p₅ p₆ k = record {
 module _ (s : List ℕ) (q : Query) (room : ℕ) where
   -- what stands past 11
   rest : Limits → Tables → Res (List ℕ)
-  rest lim t = X.listedOf (runOf lim t (askedOf q) (q .budget)) room
+  rest lim t = X.listedOf (skippedIn lim t (askedOf q) (q .budget)) (runOf lim t (askedOf q) (q .budget)) room
 
   eleven : Tables → Res Unit
   eleven t = rule 11 (both (ltb (q .left) (length (t .classes))) (ltb (q .right) (length (t .classes))))

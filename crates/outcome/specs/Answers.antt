@@ -30,21 +30,21 @@ abbrev pub Listable : Ran → List ℕ → List ℕ → List ℕ → Type 0
 Listable (R.Stopped k) marks terms runs = Unit
 Listable (R.Done o) marks terms runs = Holds terms runs × (o .root < countIn terms) × (2 * countIn terms ≤ length marks)
 
--- "14: the listing exceeds the output buffer": the tail of `mergeOf`
-unfoldable pub listedOf : Res run.Outcome → ℕ → Res (List ℕ)
+-- "14: the listing exceeds the output buffer": the tail of `mergeOf`; k is the number of monomial pairs passed over
+unfoldable pub listedOf : ℕ → Res run.Outcome → ℕ → Res (List ℕ)
 unfolding listingOf
-listedOf m room = do
+listedOf k m room = do
   o ← m
-  _ ← rule 14 (leb (length (listingOf o)) room)
-  ok (listingOf o)
+  _ ← rule 14 (leb (length (listingOf k o)) room)
+  ok (listingOf k o)
 
 -- the answer: the listing's length, or the refusal's number
 abbrev pub answerOf : List ℕ → Answer → Res (List ℕ)
 answerOf out (A.Listing n) = ok (take n out)
 answerOf out (A.Refused k) = refused k
 
--- the answer and the output for a run that came to m
-pub record Answers (m : Res run.Outcome) (out out′ : List ℕ) (r : Answer) : Type 0 where
-  pub answer : answerOf out′ r ≡ listedOf m (length out)
-  pub output : out′ ≡ outputAfter out (listedOf m (length out))
+-- the answer and the output for a run that came to m and passed over k monomial pairs
+pub record Answers (k : ℕ) (m : Res run.Outcome) (out out′ : List ℕ) (r : Answer) : Type 0 where
+  pub answer : answerOf out′ r ≡ listedOf k m (length out)
+  pub output : out′ ≡ outputAfter out (listedOf k m (length out))
   pub fits : (n : ℕ) → r ≡ A.Listing n → n ≤ length out

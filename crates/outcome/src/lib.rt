@@ -1,8 +1,8 @@
 // The end of a run: what it came to, its listing or its refusal, and the work buffers cleared.
+use first_line::Report;
 use listing::Written;
 use numbers::long_size;
 use numbers::long_u32;
-use widths::Report;
 ghost use Prim.Native.Nat.{_*_, _≤_, _<_};
 ghost use lib.ListN.{length};
 ghost use Rattle.spec.specs.Bytes.{ok};
@@ -34,16 +34,17 @@ pub enum Answer {
     Refused(u8),
 }
 
-// the listing of an outcome whose pool the buffers hold; marks has two numbers a term
+// the listing of an outcome whose pool the buffers hold, with the number of monomial pairs passed over; marks has two numbers a term
 fn list_outcome(
     o: Outcome,
+    skipped: u64,
     terms: &[u32],
     runs: &[u64],
     marks: &mut [u16],
     out: &mut [u8],
 ) -> Answer
     requires { ⌜ Holds (now terms) (now runs) × (o .root < countIn (now terms)) × (2 * countIn (now terms) ≤ length (now marks)) ⌝ }
-    ensures { λ r. ⌜ Answers (ok (outcomeIn o (now (terms .entry)) (now (runs .entry)))) (now (out .entry)) (now (out .exit)) r ⌝ }
+    ensures { λ r. ⌜ Answers skipped (ok (outcomeIn o (now (terms .entry)) (now (runs .entry)))) (now (out .entry)) (now (out .exit)) r ⌝ }
 {
     let f = Report {
         complete: o.complete,
@@ -51,6 +52,7 @@ fn list_outcome(
         rounds: long_u32(o.rounds),
         size: long_u32(o.size),
         mass: long_u32(o.mass),
+        skipped: skipped,
     };
     let root = o.root;
     let w = listing::list(terms, runs, marks, out, root, f);
@@ -65,16 +67,23 @@ fn list_outcome(
 }
 
 // the listing or the refusal of a run
-fn list_ran(x: Ran, terms: &[u32], runs: &[u64], marks: &mut [u16], out: &mut [u8]) -> Answer
+fn list_ran(
+    x: Ran,
+    skipped: u64,
+    terms: &[u32],
+    runs: &[u64],
+    marks: &mut [u16],
+    out: &mut [u8],
+) -> Answer
     requires { ⌜ Listable x (now marks) (now terms) (now runs) ⌝ }
-    ensures { λ r. ⌜ Answers (ranIn x (now (terms .entry)) (now (runs .entry))) (now (out .entry)) (now (out .exit)) r ⌝ }
+    ensures { λ r. ⌜ Answers skipped (ranIn x (now (terms .entry)) (now (runs .entry))) (now (out .entry)) (now (out .exit)) r ⌝ }
 {
     match x {
         Ran::Stopped(k) => {
             return Answer::Refused(k);
         }
         Ran::Done(o) => {
-            return list_outcome(o, terms, runs, marks, out);
+            return list_outcome(o, skipped, terms, runs, marks, out);
         }
     }
 }
@@ -82,6 +91,7 @@ fn list_ran(x: Ran, terms: &[u32], runs: &[u64], marks: &mut [u16], out: &mut [u
 // The listing of what a run came to, or its refusal; then every work buffer is cleared. `graph` serves as the listing's marks.
 pub fn conclude(
     x: Ran,
+    skipped: u64,
     graph: &mut [u16],
     pairs: &mut [u32],
     work: &mut [u64],
@@ -91,10 +101,10 @@ pub fn conclude(
     out: &mut [u8],
 ) -> Answer
     requires { ⌜ Listable x (now graph) (now terms) (now runs) ⌝ }
-    ensures { λ r. ⌜ Answers (ranIn x (now (terms .entry)) (now (runs .entry))) (now (out .entry)) (now (out .exit)) r
+    ensures { λ r. ⌜ Answers skipped (ranIn x (now (terms .entry)) (now (runs .entry))) (now (out .entry)) (now (out .exit)) r
         × Cleared (now (graph .entry)) (now (pairs .entry)) (now (work .entry)) (now (flow .entry)) (now (terms .entry)) (now (runs .entry)) (now (graph .exit)) (now (pairs .exit)) (now (work .exit)) (now (flow .exit)) (now (terms .exit)) (now (runs .exit)) ⌝ }
 {
-    let r = list_ran(x, terms, runs, graph, out);
+    let r = list_ran(x, skipped, terms, runs, graph, out);
     clear_all(graph, pairs, work, flow, terms, runs);
     r
 }

@@ -7,7 +7,7 @@ use native.Mathlib.Omega.{arith}
 use borrow.Author.Tests.{lt-ltb, le-ltb, eq-eqb, ne-eqb, eqb-true}
 use lib.Dec.{ltb, eqb}
 use lib.ListN.{length}
-use Rattle.spec.specs.Bytes.{pick, both, sum, sameTwos}
+use Rattle.spec.specs.Bytes.{pick, sum, sameTwos}
 use Rattle.spec.specs.Image.{NO-IDENTITY}
 use Rattle.spec.specs.Monomial.{Monomial, insertAdd, total, itself, bothItself}
 use Rattle.laws.specs.Tests.{both-true}
@@ -65,10 +65,10 @@ module _ (id n m a b : ℕ) (s u s′ u′ : List ℕ) (k l : ℕ) (p : Paddable
   cols : Holds (levelled id (held m u) (held n s)) u u′ l
   cols = rw (← levelled-is id b a (held m u) (held n s) f e) g
 
-  pub few-rows : k ≤ 65
+  few-rows : k ≤ 65
   few-rows = omega (arith, rows .len, levelled-few id (held n s) (held m u), held-length n s (p .numbersLeft) (omega (arith, p .fewLeft)), p .fewLeft)
 
-  pub few-cols : l ≤ 65
+  few-cols : l ≤ 65
   few-cols = omega (arith, cols .len, levelled-few id (held m u) (held n s), held-length m u (p .numbersRight) (omega (arith, p .fewRight)), p .fewRight)
 
   narrow-are : (x : Bool) → x ≡ bothNarrow (held k s′) (held l u′) → x ≡ bothNarrow (levelled id (held n s) (held m u)) (levelled id (held m u) (held n s))

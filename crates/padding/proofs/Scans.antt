@@ -4,12 +4,12 @@ use mathlib.Core.Bool.{Bool, true, false}
 use mathlib.Core.List.{List, [], _∷_}
 use Prim.Native.Nat.{ℕ, suc, _+_, _≤_, _<_}
 use native.Mathlib.Omega.{arith}
-use borrow.Author.Tests.{le-leb, lt-leb, eq-eqb, ne-eqb}
-use lib.Dec.{leb, eqb}
+use borrow.Author.Tests.{eq-eqb, ne-eqb}
+use lib.Dec.{eqb}
 use lib.ListN.{length, drop, getD, drop-of-length-le}
 use lib.Seq.{drop-cons, getD-take}
-use Rattle.spec.specs.Bytes.{Two, both, all, sum, sameTwo, sameTwos}
-use Rattle.spec.specs.Monomial.{Monomial, total, narrow, itself, COUNT}
+use Rattle.spec.specs.Bytes.{Two, both, sum, sameTwo, sameTwos}
+use Rattle.spec.specs.Monomial.{Monomial, total, itself}
 use Rattle.monomial_terms.specs.Terms.{terms, held}
 use Rattle.monomial_terms.specs.TermLaws.{held-length}
 
@@ -22,18 +22,6 @@ module _ (s : List ℕ) (n i y : ℕ) (l : length s ≡ 130) (b : n ≤ 65) (h :
   unfolding total sum
   total-more = rw (rest, e) refl
 
-  pub narrow-more : y ≤ COUNT → narrow (drop i (held n s)) ≡ narrow (drop (suc i) (held n s))
-  unfolding all
-  narrow-more f =
-      let z : leb (getD (terms s) i (0, 0) .1) COUNT ≡ true = le-leb _ _ (rw e at f) in
-      rw (rest, all, z) refl
-
-  pub narrow-stop : COUNT < y → narrow (drop i (held n s)) ≡ false
-  unfolding all
-  narrow-stop f =
-      let z : leb (getD (terms s) i (0, 0) .1) COUNT ≡ false = lt-leb _ _ (rw e at f) in
-      rw (rest, all, z) refl
-
 module _ (s : List ℕ) (n i : ℕ) (l : length s ≡ 130) (b : n ≤ 65) (h : n ≤ i) where
   none : drop i (held n s) ≡ []
   none = drop-of-length-le (held n s) {i = i} (rw (held-length n s l b) h)
@@ -41,10 +29,6 @@ module _ (s : List ℕ) (n i : ℕ) (l : length s ≡ 130) (b : n ≤ 65) (h : n
   pub total-end : total (drop i (held n s)) ≡ 0
   unfolding total sum
   total-end = rw none refl
-
-  pub narrow-end : narrow (drop i (held n s)) ≡ true
-  unfolding all
-  narrow-end = rw none refl
 
 -- ---- a class itself once
 itself-long : (t u : Two) (m : Monomial) (c : ℕ) → sameTwos (t ∷ u ∷ m) (itself c) ≡ false

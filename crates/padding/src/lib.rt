@@ -11,9 +11,11 @@ use child_list::add_class;
 use image::Image;
 use monomial_terms::class_at;
 use monomial_terms::count_at;
+use narrowing::Narrowed;
+use narrowing::narrow;
 use numbers::long_size;
 
-fn total(mono: &[u64], n: usize) -> u64
+pub fn total(mono: &[u64], n: usize) -> u64
     requires { ⌜ (length (now mono) ≡ NUMBERS) × (n ≤ TERMS) × (total (held n (now mono)) < 2 ^ 64) ⌝ }
     ensures { λ r. ⌜ r ≡ total (held n (now (mono .entry))) ⌝ }
 {
@@ -27,26 +29,20 @@ fn total(mono: &[u64], n: usize) -> u64
 }
 
 // No count is above 4,294,967,295.
-fn narrow(mono: &[u64], n: usize) -> bool
-    requires { ⌜ (length (now mono) ≡ NUMBERS) × (n ≤ TERMS) ⌝ }
+fn is_narrow(mono: &[u64], n: usize) -> bool
     ensures { λ r. ⌜ r ≡ narrow (held n (now (mono .entry))) ⌝ }
 {
-    let mut i = 0;
-    while i < n {
-        if count_at(mono, i) > id::multiplicity::MAX {
-            return false;
-        }
-        i += 1;
+    match narrow(mono, n) {
+        Narrowed::Fits => true,
+        Narrowed::FailsAt(_) => false,
     }
-    true
 }
 
 fn both_narrow(left: &[u64], n: usize, right: &[u64], m: usize) -> bool
-    requires { ⌜ (length (now left) ≡ NUMBERS) × (n ≤ TERMS) × (length (now right) ≡ NUMBERS) × (m ≤ TERMS) ⌝ }
     ensures { λ r. ⌜ r ≡ bothNarrow (held n (now (left .entry))) (held m (now (right .entry))) ⌝ }
 {
-    if narrow(left, n) {
-        return narrow(right, m);
+    if is_narrow(left, n) {
+        return is_narrow(right, m);
     }
     false
 }
@@ -85,7 +81,7 @@ fn unmatched(id: usize, a: u64, b: u64) -> bool
 }
 
 // The monomial of n terms, whose total is a, with the identities that it lacks where the other's total is b.
-fn level(mono: &mut [u64], n: usize, id: usize, a: u64, b: u64) -> usize
+pub fn level(mono: &mut [u64], n: usize, id: usize, a: u64, b: u64) -> usize
     requires { ⌜ (length (now mono) ≡ NUMBERS) × (n ≤ 64) × (a ≡ total (held n (now mono))) × (b ≤ TOTAL) ⌝ }
     ensures { λ r. ⌜ Holds (levelBy id (held n (now (mono .entry))) a b) (now (mono .entry)) (now (mono .exit)) r ⌝ }
 {

@@ -10,7 +10,7 @@ use lib.ListN.{length}
 use Rattle.spec.specs.Bytes.{Two, any, each, place}
 use Rattle.spec.specs.Pool.{Pool, Node, nodeAt, joinRuns}
 use Rattle.spec.specs.Run.{Outcome}
-use Rattle.spec.specs.Listing.{visitRuns, visitTerm, subterms, firstLine, runField, headFields, termLine, listingOf}
+use Rattle.spec.specs.Listing.{visitRuns, visitTerm, subterms, reported, firstLine, runField, headFields, termLine, listingOf}
 use Rattle.spec.specs.Meaning.{In, here, there, treeAt}
 use Rattle.laws.specs.Lists.{map-in}
 use Rattle.laws.specs.BagCount.{written, in-written, join-written}
@@ -146,14 +146,14 @@ module _ (p q : Pool) (v : PoolValid p) (w : PoolValid q) where
   lines-same l m i x y (also {a = a} {b = b} {l = x′} {m = y′} S j) = ap₂ (λ (c d : List ℕ). c ++ d) (line-same l m i a b S) (lines-same l m i x′ y′ j)
 
 -- Two outcomes with the same first line and the same tree at the root have the same listing.
-pub listing-anywhere : (o u : Outcome) → PoolValid (o .pool) → PoolValid (u .pool) → firstLine o ≡ firstLine u → Same (o .pool) (u .pool) (o .root) (u .root) → listingOf o ≡ listingOf u
+pub listing-anywhere : (k : ℕ) (o u : Outcome) → PoolValid (o .pool) → PoolValid (u .pool) → firstLine k o ≡ firstLine k u → Same (o .pool) (u .pool) (o .root) (u .root) → listingOf k o ≡ listingOf k u
 unfolding listingOf
-listing-anywhere o u v w e S =
+listing-anywhere k o u v w e S =
     let i = visit-same (o .pool) (u .pool) v w (suc (o .root)) (suc (u .root)) (o .root) (u .root) [] [] (omega arith) (omega arith) S nothing in
     ap₂ (λ (c d : List ℕ). c ++ d) e (lines-same (o .pool) (u .pool) v w (subterms (o .pool) (o .root)) (subterms (u .pool) (u .root)) i (subterms (o .pool) (o .root)) (subterms (u .pool) (u .root)) i)
 
 -- A larger pool gives the same listing.
-pub listing-larger : (o : Outcome) (q : Pool) → PoolValid (o .pool) → PoolValid q → Extends (o .pool) q → o .root < length (o .pool)
-    → listingOf o ≡ listingOf (record { complete = o .complete; nodes = o .nodes; rounds = o .rounds; quality = o .quality; pool = q; root = o .root })
-unfolding firstLine
-listing-larger o q v w g h = listing-anywhere o (record { complete = o .complete; nodes = o .nodes; rounds = o .rounds; quality = o .quality; pool = q; root = o .root }) v w refl (same-extends g (o .root) h)
+pub listing-larger : (k : ℕ) (o : Outcome) (q : Pool) → PoolValid (o .pool) → PoolValid q → Extends (o .pool) q → o .root < length (o .pool)
+    → listingOf k o ≡ listingOf k (record { complete = o .complete; nodes = o .nodes; rounds = o .rounds; quality = o .quality; pool = q; root = o .root })
+unfolding firstLine reported
+listing-larger k o q v w g h = listing-anywhere k o (record { complete = o .complete; nodes = o .nodes; rounds = o .rounds; quality = o .quality; pool = q; root = o .root }) v w refl (same-extends g (o .root) h)

@@ -8,8 +8,8 @@ use Rattle.prepared.specs.declared.Prepared.the-variants.{Refused, Doubl
 -- how many pairs the graph has where it is built in full
 abbrev pub pairsBegun : Begun → ℕ
 pairsBegun (B.Stopped k) = 0
-pairsBegun (B.Cut root) = 0
-pairsBegun (B.All root n left) = n
+pairsBegun (B.Cut root k) = 0
+pairsBegun (B.All root n left k) = n
 
 abbrev pub pairsOf : Prepared → ℕ
 pairsOf (Refused k) = 0
@@ -25,5 +25,11 @@ keysOf (Go im b) = im .classes * im .classes
 -- what has begun, with n pairs
 abbrev pub countedAs : Begun → ℕ → Begun
 countedAs (B.Stopped k) n = B.Stopped k
-countedAs (B.Cut root) n = B.Cut root
-countedAs (B.All root m left) n = B.All root n left
+countedAs (B.Cut root k) n = B.Cut root k
+countedAs (B.All root m left k) n = B.All root n left k
+
+-- (02, Paper 7) how many monomial pairs were passed over in building
+abbrev pub skippedOf : Begun → ℕ
+skippedOf (B.Stopped k) = 0
+skippedOf (B.Cut root k) = k
+skippedOf (B.All root n left k) = k

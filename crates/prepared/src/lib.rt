@@ -1,16 +1,16 @@
 // What a call has come to before the pair table, and how many pairs its graph has.
 ghost use mathlib.Core.Path.{_≡_};
 ghost use Prim.Native.Nat.{_≤_};
-ghost use Rattle.prepared.specs.Pairs.{pairsBegun, pairsOf, keysOf, countedAs};
+ghost use Rattle.prepared.specs.Pairs.{pairsBegun, pairsOf, keysOf, countedAs, skippedOf};
 use budget::Budget;
 use image::Image;
 use pair_count::Count;
 
-// a refusal, 13 or 12; cut short in building, with the root's starting term; the root's starting term, the number of pairs, the budget left
+// a refusal, 13 or 12; cut short in building, with the root's starting term; the root's starting term, the number of pairs, the budget left; both with the number of monomial pairs passed over
 pub enum Begun {
     Stopped(u8),
-    Cut(usize),
-    All(usize, usize, Budget),
+    Cut(usize, u64),
+    All(usize, usize, Budget, u64),
 }
 
 // A refusal; 10 with the lowest class that holds a literal that also stands in another; the image and what the run has begun.
@@ -25,8 +25,8 @@ fn pairs_begun(b: Begun) -> usize
 {
     match b {
         Begun::Stopped(k) => 0,
-        Begun::Cut(root) => 0,
-        Begun::All(root, n, left) => n,
+        Begun::Cut(root, k) => 0,
+        Begun::All(root, n, left, k) => n,
     }
 }
 
@@ -60,7 +60,18 @@ pub fn counted(b: Begun, c: Count) -> Begun
     let n = pair_count::pairs_in(c);
     match b {
         Begun::Stopped(k) => Begun::Stopped(k),
-        Begun::Cut(root) => Begun::Cut(root),
-        Begun::All(root, m, left) => Begun::All(root, n, left),
+        Begun::Cut(root, k) => Begun::Cut(root, k),
+        Begun::All(root, m, left, k) => Begun::All(root, n, left, k),
+    }
+}
+
+// How many monomial pairs were passed over in building.
+pub fn skipped_of(b: Begun) -> u64
+    ensures { λ r. ⌜ r ≡ skippedOf b ⌝ }
+{
+    match b {
+        Begun::Stopped(k) => 0,
+        Begun::Cut(root, k) => k,
+        Begun::All(root, n, left, k) => k,
     }
 }

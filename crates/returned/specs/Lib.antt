@@ -2,3 +2,4 @@ pub mod Returns
 pub mod Cases
 pub mod Reaches
 pub mod Children
+pub mod Narrows

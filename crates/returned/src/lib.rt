@@ -1,9 +1,11 @@
 // What a call with the C interface returns: each answer as numbers; and the lengths of the work buffers.
 ghost use mathlib.Core.Path.{_≡_};
 ghost use Rattle.returned.specs.Children.{addedNumbers};
+ghost use Rattle.returned.specs.Narrows.{narrowedNumbers};
 ghost use Rattle.returned.specs.Returns.{returnedOf, lengths};
 use child_list::Added;
 use contract::Answer;
+use narrowing::Narrowed;
 
 // 0 with a listing of so many bytes, or a refusal's number; with 10 the lowest class that holds a literal that also stands in another.
 #[repr(C)]
@@ -29,6 +31,13 @@ pub struct Lengths {
 pub struct AddedChild {
     pub number: u32,
     pub terms: usize,
+}
+
+// 0 where every count is at most 4,294,967,295; 1 where one is above, with the first such entry, from 0.
+#[repr(C)]
+pub struct NarrowedList {
+    pub number: u32,
+    pub entry: usize,
 }
 
 // An answer as numbers.
@@ -84,6 +93,22 @@ pub fn numbers_of_added(a: Added, n: usize) -> AddedChild
         Added::Overflow => AddedChild {
             number: 2,
             terms: n,
+        },
+    }
+}
+
+// What narrowing a list says.
+pub fn numbers_of_narrowed(a: Narrowed) -> NarrowedList
+    ensures { λ r. ⌜ r ≡ narrowedNumbers a ⌝ }
+{
+    match a {
+        Narrowed::Fits => NarrowedList {
+            number: 0,
+            entry: 0,
+        },
+        Narrowed::FailsAt(i) => NarrowedList {
+            number: 1,
+            entry: i,
         },
     }
 }

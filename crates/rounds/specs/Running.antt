@@ -81,7 +81,7 @@ module _ (lim : Limits) (t : Tables) (ps : List Two) (n : ℕ) (many : length ps
       let root : getD (Here .terms) 0 0 ≡ getD pairs′ 2 0 = ap (λ (o : run.Outcome). o .root) same in (
         outcome complete ps Here,
         e,
-        listing-cut ps Here complete (poolOf terms′ runs′) (X .standing) has-some (H .valid) g ∙ ap listingOf same,
+        λ k. listing-cut k ps Here complete (poolOf terms′ runs′) (X .standing) has-some (H .valid) g ∙ ap (listingOf k) same,
         H,
         omega (arith, root, extends-within g (getD (Here .terms) 0 0) (X .standing .within 0 has-some), pool-length terms′ runs′),
         omega arith,

@@ -148,7 +148,7 @@ fn relax(
     }
 }
 
-// The rounds over a built graph of n pairs, each with its starting term; then the answer, and every work buffer cleared.
+// The rounds over a built graph of n pairs, each with its starting term; then the answer, which lists the number of monomial pairs passed over, and every work buffer cleared.
 pub fn run_rounds(
     lim: Limits,
     s: &[u8],
@@ -162,11 +162,12 @@ pub fn run_rounds(
     runs: &mut [u64],
     out: &mut [u8],
     b: Budget,
+    skipped: u64,
 ) -> Answer
     requires { ⌜ Loaded (now s) im × Valid (tablesOf (now s)) × Graphs (limitsOf lim) (tablesOf (now s)) (im .classes) (pairsIn (im .classes) (now graph) n) n (now graph) × (6 * lim .pairs ≤ length (now pairs)) × (2 * lim .terms ≤ length (now graph)) × Scratch (limitsOf lim) (now work) (now flow) × Holds (now terms) (now runs) × Rooms (limitsOf lim) (now terms) (now runs) × (countIn (now terms) ≤ lim .terms) × Standing Fits (pairsIn (im .classes) (now graph) n) (stateIn (now pairs) (now terms) (now runs) n 0 (b .left)) ⌝ }
-    ensures { λ r. ⌜ Answers (roundsOf (limitsOf lim) (tablesOf (now (s .entry))) (pairsIn (im .classes) (now (graph .entry)) n) (stateIn (now (pairs .entry)) (now (terms .entry)) (now (runs .entry)) n 0 (b .left))) (now (out .entry)) (now (out .exit)) r
+    ensures { λ r. ⌜ Answers skipped (roundsOf (limitsOf lim) (tablesOf (now (s .entry))) (pairsIn (im .classes) (now (graph .entry)) n) (stateIn (now (pairs .entry)) (now (terms .entry)) (now (runs .entry)) n 0 (b .left))) (now (out .entry)) (now (out .exit)) r
         × Cleared (now (graph .entry)) (now (pairs .entry)) (now (work .entry)) (now (flow .entry)) (now (terms .entry)) (now (runs .entry)) (now (graph .exit)) (now (pairs .exit)) (now (work .exit)) (now (flow .exit)) (now (terms .exit)) (now (runs .exit)) ⌝ }
 {
     let x = relax(lim, s, im, n, graph, pairs, work, flow, terms, runs, b);
-    outcome::conclude(x, graph, pairs, work, flow, terms, runs, out)
+    outcome::conclude(x, skipped, graph, pairs, work, flow, terms, runs, out)
 }

@@ -1,4 +1,5 @@
 pub mod Samples
+pub mod Skipped
 pub mod Slips
 pub mod Bounds
 pub mod Refusals

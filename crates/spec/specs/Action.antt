@@ -4,9 +4,9 @@ use mathlib.Core.List.{List, [], _∷_, _++_, map}
 use Prim.Native.Nat.{ℕ, zero, suc}
 use lib.Dec.{eqb}
 use lib.ListN.{length, getD}
-use Rattle.spec.specs.Bytes.{pick, both, either, any, filter, each, upFrom, Two}
+use Rattle.spec.specs.Bytes.{pick, both, either, any, filter, each, sum, upFrom, Two}
 use Rattle.spec.specs.Image.{Tables, Member, kindOf, isAC, SPair, Lit, membersOf, childrenOf}
-use Rattle.spec.specs.Monomial.{MonomialPair, classes, representationPairs, narrowPairs}
+use Rattle.spec.specs.Monomial.{MonomialPair, classes, representationPairs, narrowPairs, skippedUnder}
 
 -- an operation over the pairs of classes that it joins
 pub record Action : Type 0 where
@@ -70,3 +70,8 @@ cellPairs m = each (λ a. map (λ b. (a, b)) (classes (m .cols))) (classes (m .r
 unfoldable pub joins : Tables → Two → List Two
 unfolding cellPairs each structural transports
 joins t p = each (λ a. a .pairs) (structural t (p .0) (p .1)) ++ each (λ a. cellPairs (a .sides)) (transports t (p .0) (p .1))
+
+-- (02, Paper 7) "the number of monomial pairs passed over", of one pair of classes. A class paired with itself has none.
+unfoldable pub skippedAt : Tables → Two → ℕ
+unfolding acOps skippedUnder sum
+skippedAt t p = elim (eqb (p .0) (p .1)) [ true ↦ 0 | false ↦ sum (map (skippedUnder t (p .0) (p .1)) (acOps t (p .0) (p .1))) ]

@@ -1,8 +1,9 @@
 -- "Graph." of pairs of classes (`build_graph`): System's graph at the pairs.
-use mathlib.Core.List.{List}
+use mathlib.Core.List.{List, map}
 use Prim.Native.Nat.{ℕ}
-use Rattle.spec.specs.Bytes.{Two, sameTwo, Limits, Res, Checked}
+use Rattle.spec.specs.Bytes.{sum, Two, sameTwo, Limits, Res, Checked}
 use Rattle.spec.specs.Image.{Tables}
+use Rattle.spec.specs.Action.{joins, skippedAt}
 use Rattle.spec.specs.System as system
 use Rattle.spec.specs.Pairs.{pairs}
 
@@ -20,3 +21,8 @@ buildFrom lim b t ps i = system.buildFrom (pairs t) (lim .pairs) b ps i
 
 abbrev pub build : Limits → Tables → Two → ℕ → Res (Checked (List Two))
 build lim t p b = system.build (pairs t) (lim .pairs) p b
+
+-- (02, Paper 7) "the number of monomial pairs passed over in building, zero included": in a run cut short in building those that were passed over until then
+unfoldable pub skippedIn : Limits → Tables → Two → ℕ → ℕ
+unfolding joins skippedAt sum system.turned
+skippedIn lim t p b = sum (map (skippedAt t) (system.turned (pairs t) (lim .pairs) p b))

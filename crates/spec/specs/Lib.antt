@@ -15,6 +15,7 @@ pub mod Meaning
 pub mod Edges
 pub mod Asked
 pub mod Found
+pub mod Passed
 pub mod Kept
 pub mod Belonging
 pub mod Lowest

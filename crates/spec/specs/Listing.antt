@@ -1,5 +1,5 @@
 -- "The listing of program `merge`"
-use mathlib.Core.Bool.{true, false}
+use mathlib.Core.Bool.{Bool, true, false}
 use mathlib.Core.List.{List, [], _∷_, _++_, map}
 use Prim.Native.Nat.{ℕ, zero, suc}
 use lib.Dec.{eqb}
@@ -26,15 +26,36 @@ line [] = 10 ∷ []
 line (f ∷ []) = f ++ (10 ∷ [])
 line (f ∷ g ∷ l) = f ++ (32 ∷ line (g ∷ l))
 
--- "The first line has the status (`complete` or `partial`), pairs, rounds, size, mass."
-unfoldable pub firstLine : Outcome → List ℕ
-unfolding digits line text
-firstLine o = line (
-    text (pick (o .complete) "complete" "partial")
-    ∷ text "pairs" ∷ decimal (o .nodes)
-    ∷ text "rounds" ∷ decimal (o .rounds)
-    ∷ text "size" ∷ decimal (o .quality .0)
-    ∷ text "mass" ∷ decimal (o .quality .1) ∷ [])
+-- "The first line has the status (`complete` or `partial`), pairs, rounds, size, mass." (02, Paper 7) "The first line of the listing ends with `skipped` and the number"
+-- What it reports behind the status: each number by its name. Width, writing and reading follow from this list.
+abbrev pub Field : Type 0
+Field = List ℕ × ℕ
+
+unfoldable pub reported : ℕ → Outcome → List Field
+unfolding text
+reported skipped o =
+    (text "pairs", o .nodes)
+    ∷ (text "rounds", o .rounds)
+    ∷ (text "size", o .quality .0)
+    ∷ (text "mass", o .quality .1)
+    ∷ (text "skipped", skipped)
+    ∷ []
+
+-- a number behind its name
+abbrev pub named : Field → List (List ℕ)
+named f = f .0 ∷ decimal (f .1) ∷ []
+
+unfoldable pub statusOf : Bool → List ℕ
+unfolding text
+statusOf complete = pick complete (text "complete") (text "partial")
+
+unfoldable pub reportLine : Bool → List Field → List ℕ
+unfolding digits each line statusOf
+reportLine complete fields = line (statusOf complete ∷ each named fields)
+
+unfoldable pub firstLine : ℕ → Outcome → List ℕ
+unfolding reportLine reported
+firstLine skipped o = reportLine (o .complete) (reported skipped o)
 
 -- "child:count runs", a child by its line's number
 unfoldable pub runField : List ℕ → Two → List ℕ
@@ -52,6 +73,6 @@ unfoldable pub termLine : Pool → List ℕ → ℕ → List ℕ
 unfolding digits headFields line place runField
 termLine p order a = line (decimal (place (eqb a) order) ∷ headFields (nodeAt p a) ++ map (runField order) (nodeAt p a .runs))
 
-unfoldable pub listingOf : Outcome → List ℕ
+unfoldable pub listingOf : ℕ → Outcome → List ℕ
 unfolding each firstLine termLine visitTerm
-listingOf o = firstLine o ++ each (termLine (o .pool) (subterms (o .pool) (o .root))) (subterms (o .pool) (o .root))
+listingOf skipped o = firstLine skipped o ++ each (termLine (o .pool) (subterms (o .pool) (o .root))) (subterms (o .pool) (o .root))

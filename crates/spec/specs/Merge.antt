@@ -11,19 +11,20 @@ use Rattle.spec.specs.Action.{joins}
 use Rattle.spec.specs.Pool.{startingTerm}
 use Rattle.spec.specs.System as system
 use Rattle.spec.specs.Pairs.{offersOf, actionTerm}
+use Rattle.spec.specs.Graph.{skippedIn}
 use Rattle.spec.specs.Run.{documentLimits, runOf}
 use Rattle.spec.specs.Listing.{listingOf, line}
 
 -- "Order: 1 to 11, then 12 and 13 as met, 14 last". 2 to 10 are the image's, 12 and 13 the run's.
 -- `fit`: no work buffer is below its constant length; `room`: the output buffer's length.
 unfoldable pub mergeUnder : Limits → Bool → List ℕ → ℕ → ℕ → ℕ → ℕ → Res (List ℕ)
-unfolding imageOf listingOf system.runOf actionTerm joins offersOf planMass planSize startingTerm
+unfolding imageOf listingOf system.runOf actionTerm joins offersOf planMass planSize skippedIn startingTerm
 mergeUnder lim fit image left right budget room = do
   _ ← rule 1 fit
   t ← imageOf image
   _ ← rule 11 (both (ltb left (length (t .classes))) (ltb right (length (t .classes))))
   o ← runOf lim t (left, right) budget
-  let l = listingOf o
+  let l = listingOf (skippedIn lim t (left, right) budget) o
   _ ← rule 14 (leb (length l) room)
   ok l
 

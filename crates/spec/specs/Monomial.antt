@@ -1,9 +1,11 @@
 -- "Monomial. Classes rising, counts of one class added." (ac_repr.rs)
-use mathlib.Core.Bool.{Bool, true, false}
+use mathlib.Core.Bool.{Bool, true, false, not}
 use mathlib.Core.List.{List, [], _∷_, _++_, map}
+use mathlib.Core.Option.{Option, none, some}
 use Prim.Native.Nat.{ℕ, zero, suc, _+_, _-_}
 use lib.Dec.{ltb, leb, eqb}
-use Rattle.spec.specs.Bytes.{pick, both, all, filter, each, sum, Two, sameTwos}
+use lib.ListN.{length}
+use Rattle.spec.specs.Bytes.{pick, both, all, any, filter, each, sum, place, Two, sameTwos}
 use Rattle.spec.specs.Image.{Tables, NO-IDENTITY, identityOf, membersOf, childrenOf}
 
 abbrev pub Monomial : Type 0
@@ -78,3 +80,32 @@ narrow m = all (λ t. leb (t .1) COUNT) m
 unfoldable pub narrowPairs : List MonomialPair → List MonomialPair
 unfolding all filter
 narrowPairs l = filter (λ p. both (narrow (p .rows)) (narrow (p .cols))) l
+
+-- ---- (02, Paper 7) what is passed over
+-- "Narrowing a monomial must say that it failed and at which entry (from 0) first."
+unfoldable pub failsAt : Monomial → Option ℕ
+unfolding place
+failsAt m = let first = place (λ t. ltb COUNT (t .1)) m in pick (ltb first (length m)) (some first) none
+
+-- the pairs that are skipped
+abbrev pub wide : MonomialPair → Bool
+wide p = not (both (narrow (p .rows)) (narrow (p .cols)))
+
+unfoldable pub widePairs : List MonomialPair → List MonomialPair
+unfolding all filter
+widePairs l = filter wide l
+
+-- "A pair that, after padding, occurs again": rows and columns are the same, whether or not they were padded
+abbrev pub samePair : MonomialPair → MonomialPair → Bool
+samePair p q = both (sameTwos (p .rows) (q .rows)) (sameTwos (p .cols) (q .cols))
+
+-- "is counted once": how many are not the same as one before them or as one seen already
+unfoldable pub countOnce : List MonomialPair → List MonomialPair → ℕ
+unfolding any sameTwos
+countOnce seen [] = 0
+countOnce seen (p ∷ l) = elim (any (samePair p) seen) [ true ↦ countOnce seen l | false ↦ suc (countOnce (p ∷ seen) l) ]
+
+-- "for the same left class, right class and operation"
+unfoldable pub skippedUnder : Tables → ℕ → ℕ → ℕ → ℕ
+unfolding countOnce representationPairs widePairs
+skippedUnder t l r o = countOnce [] (widePairs (representationPairs t l r o))

@@ -74,6 +74,19 @@ module _ {N : Type 0} (S : System N) where
     ps ← enter (S .same) limit [] p
     buildFrom limit b ps 0
 
+  -- the nodes whose check in building passed, in order: the graph's nodes where it is built in full
+  unfoldable pub turnedFrom : ℕ → ℕ → List N → ℕ → List N
+  unfolding enterAll
+  turnedFrom limit zero ps i = []
+  turnedFrom limit (suc b) ps i = elim (ltb i (length ps)) [
+    | false ↦ []
+    | true ↦ getD ps i (S .other) ∷ elim (enterAll (S .same) limit ps (S .joins (getD ps i (S .other)))) [ ok qs ↦ turnedFrom limit b qs (suc i) | refused n ↦ [] ]
+  ]
+
+  unfoldable pub turned : ℕ → N → ℕ → List N
+  unfolding enter turnedFrom
+  turned limit p b = elim (enter (S .same) limit [] p) [ ok ps ↦ turnedFrom limit b ps 0 | refused n ↦ [] ]
+
 -- ---- "Rounds. All pairs read the previous round; a strictly better action replaces": the qualities, with each node's winning choice
 -- "(size, mass), compared by size, then mass"
 abbrev pub better : Two → Two → Bool

@@ -2,6 +2,7 @@ pub mod Quality
 pub mod Enter
 pub mod Graph
 pub mod BuildFrom
+pub mod Turned
 pub mod Checks
 pub mod Turn
 pub mod Reads

@@ -1,5 +1,5 @@
 -- Larger limits: what is accepted under some limits is accepted, and is the same, under limits that are no less.
-use mathlib.Core.Path.{refl}
+use mathlib.Core.Path.{_≡_, refl, ap}
 use mathlib.Core.Bool.{Bool, true, false}
 use mathlib.Core.List.{List, [], _∷_, _++_}
 use Prim.Native.Nat.{ℕ, zero, suc, _≤_}
@@ -7,10 +7,10 @@ use native.Mathlib.Omega.{arith}
 use lib.Dec.{ltb}
 use lib.ListN.{length, getD}
 use borrow.Author.Tests.{ltb-true, lt-ltb}
-use Rattle.spec.specs.Bytes.{any, Two, ok, _>>=_, Checked, passed, cutShort}
+use Rattle.spec.specs.Bytes.{any, Two, Res, ok, refused, _>>=_, Checked, passed, cutShort}
 use Rattle.spec.specs.Pool.{Pool, Interned}
-use Rattle.spec.specs.System.{System, Making, enter, enterAll, buildFrom, build, lookUp, Choice, stay, act, Turn, changes, turnsOf, planRuns, choiceTerm, Terms, turnsTerms, startingTerms, Outcome, State, outcome, stateAfter, afterRound, roundTerms, roundsFrom, startState, afterStarting, afterBuilding, runOf}
-use Rattle.laws.specs.Results.{Kept, kept-bind, kept-room}
+use Rattle.spec.specs.System.{System, Making, enter, enterAll, buildFrom, build, turnedFrom, turned, lookUp, Choice, stay, act, Turn, changes, turnsOf, planRuns, choiceTerm, Terms, turnsTerms, startingTerms, Outcome, State, outcome, stateAfter, afterRound, roundTerms, roundsFrom, startState, afterStarting, afterBuilding, runOf}
+use Rattle.laws.specs.Results.{Kept, kept-bind, kept-room, refused-ok, bind-ok}
 
 -- a making that refuses no more
 pub record Wider {N : Type 0} (L M : Making N) : Type 0 where
@@ -49,6 +49,33 @@ module _ {N : Type 0} (S : System N) (l m : ℕ) (h : l ≤ m) where
   pub build-kept : (p : N) (b : ℕ) → Kept (build S l p b) (build S m p b)
   unfolding build
   build-kept p b = kept-bind (enter (S .same) l [] p) (enter (S .same) m [] p) _ _ (enter-kept [] p) (λ ps. from-kept b ps 0)
+
+  -- where building is not refused, the same nodes have their turns
+  turned-from : (b : ℕ) (ps : List N) (i : ℕ) (g : Checked (List N)) → buildFrom S l b ps i ≡ ok g → turnedFrom S m b ps i ≡ turnedFrom S l b ps i
+  unfolding buildFrom turnedFrom
+  turned-from zero ps i g e = refl
+  turned-from (suc b) ps i g e = go (ltb i (length ps)) e (λ qs z. turned-from b qs (suc i) g z)
+    where
+      next : (x y : Res (List N)) → Kept x y → (x >>= λ qs. buildFrom S l b qs (suc i)) ≡ ok g → ((qs : List N) → buildFrom S l b qs (suc i) ≡ ok g → turnedFrom S m b qs (suc i) ≡ turnedFrom S l b qs (suc i))
+          → getD ps i (S .other) ∷ elim y [ ok qs ↦ turnedFrom S m b qs (suc i) | refused n ↦ [] ] ≡ getD ps i (S .other) ∷ elim x [ ok qs ↦ turnedFrom S l b qs (suc i) | refused n ↦ [] ]
+      next (ok qs) y k z ih = rw k (ap (λ (r : List N). getD ps i (S .other) ∷ r) (ih qs z))
+      next (refused n) y k z ih = absurd (refused-ok z)
+
+      go : (x : Bool) → elim x [ false ↦ ok (passed ps (suc b)) | true ↦ (enterAll (S .same) l ps (S .joins (getD ps i (S .other))) >>= λ qs. buildFrom S l b qs (suc i)) ] ≡ ok g
+          → ((qs : List N) → buildFrom S l b qs (suc i) ≡ ok g → turnedFrom S m b qs (suc i) ≡ turnedFrom S l b qs (suc i))
+          → _≡_ {A = List N} (elim x [ false ↦ [] | true ↦ getD ps i (S .other) ∷ elim (enterAll (S .same) m ps (S .joins (getD ps i (S .other)))) [ ok qs ↦ turnedFrom S m b qs (suc i) | refused n ↦ [] ] ])
+          (elim x [ false ↦ [] | true ↦ getD ps i (S .other) ∷ elim (enterAll (S .same) l ps (S .joins (getD ps i (S .other)))) [ ok qs ↦ turnedFrom S l b qs (suc i) | refused n ↦ [] ] ])
+      go true z ih = next (enterAll (S .same) l ps (S .joins (getD ps i (S .other)))) (enterAll (S .same) m ps (S .joins (getD ps i (S .other)))) (all-kept (S .joins (getD ps i (S .other))) ps) z ih
+      go false z ih = refl
+
+  pub turned-kept : (p : N) (b : ℕ) (g : Checked (List N)) → build S l p b ≡ ok g → turned S m p b ≡ turned S l p b
+  unfolding build turned
+  turned-kept p b g e = go (enter (S .same) l [] p) (enter (S .same) m [] p) (enter-kept [] p) e
+    where
+      go : (x y : Res (List N)) → Kept x y → (x >>= λ ps. buildFrom S l b ps 0) ≡ ok g
+          → _≡_ {A = List N} (elim y [ ok ps ↦ turnedFrom S m b ps 0 | refused n ↦ [] ]) (elim x [ ok ps ↦ turnedFrom S l b ps 0 | refused n ↦ [] ])
+      go (ok ps) y k z = rw k (turned-from b ps 0 g z)
+      go (refused n) y k z = absurd (refused-ok z)
 
 -- ---- terms
 module _ {N : Type 0} (L M : Making N) (W : Wider L M) where
@@ -108,3 +135,11 @@ module _ {N : Type 0} (S : System N) (L M : Making N) (W : Wider L M) where
   pub run-kept : (p : N) (b : ℕ) → Kept (runOf S L p b) (runOf S M p b)
   unfolding runOf
   run-kept p b = kept-bind (L .startingTerm [] p) (M .startingTerm [] p) _ _ (W .start [] p) (λ root. kept-bind (build S (L .limit) p b) (build S (M .limit) p b) _ _ (build-kept S (L .limit) (M .limit) (W .nodes) p b) (λ g. after-kept p root g))
+
+  -- of a run that is not refused the same nodes have their turns in building
+  pub run-turned : (p : N) (b : ℕ) (o : Outcome) → runOf S L p b ≡ ok o → turned S (M .limit) p b ≡ turned S (L .limit) p b
+  unfolding runOf
+  run-turned p b o e =
+      let (root, _, f) = bind-ok (L .startingTerm [] p) _ o e in
+      let (g, k, _) = bind-ok (build S (L .limit) p b) _ o f in
+      turned-kept S (L .limit) (M .limit) (W .nodes) p b g k

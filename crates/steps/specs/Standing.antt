@@ -175,12 +175,12 @@ module _ {N : Type 0} (S : System N) (M : Making N) (Okay : N → Type 0) (Fits 
 
 -- ---- listings over a larger pool
 -- a round cut short leaves a larger pool, and the listing stays
-pub listing-cut : {N : Type 0} {Fits : Two → Type 0} (ps : List N) (s : State) (complete : Bool) (pool : Pool) → Standing Fits ps s → 0 < length ps → PoolValid pool → Extends (s .pool) pool
-    → listingOf (outcome complete ps s) ≡ listingOf (record { complete = complete; nodes = length ps; rounds = s .rounds; quality = getD (s .qualities) 0 (0, 0); pool = pool; root = getD (s .terms) 0 0 })
-listing-cut ps s complete pool K h w g = listing-larger (outcome complete ps s) pool (K .valid) w g (K .within 0 h)
+pub listing-cut : {N : Type 0} {Fits : Two → Type 0} (k : ℕ) (ps : List N) (s : State) (complete : Bool) (pool : Pool) → Standing Fits ps s → 0 < length ps → PoolValid pool → Extends (s .pool) pool
+    → listingOf k (outcome complete ps s) ≡ listingOf k (record { complete = complete; nodes = length ps; rounds = s .rounds; quality = getD (s .qualities) 0 (0, 0); pool = pool; root = getD (s .terms) 0 0 })
+listing-cut k ps s complete pool K h w g = listing-larger k (outcome complete ps s) pool (K .valid) w g (K .within 0 h)
 
 -- so does one that is cut short in building or in starting terms
-pub listing-started : {N : Type 0} (S : System N) (p : N) (root : Interned) (n : ℕ) (pool : Pool) → PoolValid (root .pool) → root .term < length (root .pool) → PoolValid pool → Extends (root .pool) pool
-    → listingOf (started S p root n) ≡ listingOf (record { complete = false; nodes = n; rounds = 0; quality = S .startingQuality p; pool = pool; root = root .term })
+pub listing-started : {N : Type 0} (S : System N) (k : ℕ) (p : N) (root : Interned) (n : ℕ) (pool : Pool) → PoolValid (root .pool) → root .term < length (root .pool) → PoolValid pool → Extends (root .pool) pool
+    → listingOf k (started S p root n) ≡ listingOf k (record { complete = false; nodes = n; rounds = 0; quality = S .startingQuality p; pool = pool; root = root .term })
 unfolding started
-listing-started S p root n pool v h w g = listing-larger (started S p root n) pool v w g h
+listing-started S k p root n pool v h w g = listing-larger k (started S p root n) pool v w g h

@@ -4,11 +4,13 @@ ghost use lib.ListN.{length};
 ghost use Rattle.contract.specs.Merges.{fitOf};
 ghost use Rattle.contract.specs.Answers.{Cleared};
 ghost use Rattle.returned.specs.Children.{ReturnsAdded};
+ghost use Rattle.returned.specs.Narrows.{ReturnsNarrowed};
 ghost use Rattle.returned.specs.Returns.{lengths, Returns};
 use numbers::long_size;
 use numbers::size_u16;
 use returned::AddedChild;
 use returned::Lengths;
+use returned::NarrowedList;
 use returned::Returned;
 
 #[no_mangle]
@@ -65,4 +67,13 @@ pub extern "C" fn tariff_add_child(
 {
     let a = child_list::add_child(list, terms, long_size(size_u16(class)), count);
     returned::numbers_of_added(a, terms)
+}
+
+// Whether the counts of a list of so many terms fit 32 bits: `narrow` of crate `narrowing`.
+#[no_mangle]
+pub extern "C" fn tariff_narrow(list: &[u64], terms: usize) -> NarrowedList
+    ensures { λ r. ⌜ ReturnsNarrowed terms (now (list .entry)) r ⌝ }
+{
+    let a = narrowing::narrow(list, terms);
+    returned::numbers_of_narrowed(a)
 }

@@ -9,7 +9,7 @@ use lib.ListN.{length, getD, drop}
 use lib.Seq.{drop-cons, drop-length}
 use Rattle.spec.specs.Bytes.{pick, each, place, text, decimal}
 use Rattle.spec.specs.Pool.{Node, nodeAt, LIT, VARIANTS}
-use Rattle.spec.specs.Listing.{line, firstLine, runField, headFields, termLine, listingOf, subterms}
+use Rattle.spec.specs.Listing.{line, runField, headFields, termLine, subterms}
 use Rattle.spec.specs.Meaning.{In, here, there}
 use Rattle.laws.specs.Lists.{in-map}
 use Rattle.terms.specs.Buffers.{unpack, headIn, valueIn, partIn, nodeOf, nodeIn, poolOf, countIn}
@@ -19,8 +19,7 @@ use Rattle.numbering.specs.Numbering.{Numbered, Listed}
 use Rattle.numbering.specs.WalkLaws.{Closed, subterms-closed}
 use Rattle.numbering.specs.NumberLaws.{at-in, number-of, place-at, few-listed}
 use Rattle.numbering.specs.VisitLaws.{run-in}
-use Rattle.widths.specs.Lines.{runIn, runsIn, headBytes, termIn, lineIn, linesIn, outcomeOf, firstBytes, Ready}
-use Rattle.widths.specs.declared.Report.{Report}
+use Rattle.widths.specs.Lines.{runIn, runsIn, headBytes, termIn, lineIn, linesIn, Ready}
 
 abbrev spaced : List ℕ → List ℕ
 spaced f = 32 ∷ f
@@ -95,26 +94,9 @@ module _ (terms runs w : List ℕ) (root n : ℕ) (H : Holds terms runs) (b : ro
       let o = subterms (poolOf terms runs) root in
       rw (drop-cons o k 0 (omega arith)) (ap₂ (λ (x y : List ℕ). x ++ y) (sym (line-at k (omega arith))) (lines-from j (suc k) (omega arith)))
 
-  first-is : (f : Report) → firstLine (outcomeOf f terms runs root) ≡ firstBytes f
-  unfolding firstLine firstBytes line text
-  first-is f = go (f .complete)
-    where
-      go : (c : Bool) → line (
-          text (pick c "complete" "partial")
-          ∷ text "pairs" ∷ decimal (f .pairs)
-          ∷ text "rounds" ∷ decimal (f .rounds)
-          ∷ text "size" ∷ decimal (f .size)
-          ∷ text "mass" ∷ decimal (f .mass) ∷ []) ≡ pick c (text "complete") (text "partial")
-          ++ ((text " pairs " ++ decimal (f .pairs))
-          ++ ((text " rounds " ++ decimal (f .rounds))
-          ++ ((text " size " ++ decimal (f .size))
-          ++ ((text " mass " ++ decimal (f .mass)) ++ (10 ∷ [])))))
-      go true = refl
-      go false = refl
-
-  pub listing-is : (f : Report) → listingOf (outcomeOf f terms runs root) ≡ firstBytes f ++ linesIn terms runs w 0 n
-  unfolding listingOf
-  listing-is f = ap₂ (λ (x y : List ℕ). x ++ y) (first-is f) (sym (ap (λ (z : ℕ). linesIn terms runs w 0 z) (L .count) ∙ lines-from (length (subterms (poolOf terms runs) root)) 0 (omega arith)))
+  -- the lines behind the first line
+  pub lines-are : each (termLine (poolOf terms runs) (subterms (poolOf terms runs) root)) (subterms (poolOf terms runs) root) ≡ linesIn terms runs w 0 n
+  lines-are = sym (ap (λ (z : ℕ). linesIn terms runs w 0 z) (L .count) ∙ lines-from (length (subterms (poolOf terms runs) root)) 0 (omega arith))
 
   pub ready : Ready terms runs w n
   ready = record {

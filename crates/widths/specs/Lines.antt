@@ -1,14 +1,11 @@
--- The bytes of the listing, read from the buffers.
-use mathlib.Core.Bool.{Bool}
+-- The bytes of the listing's lines, read from the buffers.
 use mathlib.Core.List.{List, [], _∷_, _++_}
 use Prim.Native.Nat.{ℕ, zero, suc, _+_, _*_, _-_, _/_, _%_, _≤_, _<_}
 use lib.Dec.{eqb}
 use lib.ListN.{length, getD}
 use Rattle.spec.specs.Bytes.{pick, each, text, decimal, digits}
 use Rattle.spec.specs.Pool.{LIT, VARIANTS}
-use Rattle.spec.specs.Run.{Outcome}
-use Rattle.terms.specs.Buffers.{part, firstIn, headIn, valueIn, poolOf, countIn}
-use Rattle.widths.specs.declared.Report.{Report}
+use Rattle.terms.specs.Buffers.{part, firstIn, headIn, valueIn, countIn}
 
 -- "child:count runs", with the space before; a run is one number, a child stands by its number in the order
 abbrev pub runIn : List ℕ → ℕ → List ℕ
@@ -40,23 +37,6 @@ unfoldable pub linesIn : List ℕ → List ℕ → List ℕ → ℕ → ℕ → 
 unfolding lineIn
 linesIn terms runs w k zero = []
 linesIn terms runs w k (suc n) = lineIn terms runs w k ++ linesIn terms runs w (suc k) n
-
--- what is reported of a run whose pool the buffers hold
-abbrev pub outcomeOf : Report → List ℕ → List ℕ → ℕ → Outcome
-outcomeOf f terms runs root = record { complete = f .complete; nodes = f .pairs; rounds = f .rounds; quality = (f .size, f .mass); pool = poolOf terms runs; root = root }
-
-abbrev pub statusBytes : Bool → List ℕ
-statusBytes complete = pick complete (text "complete") (text "partial")
-
--- "The first line has the status (`complete` or `partial`), pairs, rounds, size, mass."
-unfoldable pub firstBytes : Report → List ℕ
-unfolding digits text
-firstBytes f =
-    statusBytes (f .complete)
-    ++ ((text " pairs " ++ decimal (f .pairs))
-    ++ ((text " rounds " ++ decimal (f .rounds))
-    ++ ((text " size " ++ decimal (f .size))
-    ++ ((text " mass " ++ decimal (f .mass)) ++ (10 ∷ [])))))
 
 -- the children of the runs from .. to - 1 have numbers
 abbrev pub Named : List ℕ → List ℕ → ℕ → ℕ → Type 0

@@ -1,6 +1,5 @@
--- The widths of the listing's pieces: a run, a head, a line, the first line, the whole.
+-- The widths of the listing's pieces: a run, a head, a line, lines.
 use mathlib.Core.Path.{_≡_, refl, sym, ap, _∙_}
-use mathlib.Core.Bool.{Bool, true, false}
 use mathlib.Core.List.{List, [], _∷_, _++_}
 use Prim.Native.Nat.{ℕ, suc, _+_, _*_, _-_, _/_, _%_, _≤_, _<_}
 use native.Mathlib.Omega.{arith}
@@ -8,15 +7,11 @@ use lib.ListN.{length, getD, length-append}
 use borrow.Author.Tests.{eq-eqb, ne-eqb}
 use Rattle.spec.specs.Bytes.{each, text, decimal}
 use Rattle.spec.specs.Pool.{LIT, VARIANTS}
-use Rattle.spec.specs.Listing.{listingOf}
 use Rattle.terms.specs.Buffers.{firstIn, headIn, valueIn, countIn}
 use Rattle.terms.specs.Chains.{Holds}
 use Rattle.terms.specs.PartLaws.{part-cons}
 use Rattle.terms.specs.PoolLaws.{first-fits, first-inside}
-use Rattle.numbering.specs.Numbering.{Listed}
-use Rattle.widths.specs.Lines.{runIn, runsIn, headBytes, termIn, lineIn, linesIn, statusBytes, firstBytes, outcomeOf, Named, Ready}
-use Rattle.widths.specs.LineLaws.{listing-is}
-use Rattle.widths.specs.declared.Report.{Report}
+use Rattle.widths.specs.Lines.{runIn, runsIn, headBytes, termIn, lineIn, linesIn, Named, Ready}
 
 -- a text and a number
 labelled-length : (b : List ℕ) (v : ℕ) → length (b ++ decimal v) ≡ length b + length (decimal v)
@@ -120,46 +115,3 @@ module _ (terms runs w : List ℕ) (k n : ℕ) where
 
   pub lines-length : k < n → length (linesIn terms runs w k (n - k)) ≡ length (lineIn terms runs w k) + length (linesIn terms runs w (k + 1) (n - (k + 1)))
   lines-length h = ap length (lines-cons h) ∙ length-append (lineIn terms runs w k) (linesIn terms runs w (k + 1) (n - (k + 1)))
-
--- ---- the first line
-abbrev pub pairsField : Report → List ℕ
-pairsField f = text " pairs " ++ decimal (f .pairs)
-
-abbrev pub roundsField : Report → List ℕ
-roundsField f = text " rounds " ++ decimal (f .rounds)
-
-abbrev pub sizeField : Report → List ℕ
-sizeField f = text " size " ++ decimal (f .size)
-
-abbrev pub massField : Report → List ℕ
-massField f = text " mass " ++ decimal (f .mass)
-
-module _ (f : Report) where
-  first-length : length (firstBytes f) ≡ length (statusBytes (f .complete)) + (7 + length (decimal (f .pairs)) + 8 + length (decimal (f .rounds)) + 6 + length (decimal (f .size)) + 6 + length (decimal (f .mass)) + 1)
-  unfolding firstBytes text
-  first-length =
-      omega (
-        arith,
-        length-append (statusBytes (f .complete)) (pairsField f ++ (roundsField f ++ (sizeField f ++ (massField f ++ (10 ∷ []))))),
-        length-append (pairsField f) (roundsField f ++ (sizeField f ++ (massField f ++ (10 ∷ [])))),
-        length-append (roundsField f) (sizeField f ++ (massField f ++ (10 ∷ []))),
-        length-append (sizeField f) (massField f ++ (10 ∷ [])),
-        length-append (massField f) (10 ∷ []),
-        labelled-length (text " pairs ") (f .pairs),
-        labelled-length (text " rounds ") (f .rounds),
-        labelled-length (text " size ") (f .size),
-        labelled-length (text " mass ") (f .mass),
-      )
-
-  pub complete-length : f .complete ≡ true → length (firstBytes f) ≡ 8 + (7 + length (decimal (f .pairs)) + 8 + length (decimal (f .rounds)) + 6 + length (decimal (f .size)) + 6 + length (decimal (f .mass)) + 1)
-  unfolding text
-  complete-length e = first-length ∙ ap (λ (b : Bool). length (statusBytes b) + (7 + length (decimal (f .pairs)) + 8 + length (decimal (f .rounds)) + 6 + length (decimal (f .size)) + 6 + length (decimal (f .mass)) + 1)) e
-
-  pub partial-length : f .complete ≡ false → length (firstBytes f) ≡ 7 + (7 + length (decimal (f .pairs)) + 8 + length (decimal (f .rounds)) + 6 + length (decimal (f .size)) + 6 + length (decimal (f .mass)) + 1)
-  unfolding text
-  partial-length e = first-length ∙ ap (λ (b : Bool). length (statusBytes b) + (7 + length (decimal (f .pairs)) + 8 + length (decimal (f .rounds)) + 6 + length (decimal (f .size)) + 6 + length (decimal (f .mass)) + 1)) e
-
--- ---- the whole
-module _ (terms runs w : List ℕ) (root n : ℕ) (H : Holds terms runs) (b : root < countIn terms) (L : Listed terms runs w root n) (f : Report) where
-  pub listing-length : length (listingOf (outcomeOf f terms runs root)) ≡ length (firstBytes f) + length (linesIn terms runs w 0 n)
-  listing-length = ap length (listing-is terms runs w root n H b L f) ∙ length-append (firstBytes f) (linesIn terms runs w 0 n)

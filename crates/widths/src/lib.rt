@@ -1,22 +1,10 @@
-// The width of a listing before it is written: the bytes of its lines, counted.
+// The width of a listing's lines before they are written: their bytes, counted.
 use decimals::digits;
 ghost use mathlib.Core.Path.{_≡_};
 ghost use Prim.Native.Nat.{_+_, _*_, _-_, _%_, _≤_, _<_};
 ghost use lib.ListN.{length, getD};
-ghost use Rattle.spec.specs.Listing.{listingOf};
-ghost use Rattle.terms.specs.Buffers.{countIn};
 ghost use Rattle.terms.specs.Chains.{Holds};
-ghost use Rattle.numbering.specs.Numbering.{Listed};
-ghost use Rattle.widths.specs.Lines.{runIn, runsIn, headBytes, lineIn, linesIn, firstBytes, outcomeOf, Named, Ready};
-
-// what the first line reports
-pub struct Report {
-    pub complete: bool,
-    pub pairs: u64,
-    pub rounds: u64,
-    pub size: u64,
-    pub mass: u64,
-}
+ghost use Rattle.widths.specs.Lines.{runIn, runsIn, headBytes, lineIn, linesIn, Named, Ready};
 
 fn run_width(marks: &[u16], r: u64) -> usize
     requires { ⌜ 0 < getD (now marks) (2 * (r % 16384)) 0 ⌝ }
@@ -64,7 +52,8 @@ fn line_width(terms: &[u32], runs: &[u64], marks: &[u16], n: usize, k: usize) ->
     a + b + runs_width(runs, marks, from, to) + 1
 }
 
-fn lines_width(terms: &[u32], runs: &[u64], marks: &[u16], n: usize) -> usize
+// The length of the n lines behind the first line.
+pub fn lines_width(terms: &[u32], runs: &[u64], marks: &[u16], n: usize) -> usize
     requires { ⌜ Holds (now terms) (now runs) × Ready (now terms) (now runs) (now marks) n ⌝ }
     ensures { λ r. ⌜ (r ≡ length (linesIn (now (terms .entry)) (now (runs .entry)) (now (marks .entry)) 0 n)) × (r ≤ 3000000 * 16384) ⌝ }
 {
@@ -75,33 +64,4 @@ fn lines_width(terms: &[u32], runs: &[u64], marks: &[u16], n: usize) -> usize
         k += 1;
     }
     w
-}
-
-fn first_width(f: Report) -> usize
-    ensures { λ r. ⌜ (r ≡ length (firstBytes f)) × (r ≤ 200) ⌝ }
-{
-    let a = digits(f.pairs);
-    let b = digits(f.rounds);
-    let c = digits(f.size);
-    let d = digits(f.mass);
-    let e = 7 + a + 8 + b + 6 + c + 6 + d + 1;
-    if f.complete {
-        return 8 + e;
-    }
-    7 + e
-}
-
-// The listing's length; n is the number of its subterms.
-pub fn measure(
-    terms: &[u32],
-    runs: &[u64],
-    marks: &[u16],
-    root: usize,
-    n: usize,
-    f: Report,
-) -> usize
-    requires { ⌜ Holds (now terms) (now runs) × (root < countIn (now terms)) × Listed (now terms) (now runs) (now marks) root n ⌝ }
-    ensures { λ r. ⌜ r ≡ length (listingOf (outcomeOf f (now (terms .entry)) (now (runs .entry)) root)) ⌝ }
-{
-    first_width(f) + lines_width(terms, runs, marks, n)
 }

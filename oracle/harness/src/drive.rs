@@ -1,5 +1,5 @@
 // SPDX-License-Identifier: Apache-2.0
-//! Runs two judges over frames, compares every byte and counts what was met.
+//! Runs two judges over frames, compares every byte (`Judge::same`) and counts what was met.
 
 use std::collections::BTreeMap;
 
@@ -65,6 +65,14 @@ impl Counts {
         self.some("monomial pairs", met.monomials.paired);
         self.some("monomial pairs padded", met.monomials.padded);
         self.some("monomial pairs skipped", met.monomials.skipped);
+        if outcome.skipped > 0 {
+            self.one("skipped above 0");
+            let cut = outcome.phase == Phase::Building;
+            self.some("skipped above 0, cut in building", u64::from(cut));
+            let again = met.monomials.skipped > outcome.skipped as u64;
+            self.some("skipped above 0, some again", u64::from(again));
+        }
+        self.top("skipped", outcome.skipped as u64);
         self.some(
             "monomial pairs with a class as itself",
             met.monomials.with_itself,
@@ -110,7 +118,7 @@ fn pair(a: &Judge, b: &Judge, frame: &[u8]) -> Result<Option<(String, String)>, 
     let model = model::answer(frame, Slip::None).into_bytes();
     let silent =
         |judge: &Judge, answer: &[u8]| !judge.judges(frame, &model) || answer == b"unholdable\n";
-    if x == y || silent(a, &x) || silent(b, &y) {
+    if a.same(&x, b, &y) || silent(a, &x) || silent(b, &y) {
         return Ok(None);
     }
     Ok(Some((
@@ -164,7 +172,7 @@ pub fn compare(
             continue;
         }
         counts.one("compared");
-        if x != y {
+        if !a.same(x, b, y) {
             let (frame, first, second) = shrink(a, b, frame)?;
             return Ok(Some(Difference {
                 at,

@@ -10,8 +10,9 @@ use crate::doubled;
 use crate::img::{Class, Img, Member, Operation, Query};
 use crate::limits;
 use crate::rng::Rng;
+use crate::skipped;
 
-pub const FAMILIES: [(&str, usize); 20] = [
+pub const FAMILIES: [(&str, usize); 21] = [
     ("mixed", 30),
     ("twins", 24),
     ("ties", 10),
@@ -35,10 +36,15 @@ pub const FAMILIES: [(&str, usize); 20] = [
     ("reverse", 4),
     // Mostly refused by 10: drawn by name only.
     ("doubled", 0),
+    // The sample's third part.
+    ("skipped", 6),
 ];
 
 /// The families of the sample's first part.
 pub const FIRST: usize = 17;
+
+/// The families of the sample's first and second part.
+pub const SECOND: usize = 20;
 
 const PLAIN: [u8; 5] = [0, 1, 2, 3, 4];
 
@@ -792,6 +798,9 @@ fn measure(img: &Img, left: usize, right: usize) -> Option<(u64, u64)> {
 pub fn frames(rng: &mut Rng, family: &str) -> Vec<Vec<u8>> {
     if family == "doubled" {
         return vec![doubled::frame(rng)];
+    }
+    if family == "skipped" {
+        return skipped::frames(rng);
     }
     let img = image(rng, if family == "damaged" { "mixed" } else { family });
     let n = img.classes.len();

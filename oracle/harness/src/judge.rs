@@ -6,11 +6,15 @@ use std::process::{Command, Stdio};
 
 use model::slip::{SLIPS, Slip};
 
+use crate::skipped;
+
 pub enum Judge {
     Oracle {
         pruning: bool,
     },
     Model(Slip),
+    /// The model, with the number of skipped monomial pairs counted by force.
+    Force,
     /// A command that takes a stream of frames and gives a stream of answers.
     Stream(String),
     /// A command that takes one frame and gives one answer, run once a frame.
@@ -41,6 +45,24 @@ pub fn unpack(bytes: &[u8]) -> Result<Vec<Vec<u8>>, String> {
     Ok(items)
 }
 
+/// "The comparison with the Rust drops this last field" (02, Paper 7): a listing without
+/// ` skipped N` at the end of its first line. None where it is not there; a refusal has no first
+/// line, and stays as it is.
+pub fn as_the_rust(answer: &[u8]) -> Option<Vec<u8>> {
+    if ![&b"complete "[..], b"partial "]
+        .iter()
+        .any(|status| answer.starts_with(status))
+    {
+        return Some(answer.to_vec());
+    }
+    let end = answer.iter().position(|&byte| byte == b'\n')?;
+    let (first, rest) = answer.split_at(end);
+    let first = std::str::from_utf8(first).ok()?;
+    let (kept, count) = first.rsplit_once(" skipped ")?;
+    let number: u64 = count.parse().ok()?;
+    (number.to_string() == count).then(|| [kept.as_bytes(), rest].concat())
+}
+
 /// What a command says to an input.
 pub fn call(line: &str, input: &[u8]) -> Result<Vec<u8>, String> {
     let mut child = Command::new("sh")
@@ -59,13 +81,14 @@ pub fn call(line: &str, input: &[u8]) -> Result<Vec<u8>, String> {
 }
 
 impl Judge {
-    /// `oracle`, `oracle-pruning`, `model`, `slip:NAME`, `stream:COMMAND` or
+    /// `oracle`, `oracle-pruning`, `model`, `force`, `slip:NAME`, `stream:COMMAND` or
     /// `each:COMMAND`.
     pub fn parse(word: &str) -> Result<Judge, String> {
         match word.split_once(':') {
             None if word == "oracle" => Ok(Judge::Oracle { pruning: false }),
             None if word == "oracle-pruning" => Ok(Judge::Oracle { pruning: true }),
             None if word == "model" => Ok(Judge::Model(Slip::None)),
+            None if word == "force" => Ok(Judge::Force),
             Some(("stream", line)) => Ok(Judge::Stream(line.to_string())),
             Some(("each", line)) => Ok(Judge::Each(line.to_string())),
             Some(("slip", name)) => SLIPS
@@ -87,6 +110,7 @@ impl Judge {
                 .iter()
                 .map(|frame| model::answer(frame, *slip).into())
                 .collect()),
+            Judge::Force => Ok(frames.iter().map(|frame| skipped::forced(frame)).collect()),
             Judge::Stream(line) => {
                 let answers = unpack(&call(line, &pack(frames))?)?;
                 if answers.len() != frames.len() {
@@ -99,6 +123,17 @@ impl Judge {
                 Ok(answers)
             }
             Judge::Each(line) => frames.iter().map(|frame| call(line, frame)).collect(),
+        }
+    }
+
+    /// Whether two answers are the same: every byte, but for the field that the Rust does not
+    /// write where one of the two is the Rust's.
+    pub fn same(&self, answer: &[u8], other: &Judge, others: &[u8]) -> bool {
+        let rust = |judge: &Judge| matches!(judge, Judge::Oracle { .. });
+        match (rust(self), rust(other)) {
+            (true, false) => as_the_rust(others).as_deref() == Some(answer),
+            (false, true) => as_the_rust(answer).as_deref() == Some(others),
+            _ => answer == others,
         }
     }
 

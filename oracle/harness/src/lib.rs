@@ -14,6 +14,7 @@ pub mod pairs;
 pub mod plans;
 pub mod rng;
 pub mod sample;
+pub mod skipped;
 pub mod small;
 pub mod text;
 pub mod verdicts;

@@ -5,9 +5,9 @@ use std::io::{Read, Write};
 
 use harness::drive::{Counts, compare};
 use harness::img::{Img, Query};
-use harness::judge::{Judge, pack, unpack};
+use harness::judge::{Judge, as_the_rust, pack, unpack};
 use harness::{
-    budgets, children, damage, draw, limits, pairs, plans, sample, small, text, verdicts,
+    budgets, children, damage, draw, limits, pairs, plans, sample, skipped, small, text, verdicts,
 };
 use model::slip::{SLIPS, Slip};
 
@@ -96,6 +96,19 @@ fn run(words: &[&str]) -> Result<(), String> {
             print!("{}", small::small(&read_text(source)?)?);
             Ok(())
         }
+        ["queries", source] => {
+            print!("{}", small::queries(&read_text(source)?)?);
+            Ok(())
+        }
+        ["again", path] => {
+            print!("{}", small::again(&read_text(path)?)?);
+            Ok(())
+        }
+        ["as-the-rust"] => {
+            stdout(&as_the_rust(&stdin()?).ok_or("the first line does not end with skipped")?)
+        }
+        ["adversary"] => Err(format!("one of {}", skipped::COSTLY.join(", "))),
+        ["adversary", name] => stdout(&skipped::costly(name).ok_or("no such adversary")?),
         ["draw", seed, count] => stdout(&pack(&draw(number(seed)?, number(count)? as usize, None))),
         ["draw", seed, count, family] => {
             let frames = draw(number(seed)?, number(count)? as usize, Some(family));
@@ -108,9 +121,9 @@ fn run(words: &[&str]) -> Result<(), String> {
             let frames = draw(number(seed)?, number(count)? as usize, Some(family));
             compare_frames(a, b, &frames)
         }
-        ["budgets", a, b, seed, count] => {
+        ["budgets", a, b, seed, count, family @ ..] if family.len() < 2 => {
             let count = number(count)? as usize;
-            let drawn = draw(number(seed)?, 20 * count, None);
+            let drawn = draw(number(seed)?, 20 * count, family.first().copied());
             let (queries, frames) = budgets::every(&drawn, count);
             println!("{queries} queries, {} frames", frames.len());
             compare_frames(a, b, &frames)
@@ -194,6 +207,12 @@ fn run(words: &[&str]) -> Result<(), String> {
         ["frames", "damaged"] => {
             let frames: Vec<Vec<u8>> = damage::small().into_iter().map(|case| case.1).collect();
             stdout(&pack(&frames))
+        }
+        ["frames", "adversaries"] => {
+            let frames = skipped::COSTLY
+                .iter()
+                .filter_map(|name| skipped::costly(name));
+            stdout(&pack(&frames.collect::<Vec<_>>()))
         }
         ["images", "damaged"] => stdout(&pack(&verdicts::damaged())),
         ["verdicts"] => stdout(verdicts::lines(&unpack(&stdin()?)?).as_bytes()),

@@ -5,7 +5,7 @@ use std::fmt::Write;
 
 use model::action::{Monomials, Pair, transports};
 use model::image::Image;
-use model::monomial::{Monomial, skipped};
+use model::monomial::Monomial;
 use model::slip::Slip;
 
 /// Images of at most so many classes show every pair of two classes.
@@ -25,10 +25,10 @@ fn of_pair(image: &Image, pair: Pair, slip: Slip, text: &mut String) {
         return;
     }
     let mut met = Monomials::default();
-    for (operation, left, right) in transports(image, pair, &mut met, slip) {
-        if !skipped(&left, &right, slip) {
-            let (l, r) = (terms(&left), terms(&right));
-            let _ = writeln!(text, "{} {} {operation}{l} |{r}", pair.0, pair.1);
+    for one in transports(image, pair, &mut met, slip) {
+        if !one.skipped(slip) {
+            let (l, r) = (terms(&one.left), terms(&one.right));
+            let _ = writeln!(text, "{} {} {}{l} |{r}", pair.0, pair.1, one.operation);
         }
     }
 }

@@ -10,6 +10,7 @@ use model::slip::{SLIPS, Slip};
 use crate::damage;
 use crate::drive::Counts;
 use crate::r#gen;
+use crate::judge::as_the_rust;
 use crate::limits;
 use crate::rng::Rng;
 use crate::small;
@@ -19,12 +20,13 @@ pub struct Stored {
     pub answer: Vec<u8>,
 }
 
-/// The oracle's answer where it judges, the model's where not; both where both.
+/// The model's answer; where the oracle judges, the two agree but for the field that the Rust
+/// does not write.
 pub fn judged(frame: &[u8]) -> Result<Vec<u8>, String> {
     let model = model::answer(frame, Slip::None);
     if !model.starts_with("refused")
         && let listed::Answer::Listing(text) = listed::answer(frame, false)
-        && text != model
+        && as_the_rust(model.as_bytes()) != Some(text.clone().into_bytes())
     {
         return Err(format!("oracle and model differ:\n{text}{model}"));
     }
@@ -60,6 +62,9 @@ const FRAMES: usize = 380;
 /// The slips that the first part of the sample is chosen by; the second part, drawn
 /// apart, stands behind it.
 const FIRST_SLIPS: usize = 54;
+
+/// The slips of the first and second part; the third, drawn apart, stands behind both.
+const SECOND_SLIPS: usize = 76;
 
 /// Drawn frames of at most so many bytes, the smallest first.
 fn draw(
@@ -163,9 +168,18 @@ pub fn choose(source: &str, seed: u64, drawn: usize) -> Result<Vec<Stored>, Stri
         0 => "literals",
         1 => "reverse",
         2 => "cells",
-        _ => r#gen::family(rng, r#gen::FAMILIES.len()),
+        _ => r#gen::family(rng, r#gen::SECOND),
     });
-    catch(&SLIPS[FIRST_SLIPS..], &pool, &mut chosen, &mut taken);
+    catch(
+        &SLIPS[FIRST_SLIPS..SECOND_SLIPS],
+        &pool,
+        &mut chosen,
+        &mut taken,
+    );
+    // The third part.
+    let mut rng = Rng::new(seed + 2);
+    let pool = draw(&mut rng, drawn, 320, |_| "skipped");
+    catch(&SLIPS[SECOND_SLIPS..], &pool, &mut chosen, &mut taken);
     chosen
         .into_iter()
         .map(|frame| {

@@ -5,6 +5,7 @@
 
 use crate::damage;
 use crate::img::{Img, Query};
+use crate::sample::judged;
 use crate::text;
 
 fn entry(out: &mut String, frame: &[u8], answer: &str) {
@@ -28,32 +29,50 @@ pub fn images(source: &str) -> Result<Vec<(String, Img, Vec<Query>)>, String> {
     Ok(found)
 }
 
-pub fn small(source: &str) -> Result<String, String> {
+/// A frame with its answer: the model's, with which the oracle agrees (`judged`).
+fn asked(out: &mut String, frame: &[u8]) -> Result<(), String> {
+    let answer = judged(frame)?;
+    entry(out, frame, &String::from_utf8_lossy(&answer));
+    Ok(())
+}
+
+/// The queries of a file of images, each held by the oracle.
+pub fn queries(source: &str) -> Result<String, String> {
     let mut out = String::new();
     for (name, img, queries) in images(source)? {
         out.push_str(&format!("# {name}\n"));
         for query in &queries {
             let frame = img.frame(query);
-            let model = model::answer(&frame, model::slip::Slip::None);
-            match listed::answer(&frame, false) {
-                listed::Answer::Listing(text) if text == model => {}
-                other => {
-                    return Err(format!(
-                        "{name}, {query:?}: oracle\n{}model\n{model}",
-                        other.text()
-                    ));
-                }
+            let oracle = listed::answer(&frame, false);
+            if !matches!(oracle, listed::Answer::Listing(_)) {
+                return Err(format!("{name}, {query:?}: {}", oracle.text()));
             }
-            entry(&mut out, &frame, &model);
+            asked(&mut out, &frame).map_err(|why| format!("{name}, {query:?}: {why}"))?;
         }
     }
+    Ok(out)
+}
+
+/// The queries of a file of images, and the damaged images.
+pub fn small(source: &str) -> Result<String, String> {
+    let mut out = queries(source)?;
     for (what, frame) in damage::small() {
         out.push_str(&format!("# {what}\n"));
-        entry(
-            &mut out,
-            &frame,
-            &model::answer(&frame, model::slip::Slip::None),
-        );
+        asked(&mut out, &frame)?;
+    }
+    Ok(out)
+}
+
+/// A text of this form with each frame asked again.
+pub fn again(text: &str) -> Result<String, String> {
+    let mut out = String::new();
+    for line in text.lines() {
+        if line.starts_with('#') {
+            out.push_str(&format!("{line}\n"));
+        } else if line.starts_with(|first: char| first.is_ascii_digit()) {
+            let frame: Result<Vec<u8>, _> = line.split(' ').map(str::parse).collect();
+            asked(&mut out, &frame.map_err(|why| format!("{line}: {why}"))?)?;
+        }
     }
     Ok(out)
 }

@@ -1,8 +1,7 @@
 // SPDX-License-Identifier: Apache-2.0
 //! "Action", and the "Graph" of the pairs that actions join.
 
-use std::collections::BTreeSet;
-use std::collections::HashMap;
+use std::collections::{BTreeSet, HashMap, HashSet};
 
 use crate::image::{Child, Image, LIT, MSET, Member, PLAIN0, Refusal, SET, SPAIR};
 use crate::monomial::{Monomial, monomials, pad, skipped};
@@ -33,8 +32,23 @@ pub struct Graph {
     pub pairs: Vec<Pair>,
     pub actions: Vec<Vec<Action>>,
     number: HashMap<Pair, usize>,
+    passed_over: HashSet<PassedOver>,
     pub met: Monomials,
 }
+
+/// A monomial pair of two classes under an operation, padded.
+pub struct Transport {
+    pub operation: usize,
+    pub left: Monomial,
+    pub right: Monomial,
+    /// How many identities were added on the left and on the right.
+    pub added: (u64, u64),
+}
+
+/// (02, Paper 7) A monomial pair that is passed over is "counted once" "for the same left
+/// class, right class and operation": these, and both sides after padding. The last number is
+/// for slips.
+type PassedOver = (Pair, usize, Monomial, Monomial, (u64, u64));
 
 /// Monomial pairs met in building, for the counts of a comparison.
 #[derive(Clone, Copy, Debug, Default)]
@@ -49,7 +63,12 @@ pub struct Monomials {
 /// How building ended, if no refusal was met.
 pub enum Built {
     Whole(Graph),
-    Cut { entered: usize },
+    /// Those passed over until then are counted.
+    Cut {
+        entered: usize,
+        skipped: usize,
+        met: Monomials,
+    },
 }
 
 impl Graph {
@@ -65,16 +84,28 @@ impl Graph {
             pairs: Vec::new(),
             actions: Vec::new(),
             number: HashMap::new(),
+            passed_over: HashSet::new(),
             met: Monomials::default(),
         };
         graph.enter(root, slip)?;
         while graph.actions.len() < graph.pairs.len() {
+            let pair = graph.pairs[graph.actions.len()];
             if !budget.spend() {
+                if slip == Slip::SkippedExpired && pair.0 != pair.1 {
+                    let all = transports(image, pair, &mut Monomials::default(), slip);
+                    for wide in all.iter().filter(|one| one.skipped(slip)) {
+                        graph.pass_over(pair, wide, slip);
+                    }
+                }
                 return Ok(Built::Cut {
                     entered: graph.pairs.len(),
+                    skipped: match slip {
+                        Slip::SkippedCutNone => 0,
+                        _ => graph.skipped(),
+                    },
+                    met: graph.met,
                 });
             }
-            let pair = graph.pairs[graph.actions.len()];
             let mut actions = Vec::new();
             // "A class paired with itself has no actions."
             if pair.0 != pair.1 {
@@ -90,11 +121,20 @@ impl Graph {
                     });
                 }
                 let straight = actions.len();
-                for (operation, left, right) in transports(image, pair, &mut graph.met, slip) {
-                    if skipped(&left, &right, slip) && slip != Slip::SkippedCellsEntered {
-                        graph.met.skipped += 1;
-                        continue;
+                for transport in transports(image, pair, &mut graph.met, slip) {
+                    let wide = transport.skipped(slip);
+                    if wide {
+                        graph.pass_over(pair, &transport, slip);
+                        if slip != Slip::SkippedCellsEntered {
+                            continue;
+                        }
                     }
+                    let Transport {
+                        operation,
+                        left,
+                        right,
+                        ..
+                    } = transport;
                     // "In transport each row with each column whatever the plan."
                     let mut cells = Vec::new();
                     for &row in left.keys() {
@@ -102,7 +142,7 @@ impl Graph {
                             cells.push(graph.enter((row, column), slip)?);
                         }
                     }
-                    if skipped(&left, &right, slip) {
+                    if wide {
                         continue;
                     }
                     actions.push(Action::Transport {
@@ -121,6 +161,33 @@ impl Graph {
         Ok(Built::Whole(graph))
     }
 
+    /// "The number of monomial pairs passed over in building, zero included."
+    pub fn skipped(&self) -> usize {
+        self.passed_over.len()
+    }
+
+    fn pass_over(&mut self, pair: Pair, wide: &Transport, slip: Slip) {
+        self.met.skipped += 1;
+        let mut once = (
+            pair,
+            wide.operation,
+            wide.left.clone(),
+            wide.right.clone(),
+            (0, 0),
+        );
+        match slip {
+            Slip::SkippedUncounted => return,
+            Slip::SkippedTwice => once.4.0 = self.met.skipped,
+            Slip::SkippedByRows => once.3.clear(),
+            Slip::SkippedUnpadded => once.4 = wide.added,
+            Slip::SkippedPaddedApart => once.4.0 = u64::from(wide.added != (0, 0)),
+            Slip::SkippedOnceAPair => once.1 = 0,
+            Slip::SkippedOnceAQuery => once.0 = (0, 0),
+            _ => {}
+        }
+        self.passed_over.insert(once);
+    }
+
     /// The number of a pair; 12: "a pair beyond 4,096 would be entered".
     fn enter(&mut self, pair: Pair, slip: Slip) -> Result<usize, Refusal> {
         if let Some(&number) = self.number.get(&pair) {
@@ -137,6 +204,12 @@ impl Graph {
         self.pairs.push(pair);
         self.number.insert(pair, self.pairs.len() - 1);
         Ok(self.pairs.len() - 1)
+    }
+}
+
+impl Transport {
+    pub fn skipped(&self, slip: Slip) -> bool {
+        skipped(&self.left, &self.right, slip)
     }
 }
 
@@ -186,12 +259,7 @@ fn alignments(image: &Image, left: &Member, right: &Member, slip: Slip) -> Vec<(
 
 /// "An MSet or Set operation of either class acts by transport over each monomial
 /// pair, except both classes as themselves once." Operations rising, left outermost.
-pub fn transports(
-    image: &Image,
-    pair: Pair,
-    met: &mut Monomials,
-    slip: Slip,
-) -> Vec<(usize, Monomial, Monomial)> {
+pub fn transports(image: &Image, pair: Pair, met: &mut Monomials, slip: Slip) -> Vec<Transport> {
     let (left, right) = pair;
     let operations_of = |class: usize| -> Vec<usize> {
         image
@@ -221,11 +289,18 @@ pub fn transports(
                 let Some(padded) = pad(&l, &r, image.identity(operation), slip) else {
                     continue;
                 };
+                let total = |side: &Monomial| side.values().sum::<u64>();
+                let added = (total(&padded.0) - total(&l), total(&padded.1) - total(&r));
                 met.paired += 1;
-                met.padded += u64::from(padded != (l.clone(), r.clone()));
+                met.padded += u64::from(added != (0, 0));
                 met.with_itself += u64::from(l == itself(left) || r == itself(right));
                 met.empty_side += u64::from(padded.0.is_empty() || padded.1.is_empty());
-                found.push((operation, padded.0, padded.1));
+                found.push(Transport {
+                    operation,
+                    left: padded.0,
+                    right: padded.1,
+                    added,
+                });
             }
         }
     }

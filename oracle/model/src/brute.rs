@@ -5,9 +5,8 @@
 
 use std::collections::{BTreeSet, HashMap};
 
-use crate::action::{Monomials, Pair, structural, transports};
+use crate::action::{Monomials, Pair, Transport, structural, transports};
 use crate::image::Image;
-use crate::monomial::skipped;
 use crate::slip::Slip;
 
 type Qualities = BTreeSet<(u64, u64)>;
@@ -72,9 +71,11 @@ impl<'a> Derivations<'a> {
             found.push(joined.into_iter().map(|pair| (pair, 1)).collect());
         }
         let mut met = Monomials::default();
-        for (_, left, right) in transports(self.image, pair, &mut met, Slip::None) {
+        for transport in transports(self.image, pair, &mut met, Slip::None) {
+            let skipped = transport.skipped(Slip::None);
+            let Transport { left, right, .. } = transport;
             // "A monomial pair with an empty side has no plan."
-            if skipped(&left, &right, Slip::None) || left.is_empty() || right.is_empty() {
+            if skipped || left.is_empty() || right.is_empty() {
                 continue;
             }
             if left.values().sum::<u64>() > 12 {

@@ -1,6 +1,8 @@
 // SPDX-License-Identifier: Apache-2.0
 //! (02, Paper 6) "after each child, the list held is the monomial of the children read so far": the children are kept as
 //! they came, and the list is made of all of them, anew after each.
+//!
+//! (Paper 7) "Narrowing a monomial must say that it failed and at which entry (from 0) first."
 
 use std::collections::BTreeMap;
 
@@ -57,4 +59,9 @@ impl Children {
             .map(|(class, sum)| (class, count(sum)))
             .collect()
     }
+}
+
+/// The first entry of a list whose count is above 4,294,967,295, where there is one.
+pub fn too_large(list: &[(u64, u64)]) -> Option<usize> {
+    list.iter().position(|(_, count)| *count > 4_294_967_295)
 }

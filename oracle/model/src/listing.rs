@@ -15,8 +15,8 @@ pub fn listing(outcome: &Outcome, slip: Slip) -> String {
     };
     let (size, mass) = outcome.pool.nodes[outcome.root].quality;
     let mut text = format!(
-        "{status} pairs {} rounds {} size {size} mass {mass}\n",
-        outcome.pairs, outcome.rounds
+        "{status} pairs {} rounds {} size {size} mass {mass} skipped {}\n",
+        outcome.pairs, outcome.rounds, outcome.skipped
     );
     let mut order = Vec::new();
     finish(

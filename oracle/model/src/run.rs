@@ -49,6 +49,8 @@ pub struct Outcome {
     pub phase: Phase,
     pub pairs: usize,
     pub rounds: usize,
+    /// Monomial pairs passed over in building, each once for the same classes and operation.
+    pub skipped: usize,
     pub root: usize,
     pub pool: Pool,
     pub met: Met,
@@ -69,7 +71,12 @@ pub fn run(
     let graph = match Graph::build(image, (left, right), &mut budget, slip)? {
         Built::Whole(graph) => graph,
         // "A run cut short in building reports 1 pair, any other run n."
-        Built::Cut { entered } => {
+        Built::Cut {
+            entered,
+            skipped,
+            met: monomials,
+        } => {
+            met.monomials = monomials;
             return Ok(Outcome {
                 phase: Phase::Building,
                 pairs: if slip == Slip::BuildingPairs {
@@ -78,13 +85,14 @@ pub fn run(
                     1
                 },
                 rounds: 0,
+                skipped,
                 root,
                 pool,
                 met,
             });
         }
     };
-    let pairs = graph.pairs.len();
+    let (pairs, skipped) = (graph.pairs.len(), graph.skipped());
     met.monomials = graph.met;
     let mut terms = Vec::new();
     for &(left, right) in &graph.pairs {
@@ -93,6 +101,7 @@ pub fn run(
                 phase: Phase::StartingTerms,
                 pairs,
                 rounds: 0,
+                skipped,
                 root,
                 pool,
                 met,
@@ -142,6 +151,7 @@ pub fn run(
         phase,
         pairs,
         rounds,
+        skipped,
         root,
         pool,
         met,

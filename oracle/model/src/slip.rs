@@ -103,4 +103,14 @@ slips! {
     WithoutOne: "W is F × V",
     WithoutF: "W is V + 1",
     CapacityOfRow: "a cell takes the row's supply",
+    // The sample's third part: what is passed over
+    SkippedUncounted: "no skipped monomial pair is counted",
+    SkippedTwice: "a skipped monomial pair is counted each time",
+    SkippedByRows: "skipped monomial pairs with equal rows are counted once",
+    SkippedUnpadded: "skipped monomial pairs are told apart as they were before padding",
+    SkippedPaddedApart: "a padded pair and the same one without padding are counted apart",
+    SkippedOnceAPair: "a skipped monomial pair is counted once for all operations of two classes",
+    SkippedOnceAQuery: "a skipped monomial pair is counted once for all pairs of classes",
+    SkippedCutNone: "a run cut in building reports none skipped",
+    SkippedExpired: "the pair of classes whose check expired is counted too",
 }

@@ -5,15 +5,54 @@
 //! hold. After each child the answer, the number of terms and every number of the buffer are held to the model, which makes
 //! the list anew of all children added so far. Now and then a call says more terms than the buffer has: then it is refused
 //! and nothing changes.
+//!
+//! After each child the list is narrowed too, and so is a buffer of the same length with any numbers, many of them at the
+//! limit of 32 bits, by any number of terms: the first entry that fails is held to the model's.
 
 use std::collections::BTreeMap;
 
 use harness::children::{draw, states};
 use harness::rng::Rng;
-use tariff_merge::raw::{self, AddedChild};
+use model::children::too_large;
+use tariff_merge::raw::{self, AddedChild, NarrowedList};
 
-fn fuzz(seed: u64, count: u64) -> BTreeMap<u32, u64> {
+/// What the library says of so many terms, as the model does: of all terms of the buffer where it has no more.
+fn narrowed(buffer: &[u64], terms: usize) -> &'static str {
+    let list: Vec<(u64, u64)> = buffer
+        .chunks_exact(2)
+        .take(terms)
+        .map(|term| (term[0], term[1]))
+        .collect();
+    let (number, entry) = too_large(&list).map_or((0, 0), |entry| (1, entry));
+    assert_eq!(
+        raw::narrow(buffer, terms),
+        NarrowedList { number, entry },
+        "{terms} terms of {buffer:?}"
+    );
+    ["narrowed: fits", "narrowed: fails"][number as usize]
+}
+
+/// A buffer of any numbers, most of them small enough in most buffers, with two behind it that fail where one reads past
+/// its end; and how many terms a call says.
+fn any(rng: &mut Rng, numbers: usize) -> (Vec<u64>, usize) {
+    let rare = *rng.pick(&[1, 10, 100]);
+    let number = |rng: &mut Rng| match rng.once_in(rare) {
+        true => *rng.pick(&[1 << 32, (1 << 32) + 1, 1 << 33, 1 << 63, u64::MAX]),
+        false => *rng.pick(&[0, 1, 9, (1 << 32) - 2, (1 << 32) - 1]),
+    };
+    let terms = match rng.once_in(9) {
+        true => usize::MAX,
+        false => rng.range(0, numbers / 2 + 9),
+    };
+    let mut buffer: Vec<u64> = (0..numbers).map(|_| number(rng)).collect();
+    buffer.extend([u64::MAX; 2]);
+    (buffer, terms)
+}
+
+fn fuzz(seed: u64, count: u64) -> BTreeMap<&'static str, u64> {
     let mut rng = Rng::new(seed);
+    // of its own, so that a seed draws the same children with it and without
+    let mut others = Rng::new(!seed);
     let mut met = BTreeMap::new();
     let mut done = 0;
     while done < count {
@@ -46,7 +85,14 @@ fn fuzz(seed: u64, count: u64) -> BTreeMap<u32, u64> {
                 state.number, state.terms, state.buffer, stream.children
             );
             terms = added.terms;
-            *met.entry(added.number).or_insert(0) += 1;
+            let (other, said) = any(&mut others, numbers);
+            for what in [
+                ["added", "full", "overflow"][added.number as usize],
+                narrowed(&list, terms),
+                narrowed(&other[..numbers], said),
+            ] {
+                *met.entry(what).or_insert(0) += 1;
+            }
             done += 1;
         }
     }
@@ -63,9 +109,8 @@ fn main() {
         eprintln!("children SEED COUNT");
         std::process::exit(2);
     };
-    for (number, times) in fuzz(seed, count) {
-        let what = ["added", "full", "overflow"][number as usize];
+    for (what, times) in fuzz(seed, count) {
         println!("{times:>9}  {what}");
     }
-    println!("every child as promised");
+    println!("every child and every narrowed list as promised");
 }

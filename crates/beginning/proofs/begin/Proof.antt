@@ -74,28 +74,28 @@ returns-2 c =
     (rw (c .before .before .before .before .before .before .before .before .before .before .before .before .before .before .before .before .before .before .before .before .empty .ensures, c .before .before .before .before .before .before .before .before .before .before .before .before .before .before .before .before .before .before .before .before .before .before .before .size-u16 .ensures .0, c .before .before .before .before .before .before .before .before .before .before .before .before .before .before .before .before .before .before .before .before .before .before .size-u162 .ensures .0, c .before .before .before .before .before .before .before .e .given .1) at (c .before .before .before .before .before .before .before .before .before .before .before .before .before .before .evaluate-generalize-action .ensures)) _
     (rw (c .before .before .before .before .before .before .before .before .before .before .before .before .before .before .before .before .before .before .before .before .before .before .before .size-u16 .ensures .0, c .before .before .before .before .before .before .before .before .before .before .before .before .before .before .before .before .before .before .before .before .before .before .size-u162 .ensures .0, c .enum-told2 .given .1) at (c .before .before .before .before .build .ensures))
 
-enum-told-3 : tie.Need-enum-told-3
-enum-told-3 c = search needs
+enum-known-g : tie.Need-enum-known-g
+enum-known-g c = search needs
 
 same-length-6 : tie.Need-same-length-6
-same-length-6 c = omega (arith, c .before .before .before .before .build .kept)
+same-length-6 c = omega (arith, c .before .before .before .before .before .build .kept)
 
 same-length-7 : tie.Need-same-length-7
-same-length-7 c = omega (arith, c .before .before .before .before .before .before .before .before .before .before .before .before .before .before .before .before .before .before .before .before .empty .kept, c .before .before .before .before .before .before .before .before .before .before .before .before .before .before .evaluate-generalize-action .kept)
+same-length-7 c = omega (arith, c .before .before .before .before .before .before .before .before .before .before .before .before .before .before .before .before .before .before .before .before .before .empty .kept, c .before .before .before .before .before .before .before .before .before .before .before .before .before .before .before .evaluate-generalize-action .kept)
 
 same-length-8 : tie.Need-same-length-8
-same-length-8 c = omega (arith, c .before .before .before .before .before .before .before .before .before .before .before .before .before .before .before .before .before .before .before .before .empty .kept, c .before .before .before .before .before .before .before .before .before .before .before .before .before .before .evaluate-generalize-action .kept)
+same-length-8 c = omega (arith, c .before .before .before .before .before .before .before .before .before .before .before .before .before .before .before .before .before .before .before .before .before .empty .kept, c .before .before .before .before .before .before .before .before .before .before .before .before .before .before .before .evaluate-generalize-action .kept)
 
 returns-3 : tie.Need-returns-3
 returns-3 c =
-    let b = c .before .before .before .before .before .before .before .before .before .before .before .before .before .before .before .before .before .before .before .before .before .before .before .before .before .before .before .before in
+    let b = c .before .before .before .before .before .before .before .before .before .before .before .before .before .before .before .before .before .before .before .before .before .before .before .before .before .before .before .before .before in
     let a = b .args in
     begin-cut (limitsOf (a .lim)) (tablesOf (a .s .now)) (askedOf (a .q)) (a .q .budget) (a .im .classes) (a .graph .now) (a .terms .now) (a .runs .now) _ _ _ _ (omega (arith, b .pre .4 .long)) _
-    (rw (c .before .before .before .before .before .before .before .before .before .before .before .before .before .before .before .before .before .before .before .before .empty .ensures, c .before .before .before .before .before .before .before .before .before .before .before .before .before .before .before .before .before .before .before .before .before .before .before .size-u16 .ensures .0, c .before .before .before .before .before .before .before .before .before .before .before .before .before .before .before .before .before .before .before .before .before .before .size-u162 .ensures .0, c .before .before .before .before .before .before .before .e .given .1) at (c .before .before .before .before .before .before .before .before .before .before .before .before .before .before .evaluate-generalize-action .ensures)) _
-    (rw (c .before .before .before .before .before .before .before .before .before .before .before .before .before .before .before .before .before .before .before .before .before .before .before .size-u16 .ensures .0, c .before .before .before .before .before .before .before .before .before .before .before .before .before .before .before .before .before .before .before .before .before .before .size-u162 .ensures .0, c .enum-told3 .given .1) at (c .before .before .before .before .build .ensures))
+    (rw (c .before .before .before .before .before .before .before .before .before .before .before .before .before .before .before .before .before .before .before .before .before .empty .ensures, c .before .before .before .before .before .before .before .before .before .before .before .before .before .before .before .before .before .before .before .before .before .before .before .before .size-u16 .ensures .0, c .before .before .before .before .before .before .before .before .before .before .before .before .before .before .before .before .before .before .before .before .before .before .before .size-u162 .ensures .0, c .before .before .before .before .before .before .before .before .e .given .1) at (c .before .before .before .before .before .before .before .before .before .before .before .before .before .before .before .evaluate-generalize-action .ensures)) _ _
+    (rw (c .before .before .before .before .before .before .before .before .before .before .before .before .before .before .before .before .before .before .before .before .before .before .before .before .size-u16 .ensures .0, c .before .before .before .before .before .before .before .before .before .before .before .before .before .before .before .before .before .before .before .before .before .before .before .size-u162 .ensures .0, c .before .g .given .1) at (c .before .before .before .before .before .build .ensures))
 
-enum-known-g : tie.Need-enum-known-g
-enum-known-g c = search needs
+enum-known-g-2 : tie.Need-enum-known-g-2
+enum-known-g-2 c = search needs
 
 same-length-9 : tie.Need-same-length-9
 same-length-9 c = omega (arith, c .before .before .before .before .before .build .kept)
@@ -111,8 +111,8 @@ returns-4 c =
     let b = c .before .before .before .before .before .before .before .before .before .before .before .before .before .before .before .before .before .before .before .before .before .before .before .before .before .before .before .before .before in
     let a = b .args in
     begin-all (limitsOf (a .lim)) (tablesOf (a .s .now)) (askedOf (a .q)) (a .q .budget) (a .im .classes) (a .graph .now) (a .terms .now) (a .runs .now) _ _ _ _ (omega (arith, b .pre .4 .long)) _
-    (rw (c .before .before .before .before .before .before .before .before .before .before .before .before .before .before .before .before .before .before .before .before .before .empty .ensures, c .before .before .before .before .before .before .before .before .before .before .before .before .before .before .before .before .before .before .before .before .before .before .before .before .size-u16 .ensures .0, c .before .before .before .before .before .before .before .before .before .before .before .before .before .before .before .before .before .before .before .before .before .before .before .size-u162 .ensures .0, c .before .before .before .before .before .before .before .before .e .given .1) at (c .before .before .before .before .before .before .before .before .before .before .before .before .before .before .before .evaluate-generalize-action .ensures)) _ _ _
-    (rw (c .before .before .before .before .before .before .before .before .before .before .before .before .before .before .before .before .before .before .before .before .before .before .before .before .size-u16 .ensures .0, c .before .before .before .before .before .before .before .before .before .before .before .before .before .before .before .before .before .before .before .before .before .before .before .size-u162 .ensures .0, c .before .g .given .1) at (c .before .before .before .before .before .build .ensures))
+    (rw (c .before .before .before .before .before .before .before .before .before .before .before .before .before .before .before .before .before .before .before .before .before .empty .ensures, c .before .before .before .before .before .before .before .before .before .before .before .before .before .before .before .before .before .before .before .before .before .before .before .before .size-u16 .ensures .0, c .before .before .before .before .before .before .before .before .before .before .before .before .before .before .before .before .before .before .before .before .before .before .before .size-u162 .ensures .0, c .before .before .before .before .before .before .before .before .e .given .1) at (c .before .before .before .before .before .before .before .before .before .before .before .before .before .before .before .evaluate-generalize-action .ensures)) _ _ _ _
+    (rw (c .before .before .before .before .before .before .before .before .before .before .before .before .before .before .before .before .before .before .before .before .before .before .before .before .size-u16 .ensures .0, c .before .before .before .before .before .before .before .before .before .before .before .before .before .before .before .before .before .before .before .before .before .before .before .size-u162 .ensures .0, c .before .g2 .given .1) at (c .before .before .before .before .before .build .ensures))
 
 pub begin-spec : {M : Type 1} → statement M
 begin-spec =
@@ -134,12 +134,12 @@ begin-spec =
     same-length-4
     same-length-5
     returns-2
-    enum-told-3
+    enum-known-g
     same-length-6
     same-length-7
     same-length-8
     returns-3
-    enum-known-g
+    enum-known-g-2
     same-length-9
     same-length-10
     same-length-11

@@ -32,7 +32,7 @@ returns-2 : tie.Need-returns-2
 returns-2 c =
     let b = c .before .before .before .before .before .before .before .before .before in
     let a = b .args in
-    finish-cut (limitsOf (a .lim)) (tablesOf (a .s .now)) (askedOf (a .q)) (a .q .budget) (a .im .classes) (a .graph .now) (a .terms .now) (a .runs .now) (b .pre .1) (asked b) (b .pre .5) _ (a .b) (c .before .before .b2 .given .1) (b .pre .9) (c .report-started .result) (c .report-started .ensures)
+    finish-cut (limitsOf (a .lim)) (tablesOf (a .s .now)) (askedOf (a .q)) (a .q .budget) (a .im .classes) (a .graph .now) (a .terms .now) (a .runs .now) (b .pre .1) (asked b) (b .pre .5) _ _ (a .b) (c .before .before .b2 .given .1) (b .pre .9) (c .report-started .result) (c .report-started .ensures)
 
 enum-known-b-3 : tie.Need-enum-known-b-3
 enum-known-b-3 c = search needs
@@ -42,8 +42,8 @@ start-all-requires c κs =
     let b = c .before .before .before .before .before .before .before .before .before .before .before in
     let a = b .args in
     let e = c .before .before .before .before .b3 .given .1 in
-    let G = all-graphs (limitsOf (a .lim)) (tablesOf (a .s .now)) (askedOf (a .q)) (a .q .budget) (a .im .classes) (a .graph .now) (a .terms .now) (a .runs .now) (b .pre .1) (asked b) _ _ _ (a .b) e (b .pre .9) (classes-many (a .s .now) (a .im) (b .pre .0)) (b .pre .4) in
-    (b .pre .0, b .pre .1, omega (arith, G .few, b .pre .6), omega (arith, G .few, b .pre .4), G .pairs, omega (arith, G .few, b .pre .7), all-holds (limitsOf (a .lim)) (tablesOf (a .s .now)) (askedOf (a .q)) (a .q .budget) (a .im .classes) (a .graph .now) (a .terms .now) (a .runs .now) (b .pre .1) (asked b) _ _ _ (a .b) e (b .pre .9), b .pre .8, all-within (limitsOf (a .lim)) (tablesOf (a .s .now)) (askedOf (a .q)) (a .q .budget) (a .im .classes) (a .graph .now) (a .terms .now) (a .runs .now) (b .pre .1) (asked b) _ _ _ (a .b) e (b .pre .9))
+    let G = all-graphs (limitsOf (a .lim)) (tablesOf (a .s .now)) (askedOf (a .q)) (a .q .budget) (a .im .classes) (a .graph .now) (a .terms .now) (a .runs .now) (b .pre .1) (asked b) _ _ _ _ (a .b) e (b .pre .9) (classes-many (a .s .now) (a .im) (b .pre .0)) (b .pre .4) in
+    (b .pre .0, b .pre .1, omega (arith, G .few, b .pre .6), omega (arith, G .few, b .pre .4), G .pairs, omega (arith, G .few, b .pre .7), all-holds (limitsOf (a .lim)) (tablesOf (a .s .now)) (askedOf (a .q)) (a .q .budget) (a .im .classes) (a .graph .now) (a .terms .now) (a .runs .now) (b .pre .1) (asked b) _ _ _ _ (a .b) e (b .pre .9), b .pre .8, all-within (limitsOf (a .lim)) (tablesOf (a .s .now)) (askedOf (a .q)) (a .q .budget) (a .im .classes) (a .graph .now) (a .terms .now) (a .runs .now) (b .pre .1) (asked b) _ _ _ _ (a .b) e (b .pre .9))
 
 enum-told : tie.Need-enum-told
 enum-told c = search needs
@@ -64,7 +64,7 @@ returns-3 c =
     let e = c .before .before .before .before .before .before .before .before .before .before .before .before .before .b3 .given .1 in
     let s = c .before .before .before .before .before .before .before .before .start-all in
     let z = s .last .1 .1 .1 .1 .1 in
-    all-full (limitsOf (a .lim)) (tablesOf (a .s .now)) (askedOf (a .q)) (a .q .budget) (a .im .classes) (a .graph .now) (a .terms .now) (a .runs .now) (b .pre .1) (asked b) _ _ _ (a .b) e (b .pre .9) (classes-many (a .s .now) (a .im) (b .pre .0)) (b .pre .4) (z .0) (z .1 .0) (z .1 .1 .0) (s .result) (s .ensures) (c .enum-told .given .1)
+    all-full (limitsOf (a .lim)) (tablesOf (a .s .now)) (askedOf (a .q)) (a .q .budget) (a .im .classes) (a .graph .now) (a .terms .now) (a .runs .now) (b .pre .1) (asked b) _ _ _ _ (a .b) e (b .pre .9) (classes-many (a .s .now) (a .im) (b .pre .0)) (b .pre .4) (z .0) (z .1 .0) (z .1 .1 .0) (s .result) (s .ensures) (c .enum-told .given .1)
 
 enum-told-2 : tie.Need-enum-told-2
 enum-told-2 c = search needs
@@ -88,7 +88,7 @@ returns-4 c =
     let e = c .before .before .before .before .before .before .before .before .before .before .before .before .before .before .b3 .given .1 in
     let s = c .before .before .before .before .before .before .before .before .before .start-all in
     let z = s .last .1 .1 .1 .1 .1 in
-    all-cut (limitsOf (a .lim)) (tablesOf (a .s .now)) (askedOf (a .q)) (a .q .budget) (a .im .classes) (a .graph .now) (a .terms .now) (a .runs .now) (b .pre .1) (asked b) _ _ _ (a .b) e (b .pre .9) (classes-many (a .s .now) (a .im) (b .pre .0)) (b .pre .4) (z .0) (z .1 .0) (z .1 .1 .0) (s .result) (s .ensures) (b .pre .5) (c .before .enum-told2 .given .1) (c .report-started2 .result) (c .report-started2 .ensures)
+    all-cut (limitsOf (a .lim)) (tablesOf (a .s .now)) (askedOf (a .q)) (a .q .budget) (a .im .classes) (a .graph .now) (a .terms .now) (a .runs .now) (b .pre .1) (asked b) _ _ _ _ (a .b) e (b .pre .9) (classes-many (a .s .now) (a .im) (b .pre .0)) (b .pre .4) (z .0) (z .1 .0) (z .1 .1 .0) (s .result) (s .ensures) (b .pre .5) (c .before .enum-told2 .given .1) (c .report-started2 .result) (c .report-started2 .ensures)
 
 enum-known-x : tie.Need-enum-known-x
 enum-known-x c = search needs
@@ -109,7 +109,7 @@ returns-5 c =
     let e = c .before .before .before .before .before .before .before .before .before .before .before .before .before .before .b3 .given .1 in
     let s = c .before .before .before .before .before .before .before .before .before .start-all in
     let z = s .last .1 .1 .1 .1 .1 in
-    all-rounds (limitsOf (a .lim)) (tablesOf (a .s .now)) (askedOf (a .q)) (a .q .budget) (a .im .classes) (a .graph .now) (a .terms .now) (a .runs .now) (b .pre .1) (asked b) _ _ _ (a .b) e (b .pre .9) (classes-many (a .s .now) (a .im) (b .pre .0)) (b .pre .4) (z .0) (z .1 .0) (z .1 .1 .0) (s .result) (s .ensures) _ (c .before .x .given .1)
+    all-rounds (limitsOf (a .lim)) (tablesOf (a .s .now)) (askedOf (a .q)) (a .q .budget) (a .im .classes) (a .graph .now) (a .terms .now) (a .runs .now) (b .pre .1) (asked b) _ _ _ _ (a .b) e (b .pre .9) (classes-many (a .s .now) (a .im) (b .pre .0)) (b .pre .4) (z .0) (z .1 .0) (z .1 .1 .0) (s .result) (s .ensures) _ (c .before .x .given .1)
 
 pub start-spec : {M : Type 1} → statement M
 start-spec =

@@ -21,14 +21,17 @@ enum-told c = search needs
 enum-known-n : tie.Need-enum-known-n
 enum-known-n c = search needs
 
+is-large-requires : tie.Need-is-large-requires
+is-large-requires c κs = let b = c .before .before .before .before .before .before .before .before .before in (b .pre .0, b .pre .1)
+
 build-from-requires : tie.Need-build-from-requires
 build-from-requires c κs =
-    let b = c .before .before .before .before .before .before .before .before .before .before in
+    let b = c .before .before .before .before .before .before .before .before .before .before .before in
     let t = tablesOf (b .args .s .now) in
     let many = classes-many (b .args .s .now) (b .args .im) (b .pre .0) in
     let hl : b .args .l < length (t .classes) = omega (arith, b .pre .2, many) in
     let hr : b .args .r < length (t .classes) = omega (arith, b .pre .3, many) in
-    (b .pre .0, b .pre .1, first-graph (limitsOf (b .args .lim)) t (b .args .im .classes) (b .args .l) (b .args .r) (b .args .budget .left) (b .args .graph .now) (c .before .before .before .before .before .before .enter-pair .result) (c .before .before .before .before .before .before .enter-pair .ensures .grows) (c .before .before .n .given .0 .0) (c .before .before .n .given .1), first-pairs (limitsOf (b .args .lim)) t (b .args .im .classes) (b .args .l) (b .args .r) (b .args .budget .left) (b .args .graph .now) (c .before .before .before .before .before .before .enter-pair .result) (c .before .before .before .before .before .before .enter-pair .ensures .grows) (c .before .before .n .given .0 .0) (c .before .before .n .given .1) (hl, hr))
+    (b .pre .0, b .pre .1, first-graph (limitsOf (b .args .lim)) t (b .args .im .classes) (b .args .l) (b .args .r) (b .args .budget .left) (b .args .graph .now) (c .before .before .before .before .before .before .before .enter-pair .result) (c .before .before .before .before .before .before .before .enter-pair .ensures .grows) (c .before .before .before .n .given .0 .0) (c .before .before .before .n .given .1), first-pairs (limitsOf (b .args .lim)) t (b .args .im .classes) (b .args .l) (b .args .r) (b .args .budget .left) (b .args .graph .now) (c .before .before .before .before .before .before .before .enter-pair .result) (c .before .before .before .before .before .before .before .enter-pair .ensures .grows) (c .before .before .before .n .given .0 .0) (c .before .before .before .n .given .1) (hl, hr), c .before .is-large .ensures)
 
 same-length : tie.Need-same-length
 same-length c = search needs
@@ -43,8 +46,8 @@ same-length-2 c = search needs
 
 returns-2 : tie.Need-returns-2
 returns-2 c =
-    let b = c .before .before .before .before .before .before .before .before .before .before .before .before .before in
-    first-on (limitsOf (b .args .lim)) (tablesOf (b .args .s .now)) (b .args .im .classes) (b .args .l) (b .args .r) (b .args .budget .left) (b .args .graph .now) (c .before .before .before .before .before .before .before .before .before .enter-pair .result) (c .before .before .before .before .before .before .before .before .before .enter-pair .ensures .grows) (c .before .before .before .before .before .n .given .0 .0) (c .before .before .before .before .before .n .given .1) (c .before .before .build-from .result) (c .before .before .build-from .ensures)
+    let b = c .before .before .before .before .before .before .before .before .before .before .before .before .before .before in
+    first-on (limitsOf (b .args .lim)) (tablesOf (b .args .s .now)) (b .args .im .classes) (b .args .l) (b .args .r) (b .args .budget .left) (b .args .graph .now) (c .before .before .before .before .before .before .before .before .before .before .enter-pair .result) (c .before .before .before .before .before .before .before .before .before .before .enter-pair .ensures .grows) (c .before .before .before .before .before .before .n .given .0 .0) (c .before .before .before .before .before .before .n .given .1) (c .before .before .build-from .result) (c .before .before .build-from .ensures)
 
 pub build-first-spec : {M : Type 1} → statement M
 build-first-spec =
@@ -53,6 +56,7 @@ build-first-spec =
     enter-pair-requires
     enum-told
     enum-known-n
+    is-large-requires
     build-from-requires
     same-length
     returns

@@ -7,7 +7,7 @@ enum-known-x : tie.Need-enum-known-x
 enum-known-x c = search needs
 
 returns : tie.Need-returns
-returns c = rw (c .before .x .given .1) (answer-refused _ (c .before .before .before .before .before .before .before .args .out .now))
+returns c = rw (c .before .x .given .1) (answer-refused _ _ (c .before .before .before .before .before .before .before .args .out .now))
 
 enum-known-x-2 : tie.Need-enum-known-x-2
 enum-known-x-2 c = search needs

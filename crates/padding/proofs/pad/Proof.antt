@@ -1,5 +1,4 @@
-use Rattle.padding.proofs.Padding.{pads-unmatched, pads-pair, pads-wide, few-rows, few-cols}
-use mathlib.Core.Path.{_∙_}
+use Rattle.padding.proofs.Padding.{pads-unmatched, pads-pair, pads-wide}
 use borrow.Author.Needs.{needs}
 use Rattle.padding.proofs.pad.Statement.{statement}
 use Rattle.padding.proofs.pad.Tie as tie
@@ -34,18 +33,7 @@ level-requires-2 : tie.Need-level-requires-2
 level-requires-2 c κs = search needs
 
 both-narrow-requires : tie.Need-both-narrow-requires
-both-narrow-requires c κs =
-    let v = c .before .before .before .before in
-    let w = v .before .before .before .before in
-    let u = w .before .before .before in
-    let q = u .before in
-    let o = q .before .before in
-    let b = o .before .before .before .before in (
-      w .level .kept .0 ∙ b .pre .numbersLeft,
-      few-rows (b .args .id) (b .args .n) (b .args .m) (o .total .result) (q .total2 .result) (b .args .left .now) (b .args .right .now) (w .level .last .0) (v .level2 .last .0) (w .level .result) (v .level2 .result) (b .pre) (o .total .ensures) (q .total2 .ensures) (w .level .ensures) (v .level2 .ensures),
-      v .level2 .kept .0 ∙ b .pre .numbersRight,
-      few-cols (b .args .id) (b .args .n) (b .args .m) (o .total .result) (q .total2 .result) (b .args .left .now) (b .args .right .now) (w .level .last .0) (v .level2 .last .0) (w .level .result) (v .level2 .result) (b .pre) (o .total .ensures) (q .total2 .ensures) (w .level .ensures) (v .level2 .ensures),
-    )
+both-narrow-requires c κs = search needs
 
 same-length-3 : tie.Need-same-length-3
 same-length-3 c = search needs

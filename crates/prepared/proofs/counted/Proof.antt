@@ -28,7 +28,7 @@ returns-2 c = sym (ap (λ (z : Begun). countedAs z (c .before .before .before .b
 returns-3 : tie.Need-returns-3
 returns-3 c =
     let x = c .before .b3 .given in
-    ap (λ (n : ℕ). All (x .0 .0) n (x .0 .1 .1 .0)) (c .before .before .before .pairs-in .ensures) ∙ sym (ap (λ (z : Begun). countedAs z (c .before .before .before .before .args .c .pairs)) (x .1))
+    ap (λ (n : ℕ). All (x .0 .0) n (x .0 .1 .1 .0) (x .0 .1 .1 .1 .0)) (c .before .before .before .pairs-in .ensures) ∙ sym (ap (λ (z : Begun). countedAs z (c .before .before .before .before .args .c .pairs)) (x .1))
 
 pub counted-spec : {M : Type 1} → statement M
 counted-spec =

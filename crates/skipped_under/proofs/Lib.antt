@@ -1,0 +1,4 @@
+pub mod Terms
+pub mod Places
+pub mod Kins
+pub mod Under

@@ -1,0 +1,9 @@
+pub mod Facts
+pub mod Repeated
+pub mod Counted
+pub mod Levels
+pub mod Kin
+pub mod Members
+pub mod Large
+pub mod ByFacts
+pub mod Few
