@@ -46,8 +46,9 @@ bench:
 	cd bindings && cargo run --release --offline --quiet -p bench --bin judging
 	cd bindings && cargo run --release --offline --quiet -p bench --bin streaming
 
-# A million random and damaged inputs for the static library, and a million children in lists, narrowed after each, each answer and buffer held to the promises and to the model.
+# A million random and damaged inputs for the static library, 20,000 queries through both callers, with graphs at the limits of both, and a million children in lists, narrowed after each; each answer and buffer held to the promises and to the model.
 fuzz:
 	rt staticlib tariff
 	cd bindings && cargo run --release --offline --quiet -p bench --bin fuzz 1 1000000
+	cd bindings && cargo run --release --offline --quiet -p bench --bin callers 1 20000
 	cd bindings && cargo run --release --offline --quiet -p bench --bin children 1 1000000

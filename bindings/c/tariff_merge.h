@@ -2,7 +2,8 @@
 /*
  * The tariff merge with a C interface: libtariff.a, made by `rt staticlib tariff`, for x86-64 Linux.
  *
- * `tariff_merge` merges two classes of an image into a listing; `tariff_add_child` adds up a member's
+ * `tariff_merge` merges two classes of an image into a listing, for the account desk; `tariff_quote` does
+ * the same for the public quote page, which may hold fewer pairs; `tariff_add_child` adds up a member's
  * children as they arrive, and `tariff_narrow` says whether their counts have 32 bits. The same arguments
  * give the same answer: the library keeps nothing between calls, and calls with buffers of their own may
  * run at the same time.
@@ -11,9 +12,10 @@
  * length is 0), aligned for their type, with as many elements behind them as the length says, and no lent
  * buffer overlapping another or the image.
  *
- * Stack: `tariff_merge` needs up to TARIFF_STACK_BYTES of the calling thread's stack, since a query that
- * is too large for the lent buffers runs in arrays there, about 1.2 MB, and the listing is written by
- * recursion. The library does not test it: on a thread with less, an overflow ends the process.
+ * Stack: `tariff_merge` and `tariff_quote` need up to TARIFF_STACK_BYTES of the calling thread's stack,
+ * since a query that is too large for the lent buffers runs in arrays there, about 1.2 MB, and the listing
+ * is written by recursion. The library does not test it: on a thread with less, an overflow ends the
+ * process.
  */
 #ifndef TARIFF_MERGE_H
 #define TARIFF_MERGE_H
@@ -68,7 +70,9 @@ enum tariff_number {
     TARIFF_LITERAL = 10,
     /* a queried class is not in the image */
     TARIFF_QUERY = 11,
-    /* a pair of classes beyond 4,096 would be entered: ask smaller classes, or a smaller budget */
+    /* a pair of classes beyond the caller's limit would be entered, 4,096 with `tariff_merge` and 256 with
+       `tariff_quote`: ask smaller classes, or a smaller budget; what is too large for the quote page may
+       not be for the account desk */
     TARIFF_PAIRS_FULL = 12,
     /* a term beyond 16,384 or a run beyond 65,536 would be entered: the same */
     TARIFF_TERMS_FULL = 13,
@@ -97,12 +101,31 @@ struct tariff_lengths {
 struct tariff_lengths tariff_lengths(void);
 
 /*
- * The merge of class `left` with class `right` of the image, with a budget of checks.
+ * The merge of class `left` with class `right` of the image, with a budget of checks. It is the account
+ * desk's call: at most 4,096 pairs of classes.
  *
  * With TARIFF_WORK_SHORT every buffer is as it was. With any other number the work buffers are zero in
  * full. The output buffer changes only with a listing, and past the listing not at all.
  */
 struct tariff_returned tariff_merge(
+    const uint8_t *image, size_t image_bytes,
+    uint16_t left, uint16_t right, uint32_t budget,
+    uint16_t *graph, size_t graph_length,
+    uint32_t *pairs, size_t pairs_length,
+    uint64_t *work, size_t work_length,
+    uint64_t *flow, size_t flow_length,
+    uint32_t *terms, size_t terms_length,
+    uint64_t *runs, size_t runs_length,
+    uint8_t *out, size_t out_bytes);
+
+/*
+ * The same call for the public quote page: at most 256 pairs of classes, and TARIFF_PAIRS_FULL beyond.
+ *
+ * The work buffers have the same constant lengths, so that one set serves both. Where this call gives a
+ * listing, `tariff_merge` with the same arguments gives the same bytes and leaves every buffer the same;
+ * where it refuses with another number than TARIFF_PAIRS_FULL, `tariff_merge` refuses with that number.
+ */
+struct tariff_returned tariff_quote(
     const uint8_t *image, size_t image_bytes,
     uint16_t left, uint16_t right, uint32_t budget,
     uint16_t *graph, size_t graph_length,
@@ -131,6 +154,20 @@ static inline struct tariff_returned tariff_merge_in(
     uint8_t *out, size_t out_bytes)
 {
     return tariff_merge(
+        image, image_bytes, left, right, budget,
+        work->graph, TARIFF_GRAPH, work->pairs, TARIFF_PAIRS, work->work, TARIFF_WORK,
+        work->flow, TARIFF_FLOW, work->terms, TARIFF_TERMS, work->runs, TARIFF_RUNS,
+        out, out_bytes);
+}
+
+/* `tariff_quote` in these buffers: never TARIFF_WORK_SHORT. */
+static inline struct tariff_returned tariff_quote_in(
+    struct tariff_work *work,
+    const uint8_t *image, size_t image_bytes,
+    uint16_t left, uint16_t right, uint32_t budget,
+    uint8_t *out, size_t out_bytes)
+{
+    return tariff_quote(
         image, image_bytes, left, right, budget,
         work->graph, TARIFF_GRAPH, work->pairs, TARIFF_PAIRS, work->work, TARIFF_WORK,
         work->flow, TARIFF_FLOW, work->terms, TARIFF_TERMS, work->runs, TARIFF_RUNS,

@@ -1,5 +1,5 @@
 /* SPDX-License-Identifier: Apache-2.0 */
-/* The C interface on image E: listings at four budgets, and of a pair whose counts are too large; refusals 1, 2, 10, 11 and 14, and what each leaves in the buffers; the class with 10 on an image of literals. Children as they arrive: in front, joined, refused by a full list and by a count of 64 bits. Narrowing: at the limit and one above, and the first entry that fails. */
+/* The C interface on image E: listings at four budgets, and of a pair whose counts are too large; refusals 1, 2, 10, 11 and 14, and what each leaves in the buffers; the class with 10 on an image of literals. Both callers: the quote page at 255, 256 and 257 pairs, the account desk also at 4,096 and 4,097; 1 for each buffer. Children as they arrive: in front, joined, refused by a full list and by a count of 64 bits. Narrowing: at the limit and one above, and the first entry that fails. */
 #include <stdio.h>
 #include <string.h>
 
@@ -112,6 +112,120 @@ static void refused(struct tariff_returned r, uint32_t number, size_t class_numb
     expect(r.number == number && r.bytes == 0 && r.class_number == class_number, what);
     expect(all(out, sizeof out, 0x5a), "output untouched by a refusal");
     expect(all(&work, sizeof work, number == TARIFF_WORK_SHORT ? 0xa5 : 0), "work buffers after a refusal");
+}
+
+/* ---- both callers */
+
+static uint8_t *put(uint8_t *at, unsigned number, unsigned bytes)
+{
+    while (bytes > 0) {
+        bytes--;
+        *at++ = (uint8_t)(number >> (8 * bytes));
+    }
+    return at;
+}
+
+/* An image and its length. Operations 0 Lit, 1 MSet, 2 Seq; a class for each row and for each column, holding a
+   literal; behind them two classes, a sum of the rows and one of the columns, and pairs by position: the graph of
+   these two has rows * columns + 1 + more pairs. */
+static size_t graph_of(uint8_t *to, unsigned rows, unsigned columns, unsigned more)
+{
+    unsigned literals = rows + columns, children = rows + columns + 2 * more, i;
+    uint8_t *at = put(to + 4, 1, 1);
+    at = put(put(put(put(at, 3, 2), literals + 2, 2), literals + 4, 2), children, 2);
+    at = put(put(put(at, 0x0900ffff, 4), 0x0701ffff, 4), 0x0600ffff, 4);
+    for (i = 0; i < literals; i++)
+        at = put(put(put(put(at, i, 2), 1, 2), i, 2), 1, 4);
+    for (i = literals; i < literals + 4; i += 2)
+        at = put(put(put(put(at, i, 2), 2, 2), i, 2), rows + 1, 4);
+    for (i = 0; i < literals; i++)
+        at = put(put(put(at, 0, 2), i, 4), 0, 4);
+    at = put(put(put(put(at, 1, 2), 0, 4), 0, 2), rows, 2);
+    at = put(put(put(put(at, 2, 2), 0, 4), rows, 2), more, 2);
+    at = put(put(put(put(at, 1, 2), 0, 4), rows + more, 2), columns, 2);
+    at = put(put(put(put(at, 2, 2), 0, 4), rows + more + columns, 2), more, 2);
+    for (i = 0; i < rows; i++)
+        at = put(put(at, i, 2), 1, 4);
+    for (i = 0; i < more; i++)
+        at = put(put(at, i, 2), 1, 4);
+    for (i = 0; i < columns; i++)
+        at = put(put(at, rows + i, 2), i == 0 ? rows - columns + 1 : 1, 4);
+    for (i = 0; i < more; i++)
+        at = put(put(at, (i + 1) % rows, 2), 1, 4);
+    put(to, (unsigned)(at - to - 4), 4);
+    return (size_t)(at - to);
+}
+
+/* A complete listing of so many pairs, with every other byte and number as promised. */
+static void complete(struct tariff_returned r, unsigned pairs, const char *what)
+{
+    char first[64];
+    size_t length = (size_t)snprintf(first, sizeof first, "complete pairs %u rounds 1 ", pairs);
+    expect(r.number == TARIFF_LISTING && r.bytes > length && r.class_number == 0, what);
+    expect(memcmp(out, first, length) == 0 && out[r.bytes - 1] == '\n', what);
+    expect(all(out + r.bytes, sizeof out - r.bytes, 0x5a), "output past the listing untouched");
+    expect(all(&work, sizeof work, 0), "work buffers cleared");
+}
+
+static void callers(void)
+{
+    static const struct { unsigned rows, columns, more; } graphs[] = {
+        { 16, 15, 14 }, { 16, 15, 15 }, { 16, 15, 16 },
+        /* the same numbers of pairs, of more classes than the lent buffers have room for */
+        { 64, 3, 62 }, { 64, 3, 63 }, { 64, 3, 64 },
+        { 64, 63, 63 }, { 64, 63, 64 },
+    };
+    static uint8_t large_image[8192], quoted[sizeof out];
+    for (size_t i = 0; i < sizeof graphs / sizeof *graphs; i++) {
+        unsigned rows = graphs[i].rows, columns = graphs[i].columns, more = graphs[i].more;
+        unsigned pairs = rows * columns + 1 + more;
+        uint16_t left = (uint16_t)(rows + columns);
+        size_t length = graph_of(large_image, rows, columns, more);
+        char what[64];
+        snprintf(what, sizeof what, "%u pairs, %u rows", pairs, rows);
+
+        soil();
+        struct tariff_returned page = tariff_quote_in(&work, large_image, length, left, left + 1, UINT32_MAX, out, sizeof out);
+        if (pairs <= 256)
+            complete(page, pairs, what);
+        else
+            refused(page, TARIFF_PAIRS_FULL, 0, what);
+        memcpy(quoted, out, sizeof out);
+
+        soil();
+        struct tariff_returned desk = tariff_merge_in(&work, large_image, length, left, left + 1, UINT32_MAX, out, sizeof out);
+        if (pairs <= 4096)
+            complete(desk, pairs, what);
+        else
+            refused(desk, TARIFF_PAIRS_FULL, 0, what);
+        if (pairs <= 256)
+            expect(page.bytes == desk.bytes && memcmp(quoted, out, sizeof out) == 0, "the same bytes for both");
+
+        /* 14 last; one check, which enters all pairs, and none */
+        soil();
+        page = tariff_quote_in(&work, large_image, length, left, left + 1, UINT32_MAX, out, 0);
+        refused(page, pairs <= 256 ? TARIFF_OUTPUT_SHORT : TARIFF_PAIRS_FULL, 0, what);
+        soil();
+        page = tariff_quote_in(&work, large_image, length, left, left + 1, 1, out, 0);
+        refused(page, pairs <= 256 ? TARIFF_OUTPUT_SHORT : TARIFF_PAIRS_FULL, 0, what);
+        soil();
+        page = tariff_quote_in(&work, large_image, length, left, left + 1, 0, out, 0);
+        refused(page, TARIFF_OUTPUT_SHORT, 0, what);
+        soil();
+        page = tariff_quote_in(&work, large_image, length, left, left + 2, UINT32_MAX, out, 0);
+        refused(page, TARIFF_QUERY, 0, what);
+    }
+
+    /* a buffer one short: 1 for both, whatever else is wrong */
+    for (int i = 0; i < 12; i++) {
+        soil();
+        struct tariff_returned r = (i < 6 ? tariff_quote : tariff_merge)(image, 0, 9, 9, 14,
+            work.graph, TARIFF_GRAPH - (i % 6 == 0), work.pairs, TARIFF_PAIRS - (i % 6 == 1),
+            work.work, TARIFF_WORK - (i % 6 == 2), work.flow, TARIFF_FLOW - (i % 6 == 3),
+            work.terms, TARIFF_TERMS - (i % 6 == 4), work.runs, TARIFF_RUNS - (i % 6 == 5),
+            out, sizeof out);
+        refused(r, TARIFF_WORK_SHORT, 0, "refusal 1: a work buffer one short, for either caller");
+    }
 }
 
 /* After a call: the number, the terms, and every number of the list's array. */
@@ -228,6 +342,7 @@ int main(void)
     refused(tariff_merge_in(&work, clashes, sizeof clashes, 0, 1, 14, out, sizeof out), TARIFF_LITERAL, 1,
         "refusal 10: literal 20 in classes 2 and 3, literal 10 in classes 1 and 4");
 
+    callers();
     children();
     narrowing();
 

@@ -1,5 +1,5 @@
 #!/usr/bin/env python3
-# run.py [LABEL | mod:MODULE ..]: tries slips of slips.py, each on a copy of crate spec that is checked against the test modules of crates spec and samples one after the other, and prints what refuses it; those of modules Terms and Adding on a copy of these definitions, of crates monomial_terms and child_list, over the library in target/ (rt check spec). From the repository's root; --jobs N at a time (2).
+# run.py [LABEL | mod:MODULE ..]: tries slips of slips.py, each on a copy of crate spec that is checked against the test modules of crates spec and samples one after the other, and prints what refuses it; those of modules Terms and Adding on a copy of these definitions, of crates monomial_terms and child_list (with those of class_place between them), over the library in target/ (rt check spec). From the repository's root; --jobs N at a time (2).
 import os, queue, re, shutil, subprocess, sys, tempfile, threading
 
 from slips import SLIPS
@@ -10,12 +10,12 @@ home = os.path.dirname(os.path.dirname(os.path.realpath(shutil.which('rt'))))
 own = f'{home}/on/{os.uname().machine}'
 definitions = 'Bytes Image Monomial Transport Action Pool System Pairs Graph Round Run Listing Merge Meaning'.split()
 # groups of test modules, the quickest first; those of crate samples stand in the copy as modules of spec
-samples = 'Samples Slips Bounds Refusals Limits Skipped'.split()
-tests = [['Asked', 'Belonging', 'Lowest', 'Passed'], ['Asked', 'Edges', 'Found', 'Kept'], ['Asked', 'Skipped'], ['Asked', 'Slips'], ['Asked', 'Refusals'], ['Asked', 'Limits', 'Bounds'], ['Asked', 'Samples']]
+samples = 'Samples Slips Bounds Refusals Limits Skipped Callers'.split()
+tests = [['Asked', 'Belonging', 'Lowest', 'Passed'], ['Asked', 'Edges', 'Found', 'Kept'], ['Asked', 'Skipped'], ['Asked', 'Slips'], ['Asked', 'Refusals'], ['Asked', 'Limits', 'Bounds'], ['Asked', 'Callers'], ['Asked', 'Samples']]
 
 
 # definitions beside crate spec, with the crate of each; they stand in one copy with their tests, over spec and with the type of the code that they name
-beside = {'Terms': 'monomial_terms', 'Adding': 'child_list'}
+beside = {'Terms': 'monomial_terms', 'Standing': 'class_place', 'Adding': 'child_list'}
 beside_tests = ['Trials', 'Drawn']
 
 
@@ -32,7 +32,7 @@ def check(module, changes, group):
         for m in modules:
             text = open(f"{crates}/{'samples' if m in samples else beside.get(m, crate)}/specs/{m}.antt", encoding='utf-8').read()
             if module in beside:
-                text = text.replace('Rattle.monomial_terms.specs.', 'Rattle.child_list.specs.')
+                text = text.replace('Rattle.monomial_terms.specs.', 'Rattle.child_list.specs.').replace('Rattle.class_place.specs.', 'Rattle.child_list.specs.')
             else:
                 text = text.replace('Rattle.spec.', 'Rattle.spec.specs.')
             if m == module:
@@ -76,7 +76,7 @@ if '--jobs' in words:
     del words[i:i + 2]
 todo = queue.Queue()
 for module in definitions + list(beside):
-    for label, changes in SLIPS[module]:
+    for label, changes in SLIPS.get(module, []):
         if not words or label in words or 'mod:' + module in words:
             todo.put((label, module, changes))
 

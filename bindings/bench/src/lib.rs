@@ -1,10 +1,14 @@
 // SPDX-License-Identifier: Apache-2.0
-//! Queries for the bench and for the test of the stack: frames (image, left, right, budget).
+//! Queries for the bench, for the comparison of the callers and for the test of the stack: frames (image, left, right,
+//! budget).
+
+pub mod buffers;
 
 use harness::r#gen::{class, lit, over};
 use harness::img::{Class, Img, Member, Operation, Query};
 use harness::limits::{many_terms, pairs};
 use harness::{draw, draw_first, text};
+use tariff_merge::Caller;
 
 fn op(kind: u8) -> Operation {
     Operation {
@@ -57,6 +61,32 @@ pub fn cycles(left: usize, right: usize) -> Vec<u8> {
     frame(Img { ops, classes }, starts[0], starts[1])
 }
 
+/// 243 pairs, which the quote page may hold; the terms of 64 of them have up to 64 runs and are improved in 59 rounds: more
+/// than 65,536 runs, so that both callers are refused by 13.
+pub fn runs() -> Vec<u8> {
+    let mut classes = literals(2);
+    let mut roots = Vec::new();
+    for literal in 0..2 {
+        let mut tops = [literal; 2];
+        for _ in 1..60 {
+            classes.push(class(vec![over(1, &[tops[1]])]));
+            tops = [tops[1], classes.len() - 1];
+        }
+        let mut rows = Vec::new();
+        for row in 0..8 {
+            // a row's own three bits, each in eight places
+            let children: Vec<usize> = (0..64).map(|n| tops[(n + (row >> (n / 8))) % 2]).collect();
+            rows.push(classes.len());
+            classes.push(class(vec![over(2, &children)]));
+        }
+        roots.push(class(vec![over(3, &rows)]));
+    }
+    classes.extend(roots);
+    let (a, b) = (classes.len() - 2, classes.len() - 1);
+    let ops = vec![op(9), op(1), op(6), op(8)];
+    frame(Img { ops, classes }, a, b)
+}
+
 /// A transport of 65 rows (64 and the identity that pads them) and `columns` columns: with 60 its
 /// graph is near 4,096 pairs, with 61 it is refused (12).
 pub fn transport(columns: usize) -> Vec<u8> {
@@ -105,21 +135,41 @@ fn tariffs() -> Vec<Vec<u8>> {
 
 pub struct Family {
     pub name: &'static str,
+    pub caller: Caller,
+    /// What every call returns: 0, a listing, or the refusal that the family is about.
+    pub number: u32,
     pub frames: Vec<Vec<u8>>,
 }
 
 /// What the bench asks.
 pub fn families() -> Vec<Family> {
-    let family = |name, frames| Family { name, frames };
+    let family = |name, frames| Family {
+        name,
+        caller: Caller::Desk,
+        number: 0,
+        frames,
+    };
     let chains = many_terms(30);
     let n = chains.classes.len();
-    let full = pairs(4_096);
+    let full = frame(pairs(4_096), 127, 128);
     vec![
-        family("quote page: the examples' tariffs", tariffs()),
+        Family {
+            caller: Caller::Page,
+            ..family("quote page: the examples' tariffs", tariffs())
+        },
+        // The Rust has no page: it answers the whole query.
+        Family {
+            caller: Caller::Page,
+            number: 12,
+            ..family(
+                "quote page: graph of 4,096 pairs, refused by 12 (listed: its whole run)",
+                vec![full.clone()],
+            )
+        },
         family("drawn, family mixed", draw(7, 300, Some("mixed"))),
         family("drawn, all families", draw_first(7, 300)),
         family("transport of 65 × 60", vec![transport(60)]),
-        family("graph of 4,096 pairs", vec![frame(full, 127, 128)]),
+        family("graph of 4,096 pairs", vec![full]),
         family("terms: 30 × 30 chains", vec![frame(chains, n - 2, n - 1)]),
         family("rounds: cycles of 31 and 32", vec![cycles(31, 32)]),
         family("drawn, family skipped", draw(7, 300, Some("skipped"))),

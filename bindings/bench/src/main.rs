@@ -2,10 +2,11 @@
 //! The listed Rust and the static library on the same queries, in one process and one thread.
 //!
 //! listed: the listed Rust from the frame to the listing. snapshot: the part of it that reads the
-//! frame and makes the snapshot, before the run. library: `tariff_merge`, from the image to the listing, with
-//! its test of the image and with all work buffers cleared. Merger: the same through the safe
-//! interface, with the hand-over to its thread and with the listing parsed. Each number is the
-//! least of several passes over the family, in microseconds a query.
+//! frame and makes the snapshot, before the run. library: `tariff_merge`, or of the quote page's
+//! families `tariff_quote`, from the image to the listing, with its test of the image and with all
+//! work buffers cleared. Merger: the same through the safe interface, with the hand-over to its
+//! thread and with the listing parsed. Each number is the least of several passes over the family,
+//! in microseconds a query. Where the page refuses, the listed Rust's time is that of its whole run.
 
 use std::hint::black_box;
 use std::time::{Duration, Instant};
@@ -64,23 +65,24 @@ fn least(passes: usize, mut pass: impl FnMut()) -> Duration {
 }
 
 fn measure(family: &Family, work: &mut Work, merger: &mut Merger) {
+    let caller = family.caller;
     let mut asked = answered(family);
     let mut refused = 0;
     asked.retain(|(q, text)| {
         // SAFETY: `main` runs this on a thread with 64 MiB of stack.
-        let returned = unsafe { work.merge(q.image, q.left, q.right, q.budget) };
-        refused += usize::from(returned.number != 0);
-        returned.number != 0 || {
+        let returned = unsafe { work.merge_for(caller, q.image, q.left, q.right, q.budget) };
+        if returned.number == 0 {
             // The Rust does not write the first line's last field.
             let ours = as_the_rust(&work.output()[..returned.bytes]);
             assert!(
                 ours.as_deref() == Some(text.as_bytes()),
                 "the answers differ"
             );
-            true
         }
+        let kept = returned.number == family.number;
+        refused += usize::from(!kept);
+        kept
     });
-    asked.retain(|(q, _)| merger.merge(q.image, q.left, q.right, q.budget).is_ok());
     let count = asked.len();
     let listed = || {
         for (q, _) in &asked {
@@ -102,22 +104,24 @@ fn measure(family: &Family, work: &mut Work, merger: &mut Merger) {
         least(passes, || {
             for (q, _) in &asked {
                 // SAFETY: as above.
-                black_box(unsafe { work.merge(q.image, q.left, q.right, q.budget) });
+                black_box(unsafe { work.merge_for(caller, q.image, q.left, q.right, q.budget) });
             }
         }),
         least(passes, || {
             for (q, _) in &asked {
-                let _ = black_box(merger.merge(q.image, q.left, q.right, q.budget));
+                let _ = black_box(merger.merge_for(caller, q.image, q.left, q.right, q.budget));
             }
         }),
     ]
     .map(|time| time.as_secs_f64() * 1e6 / count as f64);
     let [listed, snapshot, library, safe] = times;
+    // two digits that say something
+    let ratio = |x: f64| format!("{x:.*}", if x < 0.1 { 3 } else { 2 });
     println!(
-        "| {} | {count} | {listed:.1} | {snapshot:.1} | {library:.1} | {safe:.1} | {:.2} | {:.2} |",
+        "| {} | {count} | {listed:.1} | {snapshot:.1} | {library:.1} | {safe:.1} | {} | {} |",
         family.name,
-        library / listed,
-        library / (listed - snapshot),
+        ratio(library / listed),
+        ratio(library / (listed - snapshot)),
     );
     if refused > 0 {
         println!("  ({refused} refused by a limit and left out)");

@@ -5,10 +5,18 @@ use harness::judge::Judge;
 use harness::{damage, draw, limits, skipped};
 use model::image::verdict;
 use model::slip::Slip;
-use tariff_merge::{Merger, Refusal};
+use tariff_merge::{Caller, Merger, Refusal};
 
 fn compare(frames: &[Vec<u8>]) {
-    let answers = Judge::parse("model").unwrap().answers(frames).unwrap();
+    compare_for(Caller::Desk, frames);
+}
+
+fn compare_for(caller: Caller, frames: &[Vec<u8>]) {
+    let judge = match caller {
+        Caller::Page => "page",
+        Caller::Desk => "model",
+    };
+    let answers = Judge::parse(judge).unwrap().answers(frames).unwrap();
     let mut merger = Merger::new();
     for (at, (frame, answer)) in frames.iter().zip(answers).enumerate() {
         // Without a query, or over 65,536 bytes, it is the program's refusal and not the call's.
@@ -21,7 +29,7 @@ fn compare(frames: &[Vec<u8>]) {
         let left = u16::from_be_bytes([a, b]);
         let right = u16::from_be_bytes([c, d]);
         let budget = u32::from_be_bytes([e, f, g, h]);
-        let merged = merger.merge(image, left, right, budget);
+        let merged = merger.merge_for(caller, image, left, right, budget);
         if let Err(Refusal::Literal { class }) = merged {
             let line = format!("refused 10 class {class}");
             assert_eq!(line, verdict(image, Slip::None), "frame {at}");
@@ -74,6 +82,16 @@ fn as_many_skipped_pairs_as_there_can_be() {
             .filter_map(|name| skipped::costly(name))
             .collect::<Vec<_>>(),
     );
+}
+
+#[test]
+fn both_callers() {
+    let mut frames = draw(9, 600, Some("page"));
+    frames.extend(draw(5, 1_000, None));
+    frames.extend(limits::callers().into_iter().map(|case| case.1));
+    for caller in [Caller::Page, Caller::Desk] {
+        compare_for(caller, &frames);
+    }
 }
 
 #[test]

@@ -3,6 +3,7 @@
 
 use bench::{cycles, transport};
 use harness::judge::unpack;
+use tariff_merge::Caller;
 use tariff_merge::raw::{STACK, Work};
 
 fn asked(frame: &[u8]) -> Option<(&[u8], u16, u16, u32)> {
@@ -22,10 +23,12 @@ fn the_stack_that_is_asked_is_enough() {
         let mut work = Work::new(1 << 20);
         let mut lines = 0;
         for (image, left, right, budget) in frames.iter().filter_map(|frame| asked(frame)) {
-            // SAFETY: what this test is about; an overflow ends it.
-            let returned = unsafe { work.merge(image, left, right, budget) };
-            let listing = &work.output()[..returned.bytes];
-            lines = listing.iter().filter(|byte| **byte == b'\n').count();
+            for caller in [Caller::Page, Caller::Desk] {
+                // SAFETY: what this test is about; an overflow ends it.
+                let returned = unsafe { work.merge_for(caller, image, left, right, budget) };
+                let listing = &work.output()[..returned.bytes];
+                lines = listing.iter().filter(|byte| **byte == b'\n').count();
+            }
         }
         assert!(lines > 4_032);
     };

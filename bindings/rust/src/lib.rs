@@ -20,6 +20,9 @@
 //! # }
 //! ```
 //!
+//! These are the account desk's calls; the public quote page asks with [`Caller::Page`]
+//! ([`Merger::merge_for`]), and is refused beyond 256 pairs of classes.
+//!
 //! A [`Monomial`] adds up a member's children as they arrive, and says whether their counts have the 32
 //! bits that the merge takes.
 //!
@@ -29,6 +32,7 @@
 #[cfg(not(all(target_arch = "x86_64", target_os = "linux")))]
 compile_error!("libtariff.a is for x86-64 Linux");
 
+mod caller;
 mod listing;
 mod merger;
 mod monomial;
@@ -37,6 +41,7 @@ mod reading;
 mod refusal;
 mod text;
 
+pub use caller::Caller;
 pub use listing::{Line, Listing, Run};
 pub use merger::{Merger, Query};
 pub use monomial::{Monomial, Terms, TooLarge, Unadded};

@@ -5,6 +5,7 @@ use std::io;
 use std::sync::mpsc::{Receiver, Sender, channel};
 use std::thread::{Builder, JoinHandle};
 
+use crate::caller::Caller;
 use crate::listing::Listing;
 use crate::raw::{Returned, STACK, Work};
 use crate::refusal::Refusal;
@@ -20,6 +21,7 @@ pub struct Query {
 /// The image and the queries travel to the thread and back, so that their room is kept too.
 #[derive(Default)]
 struct Job {
+    caller: Caller,
     image: Vec<u8>,
     queries: Vec<Query>,
     answers: Vec<(Returned, Vec<u8>)>,
@@ -81,9 +83,21 @@ impl Merger {
     }
 
     /// The merge of class `left` with class `right` of `image`: a listing, or why there is none.
-    /// `budget` is how many checks pass before the run is cut short.
+    /// `budget` is how many checks pass before the run is cut short. It is the account desk's call.
     pub fn merge(
         &mut self,
+        image: &[u8],
+        left: u16,
+        right: u16,
+        budget: u32,
+    ) -> Result<Listing, Refusal> {
+        self.merge_for(Caller::Desk, image, left, right, budget)
+    }
+
+    /// The same for the caller named.
+    pub fn merge_for(
+        &mut self,
+        caller: Caller,
         image: &[u8],
         left: u16,
         right: u16,
@@ -94,13 +108,24 @@ impl Merger {
             right,
             budget,
         };
-        let mut answers = self.merge_each(image, &[query]);
+        let mut answers = self.merge_each_for(caller, image, &[query]);
         answers.pop().expect("an answer to one query")
     }
 
-    /// The merges of one image, in the queries' order.
+    /// The merges of one image, in the queries' order, as the account desk asks for them.
     pub fn merge_each(&mut self, image: &[u8], queries: &[Query]) -> Vec<Result<Listing, Refusal>> {
+        self.merge_each_for(Caller::Desk, image, queries)
+    }
+
+    /// The same for the caller named.
+    pub fn merge_each_for(
+        &mut self,
+        caller: Caller,
+        image: &[u8],
+        queries: &[Query],
+    ) -> Vec<Result<Listing, Refusal>> {
         let mut job = self.spare.take().unwrap_or_default();
+        job.caller = caller;
         job.image.clear();
         job.image.extend_from_slice(image);
         job.queries.clear();
@@ -149,7 +174,15 @@ fn serve(mut work: Work, todo: &Receiver<Job>, give: &Sender<Job>) {
         job.answers.clear();
         for query in &job.queries {
             // SAFETY: this thread has 4 * STACK bytes of stack, and uses little of it above here.
-            let returned = unsafe { work.merge(&job.image, query.left, query.right, query.budget) };
+            let returned = unsafe {
+                work.merge_for(
+                    job.caller,
+                    &job.image,
+                    query.left,
+                    query.right,
+                    query.budget,
+                )
+            };
             let listing = work.output()[..returned.bytes].to_vec();
             job.answers.push((returned, listing));
         }

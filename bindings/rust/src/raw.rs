@@ -1,6 +1,8 @@
 // SPDX-License-Identifier: Apache-2.0
 //! The C interface as it is, and one set of buffers for it.
 
+use crate::caller::Caller;
+
 /// How many numbers each work buffer has at least.
 pub const GRAPH: usize = 4_352;
 pub const PAIRS: usize = 1_536;
@@ -54,9 +56,32 @@ unsafe extern "C" {
     /// The lengths above, as the library has them.
     pub safe fn tariff_lengths() -> Lengths;
 
-    /// Each pointer is valid for as many elements as the length after it says, no two
-    /// overlap, and the thread has [`STACK`] bytes of stack left.
+    /// The account desk's call. Each pointer is valid for as many elements as the length after it
+    /// says, no two overlap, and the thread has [`STACK`] bytes of stack left.
     pub fn tariff_merge(
+        image: *const u8,
+        image_bytes: usize,
+        left: u16,
+        right: u16,
+        budget: u32,
+        graph: *mut u16,
+        graph_length: usize,
+        pairs: *mut u32,
+        pairs_length: usize,
+        work: *mut u64,
+        work_length: usize,
+        flow: *mut u64,
+        flow_length: usize,
+        terms: *mut u32,
+        terms_length: usize,
+        runs: *mut u64,
+        runs_length: usize,
+        out: *mut u8,
+        out_bytes: usize,
+    ) -> Returned;
+
+    /// The quote page's call, with the same arguments and promises.
+    pub fn tariff_quote(
         image: *const u8,
         image_bytes: usize,
         left: u16,
@@ -89,6 +114,37 @@ unsafe extern "C" {
 
     /// The pointer is valid for as many numbers as the length after it says.
     pub fn tariff_narrow(list: *const u64, list_length: usize, terms: usize) -> NarrowedList;
+}
+
+/// [`tariff_merge`] and [`tariff_quote`].
+pub type Call = unsafe extern "C" fn(
+    *const u8,
+    usize,
+    u16,
+    u16,
+    u32,
+    *mut u16,
+    usize,
+    *mut u32,
+    usize,
+    *mut u64,
+    usize,
+    *mut u64,
+    usize,
+    *mut u32,
+    usize,
+    *mut u64,
+    usize,
+    *mut u8,
+    usize,
+) -> Returned;
+
+/// The caller's own function.
+pub fn call_of(caller: Caller) -> Call {
+    match caller {
+        Caller::Page => tariff_quote,
+        Caller::Desk => tariff_merge,
+    }
 }
 
 /// A child in a list of so many terms, each a class and its count, two numbers of the slice. After
@@ -135,16 +191,34 @@ impl Work {
         &self.out
     }
 
-    /// One call in these buffers.
+    /// One call of the account desk in these buffers.
     ///
     /// # Safety
     ///
     /// The calling thread has [`STACK`] bytes of stack left.
     pub unsafe fn merge(&mut self, image: &[u8], left: u16, right: u16, budget: u32) -> Returned {
+        // SAFETY: the same promise.
+        unsafe { self.merge_for(Caller::Desk, image, left, right, budget) }
+    }
+
+    /// One call in these buffers, which serve both callers.
+    ///
+    /// # Safety
+    ///
+    /// The calling thread has [`STACK`] bytes of stack left.
+    pub unsafe fn merge_for(
+        &mut self,
+        caller: Caller,
+        image: &[u8],
+        left: u16,
+        right: u16,
+        budget: u32,
+    ) -> Returned {
+        let call = call_of(caller);
         // SAFETY: each pointer and length is a slice's own; the mutable ones are seven boxes
-        // of `self`, so that none overlaps another or `image`; the stack is the caller's promise.
+        // of `self`, so that none overlaps another or `image`; the stack is this function's promise.
         unsafe {
-            tariff_merge(
+            call(
                 image.as_ptr(),
                 image.len(),
                 left,

@@ -29,7 +29,7 @@ pub enum Refusal {
     Literal { class: usize },
     /// 11
     Query,
-    /// 12
+    /// 12, at the caller's own limit: [`Caller::pairs`](crate::Caller::pairs)
     Pairs,
     /// 13
     Terms,
@@ -130,8 +130,9 @@ impl fmt::Display for Refusal {
                  the class table"
             }
             Refusal::Pairs => {
-                "the query needs more than 4,096 pairs of classes; ask for classes with fewer \
-                 members below them, or with a smaller budget"
+                "the query needs more pairs of classes than its caller may hold, 256 of the quote \
+                 page and 4,096 of the account desk; ask for classes with fewer members below them, or \
+                 with a smaller budget"
             }
             Refusal::Terms => {
                 "the query needs more than 16,384 terms or 65,536 runs; ask for smaller classes, \

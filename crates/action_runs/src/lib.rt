@@ -16,7 +16,7 @@ use actions::right_class;
 use arrays::term_of;
 use image::Image;
 use numbers::long_u32;
-use numbers::put_u64;
+use stores::put_u64;
 
 // The terms of a structural action's pairs, each once: how many.
 pub fn list_action(

@@ -38,13 +38,13 @@ fn insert(terms: &[u32], runs: &[u64], list: &mut [u64], i: usize, n: usize)
     while j + 1 < n {
         let y = list[j + 1];
         if !is_greater(terms, runs, terms::child(x), terms::child(y)) {
-            numbers::put_u64(list, j, x);
+            stores::put_u64(list, j, x);
             return;
         }
-        numbers::put_u64(list, j, y);
+        stores::put_u64(list, j, y);
         j += 1;
     }
-    numbers::put_u64(list, j, x);
+    stores::put_u64(list, j, x);
 }
 
 // the first n runs of list in the structural order of their children

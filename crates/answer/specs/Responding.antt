@@ -6,13 +6,14 @@ use Prim.Native.Nat.{ℕ, _+_}
 use lib.ListN.{length, take}
 use Rattle.spec.specs.Bytes.{be2, be4}
 use Rattle.spec.specs.Merge.{OUTPUT, programOf}
+use Rattle.spec.specs.declared.Caller.the-variants.{Desk}
 use Rattle.contract.specs.declared.Answer.{Answer}
 use Rattle.contract.specs.Merges.{fitOf, Merges}
 use Rattle.frames.specs.Printing.{Front}
 
--- the call of `merge` for a framed input
+-- the call for a framed input: program `merge` is the desk's
 abbrev pub Asks : List ℕ → Bool → List ℕ → List ℕ → Answer → Type 0
-Asks s fit out out′ a = Merges (take (be4 s 0 + 4) s) (be2 s (be4 s 0 + 4)) (be2 s (be4 s 0 + 4 + 2)) (be4 s (be4 s 0 + 4 + 4)) fit out out′ a
+Asks s fit out out′ a = Merges Desk (take (be4 s 0 + 4) s) (be2 s (be4 s 0 + 4)) (be2 s (be4 s 0 + 4 + 2)) (be4 s (be4 s 0 + 4 + 4)) fit out out′ a
 
 -- the buffers that the program lends
 pub record Rooms (a b c d e f out : List ℕ) : Type 0 where

@@ -6,7 +6,8 @@ use Prim.Native.Nat.{ℕ, _+_, _≤_}
 use lib.ListN.{length, take, drop}
 use lib.Seq.{length-take-le}
 use Rattle.spec.specs.Bytes.{be2, be4, Res, ok, refused}
-use Rattle.spec.specs.Merge.{OUTPUT, mergeOf, outputAfter, printed, answerTo, programOf}
+use Rattle.spec.specs.Merge.{OUTPUT, mergeFor, mergeOf, outputAfter, printed, answerTo, programOf}
+use Rattle.spec.specs.declared.Caller.the-variants.{Desk}
 use Rattle.decimals.specs.Writing.{Wrote}
 use Rattle.query.specs.declared.Query.{Query}
 use Rattle.contract.specs.declared.Answer.{Answer}
@@ -22,8 +23,8 @@ pub not-framed : (s out out′ : List ℕ) (r : ℕ) → framed s ≡ false → 
 unfolding programOf answerTo printed
 not-framed s out out′ r e A = rw e (wrote-front (refusalBytes 2) out out′ r A)
 
-asked-is : (s : List ℕ) → framed s ≡ true → answerTo s ≡ mergeOf true (take (be4 s 0 + 4) s) (be2 s (be4 s 0 + 4)) (be2 s (be4 s 0 + 4 + 2)) (be4 s (be4 s 0 + 4 + 4)) OUTPUT
-unfolding answerTo
+asked-is : (s : List ℕ) → framed s ≡ true → answerTo s ≡ mergeFor Desk true (take (be4 s 0 + 4) s) (be2 s (be4 s 0 + 4)) (be2 s (be4 s 0 + 4 + 2)) (be4 s (be4 s 0 + 4 + 4)) OUTPUT
+unfolding answerTo mergeOf
 asked-is s e = rw e refl
 
 pub responds : (s out out′ out″ : List ℕ) (fit : Bool) (a : Answer) (r : ℕ) → framed s ≡ true → fit ≡ true → length out ≡ OUTPUT → Asks s fit out out′ a → Prints out′ out″ a r → Responds s out out″ r
@@ -31,7 +32,7 @@ unfolding programOf printed outputAfter
 responds s out out′ out″ fit a r f q w m P = go a refl P
   where
     M : Res (List ℕ)
-    M = mergeOf fit (take (be4 s 0 + 4) s) (be2 s (be4 s 0 + 4)) (be2 s (be4 s 0 + 4 + 2)) (be4 s (be4 s 0 + 4 + 4)) (length out)
+    M = mergeFor Desk fit (take (be4 s 0 + 4) s) (be2 s (be4 s 0 + 4)) (be2 s (be4 s 0 + 4 + 2)) (be4 s (be4 s 0 + 4 + 4)) (length out)
 
     is : answerTo s ≡ M
     is = rw (q, w) (asked-is s f)
@@ -55,5 +56,5 @@ pub cleared-asked : (fit : Bool) {a a′ b b′ c c′ d d′ e e′ f f′ : Li
 cleared-asked fit q k = rw q at k
 
 -- the call that `ask` makes is the one that the input asks for
-pub asks-from : (s part : List ℕ) (n : ℕ) (q : Query) (fit : Bool) (out out′ : List ℕ) (a : Answer) → part ≡ take n s → n ≡ be4 s 0 + 4 → q ≡ queryOf s → Merges part (q .left) (q .right) (q .budget) fit out out′ a → Asks s fit out out′ a
+pub asks-from : (s part : List ℕ) (n : ℕ) (q : Query) (fit : Bool) (out out′ : List ℕ) (a : Answer) → part ≡ take n s → n ≡ be4 s 0 + 4 → q ≡ queryOf s → Merges (q .caller) part (q .left) (q .right) (q .budget) fit out out′ a → Asks s fit out out′ a
 asks-from s part n q fit out out′ a p e x m = rw (p, x, e) at m

@@ -33,19 +33,7 @@ fn ask(
 {
     let n = image_length(input);
     let q = query_of(input);
-    merge_plain(
-        &input[0..n],
-        q.left,
-        q.right,
-        q.budget,
-        graph,
-        pairs,
-        work,
-        flow,
-        terms,
-        runs,
-        out,
-    )
+    merge_plain(&input[0..n], q, graph, pairs, work, flow, terms, runs, out)
 }
 
 // The bytes that program `merge` writes for this input, at the front of `out`, and how many there are. The work buffers are cleared.

@@ -2,9 +2,8 @@
 ghost use mathlib.Core.Path.{_≡_};
 ghost use Prim.Native.Nat.{_+_, _*_, _/_, _%_, _≤_, _<_};
 ghost use lib.ListN.{length, getD};
-ghost use Rattle.arrays.specs.Arrays.{placeOf, numberIn, keyOf, unkey, given, qualityIn, termIn, Known};
-use numbers::at_u16;
-use numbers::put_u32;
+ghost use Rattle.arrays.specs.Arrays.{placeOf, numberIn, keyOf, unkey, qualityIn, termIn, Known};
+use stores::at_u16;
 
 // How many numbers a pair has in `pairs`: size, mass and term, then those that the round at hand gives it.
 pub const WIDTH: usize = 6;
@@ -87,14 +86,4 @@ pub fn term_of(graph: &[u16], pairs: &[u32], w: usize, l: usize, r: usize) -> u3
 {
     let at = begin_of(graph, pairs, w, l, r);
     pairs[at + TERM]
-}
-
-// One pair's size, mass and term, from place `at` on.
-pub fn give(pairs: &mut [u32], at: usize, size: u32, mass: u32, term: u32)
-    requires { ⌜ at + 2 < length (now pairs) ⌝ }
-    ensures { λ _. ⌜ now (pairs .exit) ≡ given (now (pairs .entry)) at size mass term ⌝ }
-{
-    put_u32(pairs, at, size);
-    put_u32(pairs, at + MASS, mass);
-    put_u32(pairs, at + TERM, term);
 }

@@ -49,15 +49,15 @@ fn build_best_term(
                 }
             }
             let d = members::child_class(s, im, k + i);
-            if numbers::at_u16(best, d) == 0 {
-                numbers::put_u16(&mut waiting, d, c + 1);
+            if stores::at_u16(best, d) == 0 {
+                stores::put_u16(&mut waiting, d, c + 1);
                 c = d;
                 continue 'outer;
             }
             i += 1;
         };
-        numbers::put_u16(best, c, t + 1);
-        let q = numbers::at_u16(&waiting, c);
+        stores::put_u16(best, c, t + 1);
+        let q = stores::at_u16(&waiting, c);
         if q == 0 {
             return Entered::Term(t);
         }
@@ -78,7 +78,7 @@ fn best_term(
     requires { ⌜ Holds (now terms) (now runs) × Loaded (now s) im × Valid (tablesOf (now s)) × (class < im .classes) × (length (now best) ≡ 256) × Kept (limitsOf lim) (tablesOf (now s)) (poolOf (now terms) (now runs)) (now best) × Rooms (limitsOf lim) (now terms) (now runs) ⌝ }
     ensures { λ r. ⌜ Builds (limitsOf lim) (tablesOf (now (s .entry))) (now (terms .entry)) (now (runs .entry)) (now (best .entry)) class (now (terms .exit)) (now (runs .exit)) (now (best .exit)) r ⌝ }
 {
-    let b = numbers::at_u16(best, class);
+    let b = stores::at_u16(best, class);
     if b == 0 {
         return build_best_term(lim, s, im, terms, runs, best, class);
     }

@@ -4,42 +4,21 @@ use mathlib.Core.Bool.{Bool, true, false}
 use mathlib.Core.List.{List}
 use Prim.Native.Nat.{ℕ, _+_, _-_, _*_, _/_, _≤_, _<_, _^_}
 use native.Mathlib.Omega.{arith}
-use borrow.Author.Tests.{lt-ltb, le-ltb, le-leb, lt-leb, ltb-true, ltb-false, leb-true, leb-false}
+use borrow.Author.Tests.{lt-ltb, le-ltb, leb-true, leb-false}
 use lib.Dec.{ltb, leb}
 use lib.ListN.{length}
 use Rattle.spec.specs.Bytes.{Two, pick}
 use Rattle.spec.specs.Monomial.{Monomial, insertAdd, monomial}
 use Rattle.laws.specs.Tests.{clash}
 use Rattle.laws.specs.Monomials.{monomial-more}
-use Rattle.monomial_terms.specs.Terms.{terms, rest, held, position, Holds}
+use Rattle.monomial_terms.specs.Terms.{rest, held, position, Holds}
 use Rattle.monomial_terms.specs.TermLaws.{two-each, same-buffer, held-full}
-use Rattle.child_list.specs.Adding.{places, countWith, addedOf, laid, listAfter, termsAfter, readAfter, Adds, stands, countThere, Fits}
+use Rattle.class_place.specs.Standing.{places, stands, countThere}
+use Rattle.class_place.specs.StandingLaws.{half-places}
+use Rattle.child_list.specs.Adding.{countWith, addedOf, laid, listAfter, termsAfter, readAfter, Adds, Fits}
 use Rattle.child_list.specs.AddLaws.{laid-terms, laid-rest, held-laid, hit-length, miss-length, hit-count, miss-count}
 use Rattle.child_list.specs.declared.Added.{Added}
 use Rattle.child_list.specs.declared.Added.the-variants.{Held, Full, Overflow}
-
-pub half-places : (s : List ℕ) → length s / 2 ≡ places s
-half-places s = omega (arith, two-each s)
-
--- ---- the two tests
-pub lacks-stood : (x y : Bool) → x ≡ true → false ≡ pick x false y
-lacks-stood x y e = rw e refl
-
-pub lacks-new : (x : Bool) (s : List ℕ) (n : ℕ) → x ≡ false → leb (length s / 2) n ≡ pick x false (leb (places s) n)
-lacks-new x s n e = rw (e, half-places s) refl
-
-over-test : (y k : ℕ) → k < 2 ^ 64 → ltb (18446744073709551615 - k) y ≡ leb (2 ^ 64) (y + k)
-over-test y k b = step (ltb (18446744073709551615 - k) y) refl
-  where
-    step : (x : Bool) → ltb (18446744073709551615 - k) y ≡ x → x ≡ leb (2 ^ 64) (y + k)
-    step true e = sym (le-leb (2 ^ 64) (y + k) (omega (arith, ltb-true (18446744073709551615 - k) y e)))
-    step false e = sym (lt-leb (2 ^ 64) (y + k) (omega (arith, ltb-false (18446744073709551615 - k) y e)))
-
-pub over-stood : (x : Bool) (y z k : ℕ) → x ≡ true → y ≡ z → k < 2 ^ 64 → ltb (18446744073709551615 - k) y ≡ pick x (leb (2 ^ 64) (z + k)) false
-over-stood x y z k e f b = rw (e, ← f) (over-test y k b)
-
-pub over-new : (x y : Bool) → x ≡ false → false ≡ pick x y false
-over-new x y e = rw e refl
 
 -- ---- a refusal leaves the list as it was
 refused-as : (n c k : ℕ) (s : List ℕ) (r : Added) → r ≡ addedOf n c k s → listAfter r n c k s ≡ s → ((l : List Two) → held n s ≡ monomial l → held (termsAfter r n) s ≡ monomial (readAfter r c k l)) → Adds n c k s s r

@@ -1,68 +1,20 @@
--- The scan for a class's place, and what add_at leaves.
+-- What add_at leaves.
 use mathlib.Core.Path.{_≡_, refl, sym, ap, _∙_}
 use mathlib.Core.Bool.{true, false}
 use mathlib.Core.List.{List, [], _∷_, _++_}
-use Prim.Native.Nat.{ℕ, zero, suc, _+_, _*_, _≤_, _<_, zero-le}
+use Prim.Native.Nat.{ℕ, zero, suc, _+_, _≤_, _<_, zero-le}
 use native.Mathlib.Numerals.{add-one}
 use native.Mathlib.Omega.{arith}
-use borrow.Author.Tests.{lt-ltb, le-ltb}
-use lib.Dec.{eqb}
-use lib.ListN.{length, take, drop, getD, set, take-append-drop, drop-of-length-le}
-use lib.Seq.{drop-cons, paste, take-take, take-add, drop-at, getD-take, length-take-le, set-append-left}
+use lib.ListN.{length, take, drop, getD, set, take-append-drop}
+use lib.Seq.{paste, take-take, take-add, drop-at, length-take-le, set-append-left}
 use Rattle.spec.specs.Bytes.{Two, sum}
 use Rattle.spec.specs.Monomial.{Monomial, insertAdd, total}
 use Rattle.monomial_terms.specs.Terms.{terms, held, position, Holds, Roomy}
-use Rattle.child_list.specs.Adding.{stands, countThere, Fits}
+use Rattle.class_place.specs.Standing.{stands}
+use Rattle.class_place.specs.StandingLaws.{stands-before, there}
+use Rattle.child_list.specs.Adding.{Fits}
 use Rattle.monomial_terms.specs.TermLaws.{two-each, held-full}
-use Rattle.child_list.specs.AddLaws.{stands-there, hit, miss, hit-length, miss-length}
-
--- ---- position
-module _ (c : ℕ) (m : Monomial) (i : ℕ) (h : i < length m) where
-  position-more : getD m i (0, 0) .0 < c → position c (drop i m) ≡ suc (position c (drop (suc i) m))
-  unfolding position
-  position-more l = rw (drop-cons m i (0, 0), lt-ltb (getD m i (0, 0) .0) c l) refl
-
-  position-stop : c ≤ getD m i (0, 0) .0 → position c (drop i m) ≡ 0
-  unfolding position
-  position-stop l = rw (drop-cons m i (0, 0), le-ltb (getD m i (0, 0) .0) c l) refl
-
-position-end : (c : ℕ) (m : Monomial) (i : ℕ) → length m ≤ i → position c (drop i m) ≡ 0
-unfolding position
-position-end c m i h = rw drop-of-length-le
-
--- the turns of the scan: x is the class at place i
-module _ (c : ℕ) (s : List ℕ) (n i x : ℕ) (b : 2 * n ≤ length s) (h : i < n) (e : x ≡ getD (terms s) i (0, 0) .0) where
-  class-is : getD (held n s) i (0, 0) .0 ≡ x
-  class-is = ap (λ (t : Two). t .0) (getD-take n (terms s) i (0, 0) h) ∙ sym e
-
-  pub scan-more : x < c → position c (drop i (held n s)) ≡ suc (position c (drop (suc i) (held n s)))
-  scan-more f = position-more c (held n s) i (rw (held-full n s b) h) (rw class-is f)
-
-  pub scan-stop : c ≤ x → position c (drop i (held n s)) ≡ 0
-  scan-stop f = position-stop c (held n s) i (rw (held-full n s b) h) (rw class-is f)
-
-pub scan-end : (c : ℕ) (s : List ℕ) (n i : ℕ) → 2 * n ≤ length s → n ≤ i → position c (drop i (held n s)) ≡ 0
-scan-end c s n i b h = position-end c (held n s) i (rw (held-full n s b) h)
-
--- ---- the class at its place
-module _ (c : ℕ) (s : List ℕ) (n p : ℕ) (b : 2 * n ≤ length s) (e : p ≡ position c (held n s)) where
-  pub stands-read : (x : ℕ) → p < n → x ≡ getD (terms s) p (0, 0) .0 → eqb x c ≡ stands c (held n s)
-  unfolding stands
-  stands-read x h f =
-      let l : position c (held n s) < length (held n s) = rw (← e, held-full n s b) h in
-      let g : getD (held n s) (position c (held n s)) (0, 0) .0 ≡ x = rw (← e) (ap (λ (t : Two). t .0) (getD-take n (terms s) p (0, 0) h) ∙ sym f) in
-      rw (lt-ltb (position c (held n s)) (length (held n s)) l, g) refl
-
-  pub stands-past : n ≤ p → false ≡ stands c (held n s)
-  unfolding stands
-  stands-past h = let l : length (held n s) ≤ position c (held n s) = rw (← e, held-full n s b) h in rw (le-ltb (position c (held n s)) (length (held n s)) l) refl
-
-  -- c stands there: before the list's end, with its count
-  pub stands-before : stands c (held n s) ≡ true → p < n
-  stands-before t = omega (arith, stands-there c (held n s) t .0, held-full n s b)
-
-  pub there : (y : ℕ) → stands c (held n s) ≡ true → y ≡ getD (terms s) p (0, 0) .1 → y ≡ countThere c (held n s)
-  there y t f = f ∙ sym (ap (λ (x : Two). x .1) (getD-take n (terms s) p (0, 0) (stands-before t))) ∙ ap (λ (i : ℕ). getD (held n s) i (0, 0) .1) e
+use Rattle.child_list.specs.AddLaws.{hit, miss, hit-length, miss-length}
 
 -- ---- what add_at leaves
 paste-split : (l : List Two) (p q : ℕ) (t : Two) → p + q < length l

@@ -5,15 +5,17 @@ use mathlib.Core.List.{List, [], _∷_, _++_}
 use Prim.Native.Nat.{ℕ, suc, _+_, _≤_, _<_, suc-le-suc, zero-le}
 use native.Mathlib.Nat.{not-suc-le-zero, le-of-suc-le-suc}
 use native.Mathlib.Omega.{arith}
-use borrow.Author.Tests.{lt-ltb, eq-eqb, ne-eqb, ltb-true, eqb-true}
+use borrow.Author.Tests.{lt-ltb, eq-eqb, ne-eqb}
 use lib.Dec.{ltb, eqb}
 use lib.ListN.{length, take, drop, getD, set, length-append, length-take, length-drop, length-set}
 use lib.Seq.{take-at, getD-at, getD-set-same, length-take-le}
 use Rattle.spec.specs.Bytes.{Two, pick}
 use Rattle.spec.specs.Monomial.{Monomial, insertAdd}
-use Rattle.laws.specs.Tests.{both-true, clash}
+use Rattle.laws.specs.Tests.{clash}
 use Rattle.monomial_terms.specs.Terms.{terms, rest, held, position, front}
-use Rattle.child_list.specs.Adding.{places, countWith, laid, stands, countThere}
+use Rattle.class_place.specs.Standing.{places, stands, countThere}
+use Rattle.class_place.specs.StandingLaws.{stands-there}
+use Rattle.child_list.specs.Adding.{countWith, laid}
 
 -- ---- buffers
 pub laid-terms : (m : Monomial) (s : List ℕ) → length m ≤ places s → terms (laid m s) ≡ front m (terms s)
@@ -44,12 +46,6 @@ position-le c (t ∷ m) = step (ltb (t .0) c) (position-le c m)
     step false h = zero-le
 
 module _ (c : ℕ) (m : Monomial) where
-  pub stands-there : stands c m ≡ true → (position c m < length m) × (getD m (position c m) (0, 0) .0 ≡ c)
-  unfolding stands
-  stands-there e =
-      let (a, b) = both-true (ltb (position c m) (length m)) (eqb (getD m (position c m) (0, 0) .0) c) .0 e in
-      (ltb-true (position c m) (length m) a, eqb-true (getD m (position c m) (0, 0) .0) c b)
-
   stands-by : position c m < length m → getD m (position c m) (0, 0) .0 ≡ c → stands c m ≡ true
   unfolding stands
   stands-by h e = rw (lt-ltb (position c m) (length m) h, eq-eqb (getD m (position c m) (0, 0) .0) c e) refl

@@ -1,19 +1,16 @@
 -- (02, Paper 6) "equal classes should be added up as each child is read, inserted in place": a list of n terms in a lent buffer, and one child more, of class c and count k.
 use mathlib.Core.Path.{_≡_}
-use mathlib.Core.Bool.{Bool, true, false}
+use mathlib.Core.Bool.{true, false}
 use mathlib.Core.List.{List, [], _∷_, _++_}
 use Prim.Native.Nat.{ℕ, _+_, _*_, _≤_, _<_, _^_}
-use lib.Dec.{ltb, eqb}
+use lib.Dec.{ltb}
 use lib.ListN.{length, drop, getD}
-use Rattle.spec.specs.Bytes.{Two, pick, both}
+use Rattle.spec.specs.Bytes.{Two, pick}
 use Rattle.spec.specs.Monomial.{Monomial, insertAdd, monomial}
 use Rattle.monomial_terms.specs.Terms.{terms, held, position}
+use Rattle.class_place.specs.Standing.{places, stands, countThere}
 use Rattle.child_list.specs.declared.Added.{Added}
 use Rattle.child_list.specs.declared.Added.the-variants.{Held, Full, Overflow}
-
--- how many terms a buffer has places for
-abbrev pub places : List ℕ → ℕ
-places s = length (terms s)
 
 -- the count that class c has with k more
 abbrev pub countWith : ℕ → ℕ → Monomial → ℕ
@@ -58,15 +55,6 @@ pub record Adds (n c k : ℕ) (s s′ : List ℕ) (r : Added) : Type 0 where
   pub monomial-of : (l : List Two) → held n s ≡ monomial l → held (termsAfter r n) s′ ≡ monomial (readAfter r c k l)
 
 -- ---- for the private functions
--- class c stands in the list
-unfoldable pub stands : ℕ → Monomial → Bool
-unfolding position
-stands c m = both (ltb (position c m) (length m)) (eqb (getD m (position c m) (0, 0) .0) c)
-
--- the count at c's place
-abbrev pub countThere : ℕ → Monomial → ℕ
-countThere c m = getD m (position c m) (0, 0) .1
-
 -- The list is in its buffer, c's place is p, and there is room for k more of it.
 pub record Fits (n p c k : ℕ) (s : List ℕ) : Type 0 where
   pub listed : 2 * n ≤ length s

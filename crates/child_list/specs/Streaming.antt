@@ -14,7 +14,8 @@ use Rattle.laws.specs.Tests.{clash}
 use Rattle.laws.specs.Monomials.{Rising, end, more, monomial-rises, monomial-more, monomial-counts}
 use Rattle.monomial_terms.specs.Terms.{terms, held, position}
 use Rattle.monomial_terms.specs.TermLaws.{two-each, grow}
-use Rattle.child_list.specs.Adding.{places, countWith, addedOf, laid, listAfter, termsAfter, readAfter, Adds}
+use Rattle.class_place.specs.Standing.{places}
+use Rattle.child_list.specs.Adding.{countWith, addedOf, laid, listAfter, termsAfter, readAfter, Adds}
 use Rattle.child_list.specs.AddLaws.{laid-terms}
 use Rattle.child_list.specs.declared.Added.{Added}
 use Rattle.child_list.specs.declared.Added.the-variants.{Held, Full, Overflow}

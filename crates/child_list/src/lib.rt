@@ -1,15 +1,16 @@
 // A member's children as they arrive (02, Paper 6): each is added to its class, at the class's place in the rising order, in a lent buffer.
 ghost use mathlib.Core.Path.{_≡_};
-ghost use mathlib.Core.Bool.{false};
 ghost use mathlib.Core.List.{_∷_};
-ghost use Prim.Native.Nat.{_+_, _*_, _≤_, _<_, _^_};
-ghost use lib.Dec.{leb};
+ghost use Prim.Native.Nat.{_+_, _*_, _<_};
 ghost use lib.ListN.{length, set, drop};
 ghost use lib.Seq.{paste};
-ghost use Rattle.spec.specs.Bytes.{pick};
 ghost use Rattle.spec.specs.Monomial.{insertAdd};
-ghost use Rattle.monomial_terms.specs.Terms.{terms, rest, held, position, Holds, Roomy};
-ghost use Rattle.child_list.specs.Adding.{Adds, Fits, stands, countThere, places};
+ghost use Rattle.monomial_terms.specs.Terms.{terms, rest, held, Holds, Roomy};
+ghost use Rattle.child_list.specs.Adding.{Adds, Fits};
+use class_place::lacks_place;
+use class_place::overflows;
+use class_place::place;
+use class_place::stands_at;
 use monomial_terms::class_at;
 use monomial_terms::count_at;
 
@@ -20,21 +21,6 @@ fn put_term(mono: &mut [u64], i: usize, c: u64, k: u64)
     let at = 2 * i;
     mono[at] = c;
     mono[at + 1] = k;
-}
-
-// The first of n places whose class is not below c.
-fn place(mono: &[u64], n: usize, c: u64) -> usize
-    requires { ⌜ 2 * n ≤ length (now mono) ⌝ }
-    ensures { λ r. ⌜ (r ≡ position c (held n (now (mono .entry)))) × (r ≤ n) ⌝ }
-{
-    let mut i = 0;
-    while i < n {
-        if class_at(mono, i) >= c {
-            return i;
-        }
-        i += 1;
-    }
-    i
 }
 
 // The term (c, k) at place p, and the n terms that stood there one place up.
@@ -53,17 +39,6 @@ fn insert_term(mono: &mut [u64], p: usize, n: usize, c: u64, k: u64)
         y = u;
         j += 1;
     }
-}
-
-// Class c stands in the list, at its place p.
-fn stands_at(mono: &[u64], n: usize, p: usize, c: u64) -> bool
-    requires { ⌜ (2 * n ≤ length (now mono)) × (p ≡ position c (held n (now mono))) ⌝ }
-    ensures { λ r. ⌜ r ≡ stands c (held n (now (mono .entry))) ⌝ }
-{
-    if p < n {
-        return class_at(mono, p) == c;
-    }
-    false
 }
 
 // k more of class c, whose place is p, in the list of n terms: how many terms it has then.
@@ -97,28 +72,6 @@ pub enum Added {
     Full,
     // the count of the child's class would pass 64 bits
     Overflow,
-}
-
-// Class c is new, and the n terms take every place.
-fn lacks_place(mono: &[u64], n: usize, p: usize, c: u64) -> bool
-    requires { ⌜ (2 * n ≤ length (now mono)) × (p ≡ position c (held n (now mono))) ⌝ }
-    ensures { λ r. ⌜ r ≡ pick (stands c (held n (now (mono .entry)))) false (leb (places (now (mono .entry))) n) ⌝ }
-{
-    if stands_at(mono, n, p, c) {
-        return false;
-    }
-    mono.len() / 2 <= n
-}
-
-// Class c stands in the list, and k more would pass 64 bits.
-fn overflows(mono: &[u64], n: usize, p: usize, c: u64, k: u64) -> bool
-    requires { ⌜ (2 * n ≤ length (now mono)) × (p ≡ position c (held n (now mono))) ⌝ }
-    ensures { λ r. ⌜ r ≡ pick (stands c (held n (now (mono .entry)))) (leb (2 ^ 64) (countThere c (held n (now (mono .entry))) + k)) false ⌝ }
-{
-    if stands_at(mono, n, p, c) {
-        return count_at(mono, p) > 18446744073709551615 - k;
-    }
-    false
 }
 
 // A child of class c and count k in the list of n terms. After each child the list held is the monomial of the children read so far; a child that is refused leaves it as it was.

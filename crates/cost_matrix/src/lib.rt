@@ -6,7 +6,7 @@ ghost use Rattle.spec.specs.Transport.{cost, WIDEST};
 ghost use Rattle.wide.specs.Value.{unsigned};
 ghost use Rattle.cost_matrix.specs.Matrix.{costOf, celled, laidCell};
 use numbers::long_u32;
-use numbers::put_u64;
+use stores::put_u64;
 use weights::cell_cost;
 use weights::least;
 use wide::Wide;

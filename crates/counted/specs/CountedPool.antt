@@ -14,7 +14,8 @@ use Rattle.spec.specs.Image.{Tables, Member, Lit, kindOf, bestSize, bestMember,
 use Rattle.spec.specs.Pool.{Node, Pool, TERMS, RUNS, sameNode, runCount, Interned, interned, intern, opNode, litNode, variantsNode, Children, childTerms, bestTermIn, bestTerm, startingTerm}
 use Rattle.spec.specs.System as system
 use Rattle.spec.specs.Round.{Act, Choice, stay, act, planRuns, actionTerm, choiceTerm}
-use Rattle.spec.specs.Run.{documentLimits}
+use Rattle.spec.specs.Run.{limitsFor}
+use Rattle.spec.specs.declared.Caller.{Caller}
 use Rattle.spec.specs.Meaning.{In, here, there, Term, lit, node, Runs, run, runsOf, treeOf, treesAfter, treeAt}
 use Rattle.laws.specs.Valid.{Valid}
 use Rattle.laws.specs.Lists.{Distinct, none, more, in-get}
@@ -78,9 +79,10 @@ no-room : (a b : Bool) → both a b ≡ false → (a ≡ false) ⊎ (b ≡ false
 no-room true b e = inr e
 no-room false b e = inl refl
 
-pub intern-goes : {C : Term → Type 0} (p : Pool) (n : Node) (x : Term) → Kept C p → NodeValid (length p) n → treeOf (treesAfter [] p) n ≡ x → C x → Goes C (Entered C p x) (intern documentLimits p n)
+-- `who`: either caller (02, Paper 9), since both have the same limits of terms and runs
+pub intern-goes : (who : Caller) {C : Term → Type 0} (p : Pool) (n : Node) (x : Term) → Kept C p → NodeValid (length p) n → treeOf (treesAfter [] p) n ≡ x → C x → Goes C (Entered C p x) (intern (limitsFor who) p n)
 unfolding intern
-intern-goes {C} p n x K w e c = go (ltb (place (sameNode n) p) (length p)) refl (both (ltb (length p) TERMS) (leb (runCount p + length (n .runs)) RUNS)) refl (λ r z. intern-enters documentLimits p n r (K .valid) w z)
+intern-goes who {C} p n x K w e c = go (ltb (place (sameNode n) p) (length p)) refl (both (ltb (length p) TERMS) (leb (runCount p + length (n .runs)) RUNS)) refl (λ r z. intern-enters (limitsFor who) p n r (K .valid) w z)
   where
     -- with the new term the pool holds terms of the kind alone
     larger : Interns p n (interned (p ++ (n ∷ [])) (length p)) → Kept C (p ++ (n ∷ []))
@@ -153,52 +155,52 @@ module _ (t : Tables) (v : Valid t) where
       m : Member
       m = bestMember t c
 
-  module _ (C : Term → Type 0) (best : (c : ℕ) → IsClass t c → C (bestTree t c)) where
-    best-goes : (f : ℕ) (p : Pool) (c : ℕ) → IsClass t c → bestSize t c ≤ f → Kept C p → Goes C (Entered C p (bestTree t c)) (bestTermIn documentLimits f t p c)
-    unfolding bestTermIn
-    best-goes zero p c h a K = let z = v .best .bestRange c h .0 in absurd (omega arith)
-    best-goes (suc f) p c h a K =
-        go (eqb (kindOf t (m .op)) Lit) (best-tree c h) (λ d i q L. let z = best-falls t v c h d i in best-goes f q (d .0) (child-within t v m c (best-in t v c h) d i) (omega arith) L)
-      where
-        m : Member
-        m = bestMember t c
+module _ (who : Caller) (t : Tables) (v : Valid t) (C : Term → Type 0) (best : (c : ℕ) → IsClass t c → C (bestTree t c)) where
+  best-goes : (f : ℕ) (p : Pool) (c : ℕ) → IsClass t c → bestSize t c ≤ f → Kept C p → Goes C (Entered C p (bestTree t c)) (bestTermIn (limitsFor who) f t p c)
+  unfolding bestTermIn
+  best-goes zero p c h a K = let z = v .best .bestRange c h .0 in absurd (omega arith)
+  best-goes (suc f) p c h a K =
+      go (eqb (kindOf t (m .op)) Lit) (best-tree t v c h) (λ d i q L. let z = best-falls t v c h d i in best-goes f q (d .0) (child-within t v m c (best-in t v c h) d i) (omega arith) L)
+    where
+      m : Member
+      m = bestMember t c
 
-        l : List Two
-        l = childrenOf t m
+      l : List Two
+      l = childrenOf t m
 
-        go : (b : Bool) → bestTree t c ≡ elim b [ true ↦ lit (m .op) (m .value) | false ↦ node (m .op) (joinTrees (childTrees (bestTree t) l)) ]
-            → ((d : Two) → In d l → (q : Pool) → Kept C q → Goes C (Entered C q (bestTree t (d .0))) (bestTermIn documentLimits f t q (d .0)))
-            → Goes C (Entered C p (bestTree t c)) (elim b [ true ↦ intern documentLimits p (litNode (m .op) (m .value)) | false ↦ childTerms (bestTermIn documentLimits f t) p l >>= (λ k. intern documentLimits (k .pool) (opNode (m .op) (k .runs))) ])
-        go true e ih = intern-goes p (litNode (m .op) (m .value)) (bestTree t c) K (lit-valid (length p) (m .op) (m .value)) (tree-literal (treesAfter [] p) (litNode (m .op) (m .value)) refl ∙ sym e) (best c h)
-        go false e ih =
-            goes-bind (childTerms (bestTermIn documentLimits f t) p l) _ (children-go (bestTermIn documentLimits f t) (bestTree t) l ih (child-counted t v m c (best-in t v c h)) p K)
-            (λ k L. entered-later (L .grown) (intern-goes (k .pool) (opNode (m .op) (k .runs)) (bestTree t c) (L .kept) (op-valid (length (k .pool)) (m .op) (k .runs) (L .below))
-            (op-tree (k .pool) (L .kept .valid) (m .op) (k .runs) (L .below) ∙ ap (λ (s : Runs). node (m .op) (joinTrees s)) (L .means) ∙ sym e) (best c h)))
+      go : (b : Bool) → bestTree t c ≡ elim b [ true ↦ lit (m .op) (m .value) | false ↦ node (m .op) (joinTrees (childTrees (bestTree t) l)) ]
+          → ((d : Two) → In d l → (q : Pool) → Kept C q → Goes C (Entered C q (bestTree t (d .0))) (bestTermIn (limitsFor who) f t q (d .0)))
+          → Goes C (Entered C p (bestTree t c)) (elim b [ true ↦ intern (limitsFor who) p (litNode (m .op) (m .value)) | false ↦ childTerms (bestTermIn (limitsFor who) f t) p l >>= (λ k. intern (limitsFor who) (k .pool) (opNode (m .op) (k .runs))) ])
+      go true e ih = intern-goes who p (litNode (m .op) (m .value)) (bestTree t c) K (lit-valid (length p) (m .op) (m .value)) (tree-literal (treesAfter [] p) (litNode (m .op) (m .value)) refl ∙ sym e) (best c h)
+      go false e ih =
+          goes-bind (childTerms (bestTermIn (limitsFor who) f t) p l) _ (children-go (bestTermIn (limitsFor who) f t) (bestTree t) l ih (child-counted t v m c (best-in t v c h)) p K)
+          (λ k L. entered-later (L .grown) (intern-goes who (k .pool) (opNode (m .op) (k .runs)) (bestTree t c) (L .kept) (op-valid (length (k .pool)) (m .op) (k .runs) (L .below))
+          (op-tree (k .pool) (L .kept .valid) (m .op) (k .runs) (L .below) ∙ ap (λ (s : Runs). node (m .op) (joinTrees s)) (L .means) ∙ sym e) (best c h)))
 
-    -- ---- starting terms
-    pub starting-goes : (p : Pool) (c : Two) → IsPair t c → C (startingTree t c) → Kept C p → Goes C (Entered C p (startingTree t c)) (startingTerm documentLimits t p c)
-    unfolding startingTerm
-    starting-goes p c (h, k) s K = go (eqb (c .0) (c .1)) s
-      where
-        go : (b : Bool) → C (pick b (bestTree t (c .0)) (markedTree (bestTree t (c .0)) (bestTree t (c .1))))
-            → Goes C (Entered C p (pick b (bestTree t (c .0)) (markedTree (bestTree t (c .0)) (bestTree t (c .1)))))
-            (elim b [ true ↦ bestTerm documentLimits t p (c .0) | false ↦ bestTerm documentLimits t p (c .0) >>= (λ x. bestTerm documentLimits t (x .pool) (c .1) >>= (λ y. intern documentLimits (y .pool) (variantsNode (x .term) (y .term)))) ])
-        go true s = best-goes (bestSize t (c .0)) p (c .0) h (omega arith) K
-        go false s =
-            goes-bind (bestTerm documentLimits t p (c .0)) _ (best-goes (bestSize t (c .0)) p (c .0) h (omega arith) K)
-            (λ x X. goes-bind (bestTerm documentLimits t (x .pool) (c .1)) _ (best-goes (bestSize t (c .1)) (x .pool) (c .1) k (omega arith) (X .kept)) (λ y Y. last x X y Y))
-          where
-            last : (x : Interned) → Entered C p (bestTree t (c .0)) x → (y : Interned) → Entered C (x .pool) (bestTree t (c .1)) y
-                → Goes C (Entered C p (markedTree (bestTree t (c .0)) (bestTree t (c .1)))) (intern documentLimits (y .pool) (variantsNode (x .term) (y .term)))
-            last x X y Y =
-                entered-later (extends-trans (X .grown) (Y .grown))
-                (intern-goes (y .pool) (variantsNode (x .term) (y .term)) (markedTree (bestTree t (c .0)) (bestTree t (c .1))) (Y .kept) (variants-valid (length (y .pool)) (x .term) (y .term) (extends-within (Y .grown) (x .term) (X .within)) (Y .within))
-                (marked-tree (y .pool) (Y .kept .valid) (x .term) (y .term) (extends-within (Y .grown) (x .term) (X .within)) (Y .within) ∙ ap₂ markedTree (extends-tree (Y .grown) (x .term) (X .within) ∙ X .means) (Y .means)) s)
+  -- ---- starting terms
+  pub starting-goes : (p : Pool) (c : Two) → IsPair t c → C (startingTree t c) → Kept C p → Goes C (Entered C p (startingTree t c)) (startingTerm (limitsFor who) t p c)
+  unfolding startingTerm
+  starting-goes p c (h, k) s K = go (eqb (c .0) (c .1)) s
+    where
+      go : (b : Bool) → C (pick b (bestTree t (c .0)) (markedTree (bestTree t (c .0)) (bestTree t (c .1))))
+          → Goes C (Entered C p (pick b (bestTree t (c .0)) (markedTree (bestTree t (c .0)) (bestTree t (c .1)))))
+          (elim b [ true ↦ bestTerm (limitsFor who) t p (c .0) | false ↦ bestTerm (limitsFor who) t p (c .0) >>= (λ x. bestTerm (limitsFor who) t (x .pool) (c .1) >>= (λ y. intern (limitsFor who) (y .pool) (variantsNode (x .term) (y .term)))) ])
+      go true s = best-goes (bestSize t (c .0)) p (c .0) h (omega arith) K
+      go false s =
+          goes-bind (bestTerm (limitsFor who) t p (c .0)) _ (best-goes (bestSize t (c .0)) p (c .0) h (omega arith) K)
+          (λ x X. goes-bind (bestTerm (limitsFor who) t (x .pool) (c .1)) _ (best-goes (bestSize t (c .1)) (x .pool) (c .1) k (omega arith) (X .kept)) (λ y Y. last x X y Y))
+        where
+          last : (x : Interned) → Entered C p (bestTree t (c .0)) x → (y : Interned) → Entered C (x .pool) (bestTree t (c .1)) y
+              → Goes C (Entered C p (markedTree (bestTree t (c .0)) (bestTree t (c .1)))) (intern (limitsFor who) (y .pool) (variantsNode (x .term) (y .term)))
+          last x X y Y =
+              entered-later (extends-trans (X .grown) (Y .grown))
+              (intern-goes who (y .pool) (variantsNode (x .term) (y .term)) (markedTree (bestTree t (c .0)) (bestTree t (c .1))) (Y .kept) (variants-valid (length (y .pool)) (x .term) (y .term) (extends-within (Y .grown) (x .term) (X .within)) (Y .within))
+              (marked-tree (y .pool) (Y .kept .valid) (x .term) (y .term) (extends-within (Y .grown) (x .term) (X .within)) (Y .within) ∙ ap₂ markedTree (extends-tree (Y .grown) (x .term) (X .within) ∙ X .means) (Y .means)) s)
 
 -- ---- the term of a choice
-pub choice-goes : {C : Term → Type 0} (t : Tables) (p : Pool) (of : Two → ℕ) (f : Two → Term) (c : Two) (ch : Choice) → Kept C p → Stands p of f c
-    → ((a : Act) → ch ≡ act a → (d : Two) → In d (a .places) → Stands p of f d) → (Acts ch → C (choiceTree t f (f c) ch)) → Goes C (Entered C p (choiceTree t f (f c) ch)) (choiceTerm documentLimits t of p (of c) ch)
+pub choice-goes : (who : Caller) {C : Term → Type 0} (t : Tables) (p : Pool) (of : Two → ℕ) (f : Two → Term) (c : Two) (ch : Choice) → Kept C p → Stands p of f c
+    → ((a : Act) → ch ≡ act a → (d : Two) → In d (a .places) → Stands p of f d) → (Acts ch → C (choiceTree t f (f c) ch)) → Goes C (Entered C p (choiceTree t f (f c) ch)) (choiceTerm (limitsFor who) t of p (of c) ch)
 unfolding system.choiceTerm choiceTree actionTerm
-choice-goes t p of f c stay K (k, e) h g = fine (record { kept = K; grown = extends-refl p; within = k; means = e })
-choice-goes t p of f c (act a) K s h g =
-    intern-goes p (opNode (a .op) (actionRuns t p (a .op) (planRuns of (a .places) (a .counts)))) (choiceTree t f (f c) (act a)) K (choice-valid t p (K .valid) of f a (h a refl)) (choice-tree t p (K .valid) of f a (h a refl) (f c)) (g tt)
+choice-goes who t p of f c stay K (k, e) h g = fine (record { kept = K; grown = extends-refl p; within = k; means = e })
+choice-goes who t p of f c (act a) K s h g =
+    intern-goes who p (opNode (a .op) (actionRuns t p (a .op) (planRuns of (a .places) (a .counts)))) (choiceTree t f (f c) (act a)) K (choice-valid t p (K .valid) of f a (h a refl)) (choice-tree t p (K .valid) of f a (h a refl) (f c)) (g tt)

@@ -10,12 +10,13 @@ use lib.ListN.{length, getD}
 use Rattle.spec.specs.Bytes.{any, place, Two, sameTwo, Res, ok, refused, _>>=_, Checked, passed, cutShort}
 use Rattle.spec.specs.Image.{Tables}
 use Rattle.spec.specs.Action.{joins}
-use Rattle.spec.specs.Graph.{PAIRS, build}
+use Rattle.spec.specs.Graph.{build}
 use Rattle.spec.specs.Pool.{Pool, Interned, startingTerm}
 use Rattle.spec.specs.System as system
 use Rattle.spec.specs.Pairs.{pairs}
 use Rattle.spec.specs.Round.{Terms, prepend, Choice, stay, act, Turn, changes, startingQuality, lookUp, choiceTerm, turnOf, turnsOf, turnsTerms, qualitiesAfter}
-use Rattle.spec.specs.Run.{documentLimits, State, Outcome, outcome, startingTerms, roundTerms, afterRound, roundsFrom, started, afterStarting, afterBuilding, runOf}
+use Rattle.spec.specs.Run.{limitOf, limitsFor, State, Outcome, outcome, startingTerms, roundTerms, afterRound, roundsFrom, started, afterStarting, afterBuilding, runOf}
+use Rattle.spec.specs.declared.Caller.{Caller}
 use Rattle.spec.specs.Meaning.{In, here, there, Term, treeAt}
 use Rattle.laws.specs.Tests.{clash}
 use Rattle.laws.specs.Valid.{Valid}
@@ -70,30 +71,30 @@ stands-later : (p q : Pool) (of : Two → ℕ) (f : Two → Term) → Extends p 
 stands-later p q of f g c (a, e) = (extends-within g (of c) a, extends-tree g (of c) a ∙ e)
 
 -- ---- starting terms
-starting-walks : (t : Tables) → Valid t → (C : Term → Type 0) → ((c : ℕ) → IsClass t c → C (bestTree t c)) → (cs : List Two) (b : ℕ) (p : Pool) → ((c : Two) → In c cs → IsPair t c × C (startingTree t c)) → Kept C p
-    → Goes C (Walked C p (startingTree t) cs (length cs) b) (startingTerms documentLimits t cs b p)
+starting-walks : (who : Caller) (t : Tables) → Valid t → (C : Term → Type 0) → ((c : ℕ) → IsClass t c → C (bestTree t c)) → (cs : List Two) (b : ℕ) (p : Pool) → ((c : Two) → In c cs → IsPair t c × C (startingTree t c)) → Kept C p
+    → Goes C (Walked C p (startingTree t) cs (length cs) b) (startingTerms (limitsFor who) t cs b p)
 unfolding system.startingTerms
-starting-walks t v C bests [] b p h K = fine (whole (record { pool = p; terms = [] }) b K (extends-refl p) noPair (omega arith))
-starting-walks t v C bests (c ∷ cs) zero p h K = fine cut
-starting-walks t v C bests (c ∷ cs) (suc b) p h K =
-    goes-bind (startingTerm documentLimits t p c) _ (starting-goes t v C bests p c (h c here .0) (h c here .1) K)
-    (λ a A. goes-bind (startingTerms documentLimits t cs b (a .pool)) _ (starting-walks t v C bests cs b (a .pool) (λ d i. h d (there i)) (A .kept)) (λ r W. fine (walked-next c cs (length cs) b a r A W)))
+starting-walks who t v C bests [] b p h K = fine (whole (record { pool = p; terms = [] }) b K (extends-refl p) noPair (omega arith))
+starting-walks who t v C bests (c ∷ cs) zero p h K = fine cut
+starting-walks who t v C bests (c ∷ cs) (suc b) p h K =
+    goes-bind (startingTerm (limitsFor who) t p c) _ (starting-goes who t v C bests p c (h c here .0) (h c here .1) K)
+    (λ a A. goes-bind (startingTerms (limitsFor who) t cs b (a .pool)) _ (starting-walks who t v C bests cs b (a .pool) (λ d i. h d (there i)) (A .kept)) (λ r W. fine (walked-next c cs (length cs) b a r A W)))
 
 -- ---- the turns of a round, over the terms `f` of the round before
-module _ (t : Tables) (C : Term → Type 0) (q : Two → Two) (of : Two → ℕ) (f : Two → Term) where
+module _ (who : Caller) (t : Tables) (C : Term → Type 0) (q : Two → Two) (of : Two → ℕ) (f : Two → Term) where
   abbrev after : Two → Term
   after c = choiceTree t f (f c) (turnOf t q c .choice)
 
   turns-walk : (cs : List Two) (b : ℕ) (p : Pool) → ((c : Two) → In c cs → Stands p of f c × ((d : Two) → In d (joins t c) → Stands p of f d))
       → ((c : Two) → In c cs → (r : Pool) → PoolValid r → ((d : Two) → In d (joins t c) → Stands r of f d) → Acts (turnOf t q c .choice) → C (after c)) → Kept C p
-      → Goes C (Walked C p after cs (length cs) b) (turnsTerms documentLimits t of cs (map (turnOf t q) cs) b p)
+      → Goes C (Walked C p after cs (length cs) b) (turnsTerms (limitsFor who) t of cs (map (turnOf t q) cs) b p)
   unfolding system.turnsTerms
   turns-walk [] b p h g K = fine (whole (record { pool = p; terms = [] }) b K (extends-refl p) noPair (omega arith))
   turns-walk (c ∷ cs) zero p h g K = fine cut
   turns-walk (c ∷ cs) (suc b) p h g K =
-      goes-bind (choiceTerm documentLimits t of p (of c) (turnOf t q c .choice)) _
-      (choice-goes t p of f c (turnOf t q c .choice) K (h c here .0) (λ a e d i. h c here .1 d (choice-joins t q c a e d i)) (g c here p (K .valid) (h c here .1)))
-      (λ a A. goes-bind (turnsTerms documentLimits t of cs (map (turnOf t q) cs) b (a .pool)) _
+      goes-bind (choiceTerm (limitsFor who) t of p (of c) (turnOf t q c .choice)) _
+      (choice-goes who t p of f c (turnOf t q c .choice) K (h c here .0) (λ a e d i. h c here .1 d (choice-joins t q c a e d i)) (g c here p (K .valid) (h c here .1)))
+      (λ a A. goes-bind (turnsTerms (limitsFor who) t of cs (map (turnOf t q) cs) b (a .pool)) _
       (turns-walk cs b (a .pool) (λ d i. (stands-later p (a .pool) of f (A .grown) d (h d (there i) .0), λ e j. stands-later p (a .pool) of f (A .grown) e (h d (there i) .1 e j))) (λ d i. g d (there i)) (A .kept))
       (λ r W. fine (walked-next c cs (length cs) b a r A W)))
 
@@ -117,7 +118,7 @@ acted-improved t ps k p i a = rw (q-next (pairs t) ps k p i) (go (turn-told (pai
 abbrev pub Slim : Tables → List Two → ℕ → Term → Type 0
 Slim t ps b x = Counted t ps b x × (treeRuns x ≤ max 64 (length ps))
 
-module _ (t : Tables) (v : Valid t) (ps : List Two) (closed : Closed (pairs t) ps) (b : ℕ) where
+module _ (who : Caller) (t : Tables) (v : Valid t) (ps : List Two) (closed : Closed (pairs t) ps) (b : ℕ) where
   abbrev C : Term → Type 0
   C = Slim t ps b
 
@@ -133,13 +134,13 @@ module _ (t : Tables) (v : Valid t) (ps : List Two) (closed : Closed (pairs t) p
   round-start p f c r (fine cut) = fine cut
   round-start p f c r (full x) = full x
 
-  round-walks : (s : State) → Between s → (c : ℕ) → s .budget ≡ c → Goes C (Walked C (s .pool) (termAfter t ps (suc (s .rounds))) ps (suc (length ps)) c) (roundTerms documentLimits t ps s (turnsOf t ps (s .qualities)) c)
+  round-walks : (s : State) → Between s → (c : ℕ) → s .budget ≡ c → Goes C (Walked C (s .pool) (termAfter t ps (suc (s .rounds))) ps (suc (length ps)) c) (roundTerms (limitsFor who) t ps s (turnsOf t ps (s .qualities)) c)
   unfolding system.roundTerms system.turnsOf termAfter
   round-walks s B zero e = fine cut
   round-walks s B (suc c) e =
       rw (B .qualities)
       (round-start (s .pool) (termAfter t ps (suc (s .rounds))) c _
-      (turns-walk t C (qualityAfter (pairs t) ps (s .rounds)) (lookUp 0 ps (s .terms)) (termAfter t ps (s .rounds)) ps c (s .pool)
+      (turns-walk who t C (qualityAfter (pairs t) ps (s .rounds)) (lookUp 0 ps (s .terms)) (termAfter t ps (s .rounds)) ps c (s .pool)
       (λ p i. (holds-look (B .holds) p i, λ d j. holds-look (B .holds) d (closed p d i j)))
       (λ p i r w S a. (final p (s .rounds) i (acted-improved t ps (s .rounds) p i a) (omega (arith, B .spent)) refl, turn-few t v ps closed (qualityAfter (pairs t) ps (s .rounds)) p i r w (lookUp 0 ps (s .terms)) (termAfter t ps (s .rounds)) S a))
       (B .kept)))
@@ -157,23 +158,23 @@ module _ (t : Tables) (v : Valid t) (ps : List Two) (closed : Closed (pairs t) p
     ended : (s : State) → Between s → (complete : Bool) → Final (outcome complete ps s)
     ended s B complete = holds-first p (first .0) (B .holds) (first .1)
 
-    rounds-go : (f : ℕ) (s : State) → Between s → Goes C Final (roundsFrom documentLimits f t ps s)
+    rounds-go : (f : ℕ) (s : State) → Between s → Goes C Final (roundsFrom (limitsFor who) f t ps s)
     unfolding system.roundsFrom afterRound
     rounds-go zero s B = fine (ended s B false)
-    rounds-go (suc f) s B = goes-bind (roundTerms documentLimits t ps s ws (s .budget)) _ (round-walks s B (s .budget) refl) (λ r W. go r W (λ u D. rounds-go f u D))
+    rounds-go (suc f) s B = goes-bind (roundTerms (limitsFor who) t ps s ws (s .budget)) _ (round-walks s B (s .budget) refl) (λ r W. go r W (λ u D. rounds-go f u D))
       where
         ws : List Turn
         ws = turnsOf t ps (s .qualities)
 
-        go : (r : Checked Terms) → Walked C (s .pool) (termAfter t ps (suc (s .rounds))) ps (suc (length ps)) (s .budget) r → ((u : State) → Between u → Goes C Final (roundsFrom documentLimits f t ps u))
-            → Goes C Final (afterRound (λ u. roundsFrom documentLimits f t ps u) ps s ws r)
+        go : (r : Checked Terms) → Walked C (s .pool) (termAfter t ps (suc (s .rounds))) ps (suc (length ps)) (s .budget) r → ((u : State) → Between u → Goes C Final (roundsFrom (limitsFor who) f t ps u))
+            → Goes C Final (afterRound (λ u. roundsFrom (limitsFor who) f t ps u) ps s ws r)
         go r cut ih = fine (ended s B false)
         go r (whole a left K g H e) ih = by (any changes ws)
           where
             u : State
             u = record { pool = a .pool; qualities = map (λ w. w .quality) ws; terms = a .terms; rounds = suc (s .rounds); budget = left }
 
-            by : (x : Bool) → Goes C {A = Outcome} Final (elim x [ false ↦ ok (outcome true ps s) | true ↦ roundsFrom documentLimits f t ps u ])
+            by : (x : Bool) → Goes C {A = Outcome} Final (elim x [ false ↦ ok (outcome true ps s) | true ↦ roundsFrom (limitsFor who) f t ps u ])
             by true = ih u (further s B a left K H e)
             by false = fine (ended s B true)
 
@@ -186,19 +187,19 @@ goes-refused : {C : Term → Type 0} {A : Type 0} {Q : A → Type 0} {r : Res A}
 goes-refused k (fine q) e = absurd (refused-ok (sym e))
 goes-refused k (full b) e = b
 
-module _ (t : Tables) (v : Valid t) (p : Two) (h : IsPair t p) where
+module _ (who : Caller) (t : Tables) (v : Valid t) (p : Two) (h : IsPair t p) where
   slim-best : (ps : List Two) (b c : ℕ) → IsClass t c → Slim t ps b (bestTree t c)
   slim-best ps b c k = (best c k refl, omega (arith, best-runs t v c k))
 
   slim-start : (ps : List Two) (b : ℕ) (q : Two) → In q ps → IsPair t q → Slim t ps b (startingTree t q)
   slim-start ps b q i k = (starting q i refl, omega (arith, starting-runs t v q k))
 
-  root-goes : (ps : List Two) (b : ℕ) → In p ps → Goes (Slim t ps b) (Entered (Slim t ps b) [] (startingTree t p)) (startingTerm documentLimits t [] p)
-  root-goes ps b i = starting-goes t v (Slim t ps b) (slim-best ps b) [] p h (slim-start ps b p i h) (record { valid = empty-valid; kinds = λ a l. absurd (not-suc-le-zero l) })
+  root-goes : (ps : List Two) (b : ℕ) → In p ps → Goes (Slim t ps b) (Entered (Slim t ps b) [] (startingTree t p)) (startingTerm (limitsFor who) t [] p)
+  root-goes ps b i = starting-goes who t v (Slim t ps b) (slim-best ps b) [] p h (slim-start ps b p i h) (record { valid = empty-valid; kinds = λ a l. absurd (not-suc-le-zero l) })
 
   -- The queried pair's starting term is never refused.
-  pub root-starts : (root : Interned) × (startingTerm documentLimits t [] p ≡ ok root)
-  root-starts = go (startingTerm documentLimits t [] p) (root-goes (p ∷ []) 0 here)
+  pub root-starts : (root : Interned) × (startingTerm (limitsFor who) t [] p ≡ ok root)
+  root-starts = go (startingTerm (limitsFor who) t [] p) (root-goes (p ∷ []) 0 here)
     where
       go : (r : Res Interned) → Goes (Slim t (p ∷ []) 0) (Entered (Slim t (p ∷ []) 0) [] (startingTree t p)) r → (root : Interned) × (r ≡ ok root)
       go r (fine {a = a} q) = (a, refl)
@@ -206,55 +207,55 @@ module _ (t : Tables) (v : Valid t) (p : Two) (h : IsPair t p) where
           absurd (counted-few t v (p ∷ []) (λ q i. elim (in-cons i) [ inl e ↦ rw e h | inr j ↦ absurd (in-nil j) ]) 0 0 0
           (λ k q i m l. absurd (omega arith)) (Slim t (p ∷ []) 0) (λ x d. d .0) (λ x d k q i m l e. absurd (omega arith)) (omega (arith, v .counts .fewClasses)) (omega (arith, v .counts .fewClasses)) B)
 
-  started-term : (ps : List Two) (root : Interned) (n : ℕ) → startingTerm documentLimits t [] p ≡ ok root → treeAt (started t p root n .pool) (started t p root n .root) ≡ termAfter t ps (started t p root n .rounds) p
+  started-term : (ps : List Two) (root : Interned) (n : ℕ) → startingTerm (limitsFor who) t [] p ≡ ok root → treeAt (started t p root n .pool) (started t p root n .root) ≡ termAfter t ps (started t p root n .rounds) p
   unfolding system.started termAfter
   started-term ps root n er = goes-ok root (root-goes (p ∷ []) 0 here) er .means
 
-  built-goes : (b c : ℕ) (ps : List Two) (root : Interned) → build documentLimits t p b ≡ ok (passed ps c) → startingTerm documentLimits t [] p ≡ ok root → Goes (Slim t ps b) (λ o. treeAt (o .pool) (o .root) ≡ termAfter t ps (o .rounds) p) (afterBuilding documentLimits t p root (passed ps c))
+  built-goes : (b c : ℕ) (ps : List Two) (root : Interned) → build (limitsFor who) t p b ≡ ok (passed ps c) → startingTerm (limitsFor who) t [] p ≡ ok root → Goes (Slim t ps b) (λ o. treeAt (o .pool) (o .root) ≡ termAfter t ps (o .rounds) p) (afterBuilding (limitsFor who) t p root (passed ps c))
   unfolding system.afterBuilding system.afterStarting termAfter system.qualitiesAfter
   built-goes b c ps root e er =
-      goes-bind (startingTerms documentLimits t ps c (root .pool)) _
-      (starting-walks t v C (slim-best ps b) ps c (root .pool) (λ q i. (within q i, slim-start ps b q i (within q i))) (goes-ok root (root-goes ps b (root-in (pairs t) PAIRS p b c ps e)) er .kept))
+      goes-bind (startingTerms (limitsFor who) t ps c (root .pool)) _
+      (starting-walks who t v C (slim-best ps b) ps c (root .pool) (λ q i. (within q i, slim-start ps b q i (within q i))) (goes-ok root (root-goes ps b (root-in (pairs t) (limitOf who) p b c ps e)) er .kept))
       (λ r W. go r W)
     where
       C : Term → Type 0
       C = Slim t ps b
 
       within : (q : Two) → In q ps → IsPair t q
-      within q i = reach-within t v p q h (build-whole (pairs t) PAIRS p b c ps e .exactly q .0 i)
+      within q i = reach-within t v p q h (build-whole (pairs t) (limitOf who) p b c ps e .exactly q .0 i)
 
-      go : (r : Checked Terms) → Walked C (root .pool) (startingTree t) ps (length ps) c r → Goes C (λ o. treeAt (o .pool) (o .root) ≡ termAfter t ps (o .rounds) p) (afterStarting documentLimits t p root ps r)
+      go : (r : Checked Terms) → Walked C (root .pool) (startingTree t) ps (length ps) c r → Goes C (λ o. treeAt (o .pool) (o .root) ≡ termAfter t ps (o .rounds) p) (afterStarting (limitsFor who) t p root ps r)
       go r cut = fine (started-term ps root (length ps) er)
       go r (whole a left K g H z) =
-          rounds-go t v ps (build-closed (pairs t) PAIRS p b c ps e) b p (build-first (pairs t) PAIRS p b c ps e) left (record { pool = a .pool; qualities = map (startingQuality t) ps; terms = a .terms; rounds = 0; budget = left })
-          (record { kept = K; holds = H; qualities = refl; spent = omega (arith, build-passed (pairs t) PAIRS p (length ps) (ps, build-whole (pairs t) PAIRS p b c ps e, refl) b c ps e .1) })
+          rounds-go who t v ps (build-closed (pairs t) (limitOf who) p b c ps e) b p (build-first (pairs t) (limitOf who) p b c ps e) left (record { pool = a .pool; qualities = map (startingQuality t) ps; terms = a .terms; rounds = 0; budget = left })
+          (record { kept = K; holds = H; qualities = refl; spent = omega (arith, build-passed (pairs t) (limitOf who) p (length ps) (ps, build-whole (pairs t) (limitOf who) p b c ps e, refl) b c ps e .1) })
 
   -- The term that a run gives is the queried pair's after the rounds reported; ps are the pairs of the full graph.
-  pub run-term : (B C : ℕ) (ps : List Two) → build documentLimits t p B ≡ ok (passed ps C) → (b : ℕ) (o : Outcome) → runOf documentLimits t p b ≡ ok o → treeAt (o .pool) (o .root) ≡ termAfter t ps (o .rounds) p
+  pub run-term : (B C : ℕ) (ps : List Two) → build (limitsFor who) t p B ≡ ok (passed ps C) → (b : ℕ) (o : Outcome) → runOf (limitsFor who) t p b ≡ ok o → treeAt (o .pool) (o .root) ≡ termAfter t ps (o .rounds) p
   unfolding system.runOf system.afterBuilding
   run-term B C ps e b o z =
-      let (root, er, z′) = bind-ok (startingTerm documentLimits t [] p) _ o z in
-      let (g, eg, z″) = bind-ok (build documentLimits t p b) _ o z′ in
+      let (root, er, z′) = bind-ok (startingTerm (limitsFor who) t [] p) _ o z in
+      let (g, eg, z″) = bind-ok (build (limitsFor who) t p b) _ o z′ in
       go root er g eg z″
     where
-      go : (root : Interned) → startingTerm documentLimits t [] p ≡ ok root → (g : Checked (List Two)) → build documentLimits t p b ≡ ok g → afterBuilding documentLimits t p root g ≡ ok o → treeAt (o .pool) (o .root) ≡ termAfter t ps (o .rounds) p
+      go : (root : Interned) → startingTerm (limitsFor who) t [] p ≡ ok root → (g : Checked (List Two)) → build (limitsFor who) t p b ≡ ok g → afterBuilding (limitsFor who) t p root g ≡ ok o → treeAt (o .pool) (o .root) ≡ termAfter t ps (o .rounds) p
       go root er cutShort eg z = rw (← ok-inj z) (started-term ps root 1 er)
-      go root er (passed qs c) eg z = rw (← build-same (pairs t) PAIRS p b c B C qs ps eg e) (goes-ok o (built-goes b c qs root eg er) z)
+      go root er (passed qs c) eg z = rw (← build-same (pairs t) (limitOf who) p b c B C qs ps eg e) (goes-ok o (built-goes b c qs root eg er) z)
 
   -- A run is refused by 13 only where its graph is built, and the terms that are counted for it are more than 16,384 or have more than 65,536 runs.
-  pub refused-13-slim : (b : ℕ) → runOf documentLimits t p b ≡ refused 13 → (ps : List Two) × (c : ℕ) × (build documentLimits t p b ≡ ok (passed ps c)) × Beyond (Slim t ps b)
+  pub refused-13-slim : (b : ℕ) → runOf (limitsFor who) t p b ≡ refused 13 → (ps : List Two) × (c : ℕ) × (build (limitsFor who) t p b ≡ ok (passed ps c)) × Beyond (Slim t ps b)
   unfolding system.runOf system.afterBuilding
-  refused-13-slim b e = starts (bind-refused (startingTerm documentLimits t [] p) (λ root. build documentLimits t p b >>= λ g. afterBuilding documentLimits t p root g) 13 e)
+  refused-13-slim b e = starts (bind-refused (startingTerm (limitsFor who) t [] p) (λ root. build (limitsFor who) t p b >>= λ g. afterBuilding (limitsFor who) t p root g) 13 e)
     where
-      built : (root : Interned) → startingTerm documentLimits t [] p ≡ ok root → (g : Checked (List Two)) → build documentLimits t p b ≡ ok g → afterBuilding documentLimits t p root g ≡ refused 13 → (ps : List Two) × (c : ℕ) × (build documentLimits t p b ≡ ok (passed ps c)) × Beyond (Slim t ps b)
+      built : (root : Interned) → startingTerm (limitsFor who) t [] p ≡ ok root → (g : Checked (List Two)) → build (limitsFor who) t p b ≡ ok g → afterBuilding (limitsFor who) t p root g ≡ refused 13 → (ps : List Two) × (c : ℕ) × (build (limitsFor who) t p b ≡ ok (passed ps c)) × Beyond (Slim t ps b)
       built root er cutShort eg z = absurd (refused-ok (sym z))
       built root er (passed ps c) eg z = (ps, c, eg, goes-refused 13 (built-goes b c ps root eg er) z)
 
-      starts : (startingTerm documentLimits t [] p ≡ refused 13) ⊎ ((root : Interned) × (startingTerm documentLimits t [] p ≡ ok root) × ((build documentLimits t p b >>= λ g. afterBuilding documentLimits t p root g) ≡ refused 13)) → (ps : List Two) × (c : ℕ) × (build documentLimits t p b ≡ ok (passed ps c)) × Beyond (Slim t ps b)
+      starts : (startingTerm (limitsFor who) t [] p ≡ refused 13) ⊎ ((root : Interned) × (startingTerm (limitsFor who) t [] p ≡ ok root) × ((build (limitsFor who) t p b >>= λ g. afterBuilding (limitsFor who) t p root g) ≡ refused 13)) → (ps : List Two) × (c : ℕ) × (build (limitsFor who) t p b ≡ ok (passed ps c)) × Beyond (Slim t ps b)
       starts (inl z) = absurd (refused-ok (sym z ∙ root-starts .1))
-      starts (inr (root, er, z)) = elim (bind-refused (build documentLimits t p b) (λ g. afterBuilding documentLimits t p root g) 13 z) [ inl x ↦ absurd (omega (arith, build-refused (pairs t) PAIRS p b 13 x .0)) | inr x ↦ built root er (x .0) (x .1) (x .2) ]
+      starts (inr (root, er, z)) = elim (bind-refused (build (limitsFor who) t p b) (λ g. afterBuilding (limitsFor who) t p root g) 13 z) [ inl x ↦ absurd (omega (arith, build-refused (pairs t) (limitOf who) p b 13 x .0)) | inr x ↦ built root er (x .0) (x .1) (x .2) ]
 
-  pub refused-13-beyond : (b : ℕ) → runOf documentLimits t p b ≡ refused 13 → (ps : List Two) × (c : ℕ) × (build documentLimits t p b ≡ ok (passed ps c)) × Beyond (Counted t ps b)
+  pub refused-13-beyond : (b : ℕ) → runOf (limitsFor who) t p b ≡ refused 13 → (ps : List Two) × (c : ℕ) × (build (limitsFor who) t p b ≡ ok (passed ps c)) × Beyond (Counted t ps b)
   refused-13-beyond b e =
       let (ps, c, k, B) = refused-13-slim b e in
       (ps, c, k, record { terms = B .terms; distinct = B .distinct; counted = λ x i. B .counted x i .0; beyond = B .beyond })

@@ -12,7 +12,8 @@ use Rattle.spec.specs.System as system
 use Rattle.spec.specs.System.{worth}
 use Rattle.spec.specs.Pairs.{pairs, qualityOver}
 use Rattle.spec.specs.Round.{lookUp, problemOver, ofAction, ofPlan, stay, act, Turn, turnOf, turnsOf, qualitiesAfter}
-use Rattle.spec.specs.Run.{documentLimits, Outcome, runOf}
+use Rattle.spec.specs.Run.{limitsFor, Outcome, runOf}
+use Rattle.spec.specs.declared.Caller.{Caller}
 use Rattle.spec.specs.Listing.{firstLine, listingOf}
 use Rattle.spec.specs.Meaning.{In, Plan, _⊑_, termQuality, readFirst, readSecond, Branched, treeAt, Belongs}
 use Rattle.laws.specs.Lists.{map-in}
@@ -28,50 +29,50 @@ use Rattle.contract.specs.declared.Answer.the-variants.{Listing}
 use Rattle.contract.specs.Merges.{Merges}
 use Rattle.demands.specs.Calls.{passedOver, shown, accepted, read-of}
 
-module _ (image : List ℕ) (left right budget : ℕ) (fit : Bool) (out out′ : List ℕ) (n : ℕ) (m : Merges image left right budget fit out out′ (Listing n)) where
+module _ (who : Caller) (image : List ℕ) (left right budget : ℕ) (fit : Bool) (out out′ : List ℕ) (n : ℕ) (m : Merges who image left right budget fit out out′ (Listing n)) where
   abbrev t : Tables
   t = tablesOf image
 
   -- the run behind the listing
   abbrev pub o : Outcome
-  o = accepted image left right budget fit out out′ n m .o
+  o = accepted who image left right budget fit out out′ n m .o
 
-  abbrev ran : runOf documentLimits t (left, right) budget ≡ ok o
-  ran = accepted image left right budget fit out out′ n m .ran
+  abbrev ran : runOf (limitsFor who) t (left, right) budget ≡ ok o
+  ran = accepted who image left right budget fit out out′ n m .ran
 
   valid : Valid t
-  valid = A.valid image t (read-of image (accepted image left right budget fit out out′ n m .taken .sound))
+  valid = A.valid image t (read-of image (accepted who image left right budget fit out out′ n m .taken .sound))
 
   -- o is what the run of the definitions gives, and the first n bytes of the output are its listing.
-  pub the-listing : (runOf documentLimits t (left, right) budget ≡ ok o) × (n ≡ length (shown image left right budget o)) × (take n out′ ≡ shown image left right budget o)
-  the-listing = let a = accepted image left right budget fit out out′ n m in (a .ran, a .long, a .listed)
+  pub the-listing : (runOf (limitsFor who) t (left, right) budget ≡ ok o) × (n ≡ length (shown who image left right budget o)) × (take n out′ ≡ shown who image left right budget o)
+  the-listing = let a = accepted who image left right budget fit out out′ n m in (a .ran, a .long, a .listed)
 
   -- The output begins with o's first line; what its bytes tell: `first-line-tells` (FirstLine).
-  pub the-first-line : take (length (firstLine (passedOver image left right budget) o)) out′ ≡ firstLine (passedOver image left right budget) o
+  pub the-first-line : take (length (firstLine (passedOver who image left right budget) o)) out′ ≡ firstLine (passedOver who image left right budget) o
   unfolding listingOf
   the-first-line =
-      let a = accepted image left right budget fit out out′ n m in
-      ap (take (length (firstLine (passedOver image left right budget) o))) (a .whole ∙ append-assoc (firstLine (passedOver image left right budget) o) _ _) ∙ take-at (firstLine (passedOver image left right budget) o) _ (length (firstLine (passedOver image left right budget) o)) refl
+      let a = accepted who image left right budget fit out out′ n m in
+      ap (take (length (firstLine (passedOver who image left right budget) o))) (a .whole ∙ append-assoc (firstLine (passedOver who image left right budget) o) _ _) ∙ take-at (firstLine (passedOver who image left right budget) o) _ (length (firstLine (passedOver who image left right budget) o)) refl
 
   -- o has a term: the pool's terms stand over earlier ones, no two alike, and the root is one of them.
   pub the-term : PoolValid (o .pool) × (o .root < length (o .pool))
-  the-term = L.run-pool documentLimits t valid (left, right) (accepted image left right budget fit out out′ n m .taken .asked) budget o ran
+  the-term = L.run-pool (limitsFor who) t valid (left, right) (accepted who image left right budget fit out out′ n m .taken .asked) budget o ran
 
   -- "The formula read by the first branch at every marked place belongs to the left class"
   pub first-reading : Belongs t (readFirst (treeAt (o .pool) (o .root))) left
-  first-reading = L.readings documentLimits t valid (left, right) (accepted image left right budget fit out out′ n m .taken .asked) budget o ran .0
+  first-reading = L.readings (limitsFor who) t valid (left, right) (accepted who image left right budget fit out out′ n m .taken .asked) budget o ran .0
 
   -- ".. by the second to the right"
   pub second-reading : Belongs t (readSecond (treeAt (o .pool) (o .root))) right
-  second-reading = L.readings documentLimits t valid (left, right) (accepted image left right budget fit out out′ n m .taken .asked) budget o ran .1
+  second-reading = L.readings (limitsFor who) t valid (left, right) (accepted who image left right budget fit out out′ n m .taken .asked) budget o ran .1
 
   -- "the marked place Variants of two best terms": every marked place of the formula has two branches.
   pub two-branches : Branched 2 (treeAt (o .pool) (o .root))
-  two-branches = L.two-branches documentLimits t valid (left, right) (accepted image left right budget fit out out′ n m .taken .asked) budget o ran
+  two-branches = L.two-branches (limitsFor who) t valid (left, right) (accepted who image left right budget fit out out′ n m .taken .asked) budget o ran
 
   -- The size and mass of o, which the first line has, are the formula's.
   pub size-and-mass : termQuality (treeAt (o .pool) (o .root)) ≡ o .quality
-  size-and-mass = L.run-quality documentLimits t valid (left, right) (accepted image left right budget fit out out′ n m .taken .asked) budget o ran
+  size-and-mass = L.run-quality (limitsFor who) t valid (left, right) (accepted who image left right budget fit out out′ n m .taken .asked) budget o ran
 
 -- ---- the transport plans of the steps
 -- What the turn w of pair p chose, over the qualities q of the round before: its term stays; or a structural action, each joined pair once; or a transport action with a plan x.

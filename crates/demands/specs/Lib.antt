@@ -8,3 +8,4 @@ pub mod ListingTells
 pub mod Terms13
 pub mod SkippedPairs
 pub mod Skipped
+pub mod Callers

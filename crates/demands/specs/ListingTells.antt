@@ -12,6 +12,7 @@ use borrow.Author.Tests.{eqb-true, eqb-false}
 use Rattle.spec.specs.Bytes.{pick, Two, all, any, each, place, text, decimal}
 use Rattle.spec.specs.Pool.{Pool, Node, nodeAt, OP, LIT, VARIANTS}
 use Rattle.spec.specs.Run.{Outcome}
+use Rattle.spec.specs.declared.Caller.{Caller}
 use Rattle.spec.specs.Listing.{visitRuns, visitTerm, subterms, line, runField, headFields, termLine, listingOf}
 use Rattle.spec.specs.Meaning.{In, here, there, Term, lit, node, variants, run, runsOf, treeOf, treesAfter, treeAt}
 use Rattle.laws.specs.Lists.{in-cons, in-nil}
@@ -220,12 +221,12 @@ listing-tells k j o u v w h i e =
     (r, root-tree (o .pool) (u .pool) v w (o .root) (u .root) h i l)
 
 -- ---- of two calls
--- Two calls that print the same bytes have the same formula and the same number of pairs passed over, whatever their images, queries and buffers: `D.o` is the run behind a call's listing.
-pub same-bytes-same-formula : (image image₂ : List ℕ) (left right budget left₂ right₂ budget₂ : ℕ) (fit fit₂ : Bool) (out out′ out₂ out₂′ : List ℕ) (n n₂ : ℕ)
-    → (m : Merges image left right budget fit out out′ (Listing n)) (m₂ : Merges image₂ left₂ right₂ budget₂ fit₂ out₂ out₂′ (Listing n₂)) → take n out′ ≡ take n₂ out₂′
-    → SameReport (passedOver image left right budget) (passedOver image₂ left₂ right₂ budget₂) (D.o image left right budget fit out out′ n m) (D.o image₂ left₂ right₂ budget₂ fit₂ out₂ out₂′ n₂ m₂)
-    × (treeAt (D.o image left right budget fit out out′ n m .pool) (D.o image left right budget fit out out′ n m .root) ≡ treeAt (D.o image₂ left₂ right₂ budget₂ fit₂ out₂ out₂′ n₂ m₂ .pool) (D.o image₂ left₂ right₂ budget₂ fit₂ out₂ out₂′ n₂ m₂ .root))
-same-bytes-same-formula image image₂ left right budget left₂ right₂ budget₂ fit fit₂ out out′ out₂ out₂′ n n₂ m m₂ e =
-    let (v, h) = D.the-term image left right budget fit out out′ n m in
-    let (w, k) = D.the-term image₂ left₂ right₂ budget₂ fit₂ out₂ out₂′ n₂ m₂ in
-    listing-tells _ _ _ _ v w h k (sym (accepted image left right budget fit out out′ n m .listed) ∙ e ∙ accepted image₂ left₂ right₂ budget₂ fit₂ out₂ out₂′ n₂ m₂ .listed)
+-- Two calls that print the same bytes have the same formula and the same number of pairs passed over, whatever their callers, images, queries and buffers: `D.o` is the run behind a call's listing.
+pub same-bytes-same-formula : (who who₂ : Caller) (image image₂ : List ℕ) (left right budget left₂ right₂ budget₂ : ℕ) (fit fit₂ : Bool) (out out′ out₂ out₂′ : List ℕ) (n n₂ : ℕ)
+    → (m : Merges who image left right budget fit out out′ (Listing n)) (m₂ : Merges who₂ image₂ left₂ right₂ budget₂ fit₂ out₂ out₂′ (Listing n₂)) → take n out′ ≡ take n₂ out₂′
+    → SameReport (passedOver who image left right budget) (passedOver who₂ image₂ left₂ right₂ budget₂) (D.o who image left right budget fit out out′ n m) (D.o who₂ image₂ left₂ right₂ budget₂ fit₂ out₂ out₂′ n₂ m₂)
+    × (treeAt (D.o who image left right budget fit out out′ n m .pool) (D.o who image left right budget fit out out′ n m .root) ≡ treeAt (D.o who₂ image₂ left₂ right₂ budget₂ fit₂ out₂ out₂′ n₂ m₂ .pool) (D.o who₂ image₂ left₂ right₂ budget₂ fit₂ out₂ out₂′ n₂ m₂ .root))
+same-bytes-same-formula who who₂ image image₂ left right budget left₂ right₂ budget₂ fit fit₂ out out′ out₂ out₂′ n n₂ m m₂ e =
+    let (v, h) = D.the-term who image left right budget fit out out′ n m in
+    let (w, k) = D.the-term who₂ image₂ left₂ right₂ budget₂ fit₂ out₂ out₂′ n₂ m₂ in
+    listing-tells _ _ _ _ v w h k (sym (accepted who image left right budget fit out out′ n m .listed) ∙ e ∙ accepted who₂ image₂ left₂ right₂ budget₂ fit₂ out₂ out₂′ n₂ m₂ .listed)

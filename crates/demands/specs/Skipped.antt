@@ -12,7 +12,8 @@ use Rattle.spec.specs.System as system
 use Rattle.spec.specs.System.{turned, start, action, noPlace, andPlace, queried, joined}
 use Rattle.spec.specs.Pairs.{startingQuality, ones, problemOver, pairs, making}
 use Rattle.spec.specs.Graph.{build, skippedIn}
-use Rattle.spec.specs.Run.{documentLimits, Outcome, runOf}
+use Rattle.spec.specs.Run.{limitsFor, Outcome, runOf}
+use Rattle.spec.specs.declared.Caller.{Caller}
 use Rattle.spec.specs.Listing.{subterms, line, statusOf, reportLine, reported, firstLine, termLine, listingOf}
 use Rattle.spec.specs.Meaning.{Plan, _⊑_, Reachable}
 use Rattle.laws.specs.Tests.{clash}
@@ -25,31 +26,32 @@ use Rattle.steps.specs.Outcomes.{started-says}
 use Rattle.steps.specs.Demand3 as D
 use Rattle.lgg.specs.Pairs.{PairCount}
 use Rattle.lgg.specs.Skipped.{skipped-grows, same-skipped, skipped-fits}
+use Rattle.counted.specs.Refused13.{limit-most}
 use Rattle.contract.specs.declared.Answer.the-variants.{Listing}
 use Rattle.contract.specs.Merges.{Merges}
 use Rattle.demands.specs.Calls.{Taken, passedOver, accepted, read-of}
 use Rattle.demands.specs.SkippedPairs as S
 use Rattle.demands.specs.SkippedPairs.{Joint, MoveWithout, Without, LeastWithout, without-moves, Many, Place, SkippedPlace, many-same, many-none, many-over}
 
--- ---- "the number of monomial pairs passed over in building", of any image and query
-module _ (image : List ℕ) (left right : ℕ) where
+-- ---- "the number of monomial pairs passed over in building", of any caller, image and query
+module _ (who : Caller) (image : List ℕ) (left right : ℕ) where
   abbrev T : Tables
   T = tablesOf image
 
   -- They are counted for the pairs of classes whose check in building passed: each different monomial pair of such a pair under an operation, if it is skipped, once.
-  pub counts : (budget : ℕ) → Many (λ x. In (x .pair) (turned (pairs T) (documentLimits .pairs) (left, right) budget) × SkippedPlace T x) (passedOver image left right budget)
+  pub counts : (budget : ℕ) → Many (λ x. In (x .pair) (turned (pairs T) ((limitsFor who) .pairs) (left, right) budget) × SkippedPlace T x) (passedOver who image left right budget)
   unfolding skippedIn
-  counts budget = many-over T (turned (pairs T) (documentLimits .pairs) (left, right) budget) (turned-once (pairs T) (documentLimits .pairs) (left, right) budget)
+  counts budget = many-over T (turned (pairs T) ((limitsFor who) .pairs) (left, right) budget) (turned-once (pairs T) ((limitsFor who) .pairs) (left, right) budget)
 
   -- A longer run never shows less.
-  pub never-less : (b c : ℕ) → b ≤ c → passedOver image left right b ≤ passedOver image left right c
-  never-less = skipped-grows documentLimits T (left, right)
+  pub never-less : (b c : ℕ) → b ≤ c → passedOver who image left right b ≤ passedOver who image left right c
+  never-less = skipped-grows (limitsFor who) T (left, right)
 
-  -- The number fits 32 bits, whatever the budget, for an image and classes that are not refused.
-  pub fits : (fit : Bool) → Taken fit image left right → (budget : ℕ) → passedOver image left right budget ≤ 2151940096
+  -- The number fits 32 bits, whatever the caller and the budget, for an image and classes that are not refused.
+  pub fits : (fit : Bool) → Taken fit image left right → (budget : ℕ) → passedOver who image left right budget ≤ 2151940096
   fits fit t budget =
       let v = A.valid image T (read-of image (t .sound)) in
-      omega (arith, skipped-fits documentLimits T (left, right) v (t .asked) 525376 (λ x h. pair-few T v (x .0) (x .1) (h .0) (h .1)) budget)
+      omega (arith, skipped-fits (limitsFor who) T (left, right) v (t .asked) 525376 (λ x h. pair-few T v (x .0) (x .1) (h .0) (h .1)) budget, limit-most who)
 
 -- ---- all monomial pairs, as if none were skipped
 pub data AnyMove (t : Tables) (p : Two) : List Two → List ℕ → Type 0 where
@@ -81,16 +83,16 @@ module _ (t : Tables) (root : Two) (none : (x : Place) → Reachable t root (x .
     keeps f (andPlace {p = p} k d l) = andPlace k (keep (f p here) d) (keeps (λ c i. f c (there i)) l)
 
 -- ---- of a call that is not refused
-module _ (image : List ℕ) (left right budget : ℕ) (fit : Bool) (out out′ : List ℕ) (n : ℕ) (m : Merges image left right budget fit out out′ (Listing n)) where
+module _ (who : Caller) (image : List ℕ) (left right budget : ℕ) (fit : Bool) (out out′ : List ℕ) (n : ℕ) (m : Merges who image left right budget fit out out′ (Listing n)) where
   abbrev t : Tables
   t = tablesOf image
 
   -- the run behind the listing
   abbrev o : Outcome
-  o = accepted image left right budget fit out out′ n m .o
+  o = accepted who image left right budget fit out out′ n m .o
 
-  abbrev ran : runOf documentLimits t (left, right) budget ≡ ok o
-  ran = accepted image left right budget fit out out′ n m .ran
+  abbrev ran : runOf (limitsFor who) t (left, right) budget ≡ ok o
+  ran = accepted who image left right budget fit out out′ n m .ran
 
   -- "The first line of the listing ends with `skipped` and the number of monomial pairs passed over in building, zero included."
   pub ends-with-skipped : take n out′
@@ -99,36 +101,36 @@ module _ (image : List ℕ) (left right budget : ℕ) (fit : Bool) (out out′ :
       ∷ text "rounds" ∷ decimal (o .rounds)
       ∷ text "size" ∷ decimal (o .quality .0)
       ∷ text "mass" ∷ decimal (o .quality .1)
-      ∷ text "skipped" ∷ decimal (passedOver image left right budget) ∷ [])
+      ∷ text "skipped" ∷ decimal (passedOver who image left right budget) ∷ [])
       ++ each (termLine (o .pool) (subterms (o .pool) (o .root))) (subterms (o .pool) (o .root))
   unfolding listingOf firstLine reportLine reported each
-  ends-with-skipped = accepted image left right budget fit out out′ n m .listed
+  ends-with-skipped = accepted who image left right budget fit out out′ n m .listed
 
   -- Where the graph is built in full, the number counts the skipped ones of all its pairs.
   abbrev All : Type 0
-  All = Many (λ x. Reachable t (left, right) (x .pair) × SkippedPlace t x) (passedOver image left right budget)
+  All = Many (λ x. Reachable t (left, right) (x .pair) × SkippedPlace t x) (passedOver who image left right budget)
 
-  counts-built : (ps : List Two) (d : ℕ) → build documentLimits t (left, right) budget ≡ ok (passed ps d) → All
+  counts-built : (ps : List Two) (d : ℕ) → build (limitsFor who) t (left, right) budget ≡ ok (passed ps d) → All
   counts-built ps d e =
-      let w = build-whole (pairs t) (documentLimits .pairs) (left, right) budget d ps e in
-      let q = turned-built (pairs t) (documentLimits .pairs) (left, right) budget d ps e in
-      many-same (λ x. In (x .pair) (turned (pairs t) (documentLimits .pairs) (left, right) budget) × SkippedPlace t x) (λ x. Reachable t (left, right) (x .pair) × SkippedPlace t x) (passedOver image left right budget)
+      let w = build-whole (pairs t) ((limitsFor who) .pairs) (left, right) budget d ps e in
+      let q = turned-built (pairs t) ((limitsFor who) .pairs) (left, right) budget d ps e in
+      many-same (λ x. In (x .pair) (turned (pairs t) ((limitsFor who) .pairs) (left, right) budget) × SkippedPlace t x) (λ x. Reachable t (left, right) (x .pair) × SkippedPlace t x) (passedOver who image left right budget)
       (λ x. ((λ z. (w .exactly (x .pair) .0 (subst (λ l. In (x .pair) l) q (z .0)), z .1)), λ z. (subst (λ l. In (x .pair) l) (sym q) (w .exactly (x .pair) .1 (z .0)), z .1)))
-      (counts image left right budget)
+      (counts who image left right budget)
 
-  pub counts-all : (k : ℕ) → PairCount t (left, right) k → k ≤ budget → Many (λ x. Reachable t (left, right) (x .pair) × SkippedPlace t x) (passedOver image left right budget)
-  counts-all k c h = go (run-ends (pairs t) (making documentLimits t) (left, right) budget o ran)
+  pub counts-all : (k : ℕ) → PairCount t (left, right) k → k ≤ budget → Many (λ x. Reachable t (left, right) (x .pair) × SkippedPlace t x) (passedOver who image left right budget)
+  counts-all k c h = go (run-ends (pairs t) (making (limitsFor who) t) (left, right) budget o ran)
     where
-      go : Ends (pairs t) (making documentLimits t) (left, right) budget o → All
-      go (inBuilding root e s) = absurd (omega (arith, build-cut (pairs t) (documentLimits .pairs) (left, right) k c budget e))
+      go : Ends (pairs t) (making (limitsFor who) t) (left, right) budget o → All
+      go (inBuilding root e s) = absurd (omega (arith, build-cut (pairs t) ((limitsFor who) .pairs) (left, right) k c budget e))
       go (inStarting root ps d e l s) = counts-built ps d e
       go (inRounds ps d j e l f) = counts-built ps d e
 
   -- .. so in a complete run
-  pub counts-complete : o .complete ≡ true → Many (λ x. Reachable t (left, right) (x .pair) × SkippedPlace t x) (passedOver image left right budget)
-  counts-complete full = go (run-ends (pairs t) (making documentLimits t) (left, right) budget o ran)
+  pub counts-complete : o .complete ≡ true → Many (λ x. Reachable t (left, right) (x .pair) × SkippedPlace t x) (passedOver who image left right budget)
+  counts-complete full = go (run-ends (pairs t) (making (limitsFor who) t) (left, right) budget o ran)
     where
-      go : Ends (pairs t) (making documentLimits t) (left, right) budget o → All
+      go : Ends (pairs t) (making (limitsFor who) t) (left, right) budget o → All
       go (inBuilding root e s) = absurd (clash (sym full ∙ started-says (pairs t) (left, right) root 1 o s .2))
       go (inStarting root ps d e l s) = counts-built ps d e
       go (inRounds ps d j e l f) = counts-built ps d e
@@ -136,21 +138,21 @@ module _ (image : List ℕ) (left right budget : ℕ) (fit : Bool) (out out′ :
   -- "A complete run remains least among derivations without the skipped pairs": its quality is that of one of them, and every other has at least as much.
   pub least-without-skipped : o .complete ≡ true → ((h : ℕ) × Without t h (left, right) (o .quality)) × ((h : ℕ) (z : Two) → Without t h (left, right) z → o .quality ⊑ z)
   least-without-skipped full =
-      let (k, _, d) = D.least-of-height (pairs t) (making documentLimits t) (MoveWithout t) (without-moves t) (left, right) budget o ran .0 in
-      ((k, d), D.least-of-every-height (pairs t) (making documentLimits t) (MoveWithout t) (without-moves t) (left, right) budget o ran full)
+      let (k, _, d) = D.least-of-height (pairs t) (making (limitsFor who) t) (MoveWithout t) (without-moves t) (left, right) budget o ran .0 in
+      ((k, d), D.least-of-every-height (pairs t) (making (limitsFor who) t) (MoveWithout t) (without-moves t) (left, right) budget o ran full)
 
   -- .. and any run among those whose height is at most the rounds reported
   pub least-of-height-without : LeastWithout t (o .rounds) (left, right) (o .quality)
-  least-of-height-without = D.least-of-height (pairs t) (making documentLimits t) (MoveWithout t) (without-moves t) (left, right) budget o ran
+  least-of-height-without = D.least-of-height (pairs t) (making (limitsFor who) t) (MoveWithout t) (without-moves t) (left, right) budget o ran
 
   -- A complete run with `skipped 0` is least among all derivations: none was passed over.
-  pub least-of-all : o .complete ≡ true → passedOver image left right budget ≡ 0 → (h : ℕ) (z : Two) → AnyDerivation t h (left, right) z → o .quality ⊑ z
+  pub least-of-all : o .complete ≡ true → passedOver who image left right budget ≡ 0 → (h : ℕ) (z : Two) → AnyDerivation t h (left, right) z → o .quality ⊑ z
   least-of-all full zero h z d =
       least-without-skipped full .1 h z
-      (keep t (left, right) (λ x r s. many-none _ (passedOver image left right budget) (counts-complete full) zero x (r, s)) (queried refl) d)
+      (keep t (left, right) (λ x r s. many-none _ (passedOver who image left right budget) (counts-complete full) zero x (r, s)) (queried refl) d)
 
--- ---- a short and a long call: the same image and classes, budgets b ≤ c; each has its own buffers
+-- ---- a short and a long call: the same caller, image and classes, budgets b ≤ c; each has its own buffers
 -- Where the short one is complete, the long one shows the same number.
-pub same-number : (image : List ℕ) (left right b c : ℕ) → b ≤ c → (fit : Bool) (out out′ : List ℕ) (n : ℕ) (short : Merges image left right b fit out out′ (Listing n))
-    → o image left right b fit out out′ n short .complete ≡ true → passedOver image left right c ≡ passedOver image left right b
-same-number image left right b c h fit out out′ n short = same-skipped documentLimits (tablesOf image) (left, right) b c (o image left right b fit out out′ n short) h (ran image left right b fit out out′ n short)
+pub same-number : (who : Caller) (image : List ℕ) (left right b c : ℕ) → b ≤ c → (fit : Bool) (out out′ : List ℕ) (n : ℕ) (short : Merges who image left right b fit out out′ (Listing n))
+    → o who image left right b fit out out′ n short .complete ≡ true → passedOver who image left right c ≡ passedOver who image left right b
+same-number who image left right b c h fit out out′ n short = same-skipped (limitsFor who) (tablesOf image) (left, right) b c (o who image left right b fit out out′ n short) h (ran who image left right b fit out out′ n short)

@@ -11,9 +11,9 @@ ghost use Rattle.entering.specs.Growing.{Small, Laid, Graph, Enters};
 use arrays::key;
 use arrays::keys;
 use arrays::place;
-use numbers::at_u16;
-use numbers::put_u16;
 use query::Limits;
+use stores::at_u16;
+use stores::put_u16;
 
 // How many pairs there are; or refusal 12.
 pub enum Grown {

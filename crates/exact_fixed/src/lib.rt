@@ -73,7 +73,7 @@ fn start_one(
         Entered::Term(t) => {
             let size = starting::start_size(s, im, l, r);
             let mass = starting::start_mass(s, im, l, r);
-            arrays::give(pairs, WIDTH * k, size, mass, short_size(t));
+            giving::give(pairs, WIDTH * k, size, mass, short_size(t));
             return One::Entered;
         }
     }

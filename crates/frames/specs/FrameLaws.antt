@@ -14,6 +14,7 @@ use Rattle.laws.specs.Tests.{both-true}
 use Rattle.decimals.specs.Writing.{Wrote}
 use Rattle.decimals.specs.WriteLaws.{wrote-then, wrote-length, wrote-as}
 use Rattle.decimals.specs.DecimalLaws.{decimal-short}
+use Rattle.spec.specs.declared.Caller.the-variants.{Desk}
 use Rattle.query.specs.declared.Query.{Query}
 use Rattle.frames.specs.Frame.{framed, queryOf, refusalBytes}
 
@@ -39,7 +40,7 @@ pub by-length : (s : List ℕ) (n : ℕ) → length s ≤ 65536 → 4 ≤ length
 by-length s n g h e = rw (le-leb (length s) INPUT g, le-leb 4 (length s) h, e) refl
 
 -- ---- the query
-pub query-from : (s : List ℕ) (n l r b : ℕ) → n ≡ be4 s 0 + 4 → l ≡ be2 s n → r ≡ be2 s (n + 2) → b ≡ be4 s (n + 4) → _≡_ {A = Query} (record { left = l; right = r; budget = b }) (queryOf s)
+pub query-from : (s : List ℕ) (n l r b : ℕ) → n ≡ be4 s 0 + 4 → l ≡ be2 s n → r ≡ be2 s (n + 2) → b ≡ be4 s (n + 4) → _≡_ {A = Query} (record { left = l; right = r; budget = b; caller = Desk }) (queryOf s)
 query-from s n l r b e x y z = rw (x, y, z, e) refl
 
 -- ---- a refusal's line

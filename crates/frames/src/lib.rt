@@ -15,6 +15,7 @@ use numbers::short_u64;
 use numbers::size_u8;
 use numbers::size_u64;
 use query::Query;
+use spec::Caller;
 
 // "a missing or overlong query, or input over 65,536 bytes, prints `refused 2`"
 pub fn is_framed(input: &[u8]) -> bool
@@ -44,7 +45,7 @@ fn narrow(x: usize) -> u16
     x as u16
 }
 
-// the query behind the image
+// the query behind the image: the desk's
 pub fn query_of(input: &[u8]) -> Query
     requires { ⌜ framed (now input) ≡ true ⌝ }
     ensures { λ r. ⌜ r ≡ queryOf (now (input .entry)) ⌝ }
@@ -57,6 +58,7 @@ pub fn query_of(input: &[u8]) -> Query
         left: left,
         right: right,
         budget: budget,
+        caller: Caller::Desk,
     }
 }
 

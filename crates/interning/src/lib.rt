@@ -16,7 +16,7 @@ ghost use Rattle.terms.specs.Buffers.{BUCKETS, countIn, part, nodeOf, nodeIn};
 ghost use Rattle.terms.specs.Chains.{keyOf, Holds, Rooms};
 ghost use Rattle.interning.specs.Interning.{Tells, Sought, Interning};
 use term_entry::enter;
-use term_entry::key;
+use term_key::key;
 
 // a term that was there or was entered; or refusal 13
 pub enum Entered {
@@ -69,12 +69,12 @@ fn look_up(
     requires { ⌜ Holds (now terms) (now runs) × (n ≤ length (now list)) × (bucket ≡ keyOf h v (part (now list) 0 n)) × (bucket < BUCKETS) ⌝ }
     ensures { λ r. ⌜ Sought (now (terms .entry)) (now (runs .entry)) (nodeOf h v (part (now (list .entry)) 0 n)) r ⌝ }
 {
-    let mut t = numbers::at_u32(terms, BUCKET + bucket);
+    let mut t = stores::at_u32(terms, BUCKET + bucket);
     while 0 < t {
         if is_term(terms, runs, t - 1, list, n, h, v) {
             return t;
         }
-        t = numbers::at_u32(terms, CHAINS + (t - 1) * 4);
+        t = stores::at_u32(terms, CHAINS + (t - 1) * 4);
     }
     0
 }

@@ -12,15 +12,15 @@ fn append(list: &mut [u64], m: usize, x: u64) -> usize
     ensures { λ r. ⌜ Begins (appendNumber (part (now (list .entry)) 0 m) x) (now (list .entry)) (now (list .exit)) r ⌝ }
 {
     if m == 0 {
-        numbers::put_u64(list, 0, x);
+        stores::put_u64(list, 0, x);
         return 1;
     }
     let y = list[m - 1];
     if y % 16384 == x % 16384 {
-        numbers::put_u64(list, m - 1, y + x / 16384 * 16384);
+        stores::put_u64(list, m - 1, y + x / 16384 * 16384);
         return m;
     }
-    numbers::put_u64(list, m, x);
+    stores::put_u64(list, m, x);
     m + 1
 }
 

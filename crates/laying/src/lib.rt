@@ -11,8 +11,8 @@ ghost use Rattle.cells.specs.Cells.{sidesOf, Sides, Joined};
 ghost use Rattle.laying.specs.Tried.{Tried};
 use cell_costs::largest_mass;
 use cell_costs::lay_cells;
-use numbers::put_u32;
 use numbers::short_u64;
+use stores::put_u32;
 
 // the largest number of rows and of columns
 const SIDE: usize = 65;

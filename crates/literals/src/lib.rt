@@ -11,7 +11,7 @@ use class_literals::slot;
 use image::Image;
 use members::member_op;
 use members::member_value;
-use numbers::put_u16;
+use stores::put_u16;
 
 // In each slot the number after that of the last member marked there: no later member has a literal of this slot.
 fn mark(s: &[u8], im: Image, last: &mut [u16; 4093])

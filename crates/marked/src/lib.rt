@@ -14,8 +14,8 @@ pub fn variants(lim: Limits, terms: &mut [u32], runs: &mut [u64], a: usize, b: u
     ensures { λ r. ⌜ Gives (now (terms .entry)) (now (runs .entry)) (now (terms .exit)) (now (runs .exit)) (intern (limitsOf lim) (poolOf (now (terms .entry)) (now (runs .entry))) (variantsNode a b)) r ⌝ }
 {
     let mut list = [0u64; 2];
-    numbers::put_u64(&mut list, 0, 16384 + numbers::long_size(a));
-    numbers::put_u64(&mut list, 1, 16384 + numbers::long_size(b));
+    stores::put_u64(&mut list, 0, 16384 + numbers::long_size(a));
+    stores::put_u64(&mut list, 1, 16384 + numbers::long_size(b));
     let n = joining::join_runs(&mut list, 2);
     interning::intern(lim, terms, runs, &list, n, 128, 0)
 }

@@ -18,7 +18,7 @@ use Rattle.prepare.specs.Preparing.{acceptedOf}
 use Rattle.contract.specs.declared.Answer.{Answer}
 use Rattle.contract.specs.Answers.{answerOf, Carries}
 
--- `mergeUnder` past 1 (crate spec), but refused 12 too where the graph's array of m numbers has no room for the classes of the image
+-- `mergeUnder` past 1 (crate spec), but refused 13 too where the graph's array of m numbers has no room for the classes of the image
 unfoldable pub mergeAt : Limits → ℕ → List ℕ → Query → ℕ → Res (List ℕ)
 unfolding acceptedOf listingOf system.runOf skippedIn
 mergeAt lim m image q room = do

@@ -1,31 +1,29 @@
--- What the parts of `merge_under` cite; and what the merge at given limits has to do with the merge at document 01's.
+-- What the parts of `merge_under` cite.
 use mathlib.Core.Path.{_≡_, refl, sym, ap, _∙_}
 use mathlib.Core.Logic.{_≢_, inl, inr}
 use mathlib.Core.Bool.{Bool, true, false}
 use mathlib.Core.List.{List}
 use Prim.Native.Nat.{ℕ, _+_, _*_, _≤_, _<_}
 use native.Mathlib.Omega.{arith}
-use lib.Dec.{leb, ltb}
+use lib.Dec.{leb}
 use lib.ListN.{length, replicate}
-use borrow.Author.Tests.{le-leb, leb-true}
-use Rattle.spec.specs.Bytes.{both, workAfter, Limits, Res, ok, refused, _>>=_, rule}
-use Rattle.spec.specs.Image.{Tables, imageOf, lowestDoubled, tablesOf}
+use borrow.Author.Tests.{leb-true}
+use Rattle.spec.specs.Bytes.{workAfter, Limits, Res, ok, refused}
+use Rattle.spec.specs.Image.{lowestDoubled, tablesOf}
 use Rattle.spec.specs.Pairs.{pairs, making}
 use Rattle.spec.specs.Graph.{skippedIn}
-use Rattle.spec.specs.Run.{documentLimits, Outcome, runOf}
+use Rattle.spec.specs.Run.{Outcome, runOf}
 use Rattle.spec.specs.Listing.{listingOf}
-use Rattle.spec.specs.Merge.{mergeUnder, mergeOf, outputAfter}
+use Rattle.spec.specs.Merge.{outputAfter}
 use Rattle.laws.specs.Valid.{Valid}
 use Rattle.laws.specs.Accepted as A
 use Rattle.laws.specs.Results.{refused-ok, refused-inj}
 use Rattle.steps.specs.Refusals.{run-refused}
-use Rattle.lgg.specs.Limits.{refuses13, merge-same}
-use Rattle.pools.specs.Refused.{NoLess}
+use Rattle.lgg.specs.Limits.{refuses13}
 use Rattle.image.specs.Loaded.{Loaded}
 use Rattle.image.specs.declared.Image.{Image}
 use Rattle.query.specs.Settings.{askedOf}
 use Rattle.query.specs.declared.Query.{Query}
-use Rattle.arrays.specs.ArrayLaws.{square}
 use Rattle.outcome.specs.Answers as X
 use Rattle.work_clearing.specs.Cleared as C
 use Rattle.outcome.specs.declared.Answer as O
@@ -35,7 +33,7 @@ use Rattle.beginning.specs.ReadyLaws.{begins-ready}
 use Rattle.prepared.specs.declared.Begun.{Begun}
 use Rattle.pair_search.specs.declared.Pair.{Pair}
 use Rattle.pair_search.specs.Records.{none}
-use Rattle.prepare.specs.Preparing.{roomFor, acceptedOf, Goes, Prepares}
+use Rattle.prepare.specs.Preparing.{acceptedOf, Goes, Prepares}
 use Rattle.prepare.specs.PreparingLaws.{goes-accepted}
 use Rattle.prepared.specs.declared.Prepared.{Prepared}
 use Rattle.prepared.specs.declared.Prepared.the-variants as P
@@ -140,50 +138,3 @@ work-cleared a b c d e f a′ e′ f′ u v w x y z p₁ p₅ p₆ k = record {
   terms = cleared-as 0 e e′ y p₅ (k .terms);
   runs = cleared-as 0 f f′ z p₆ (k .runs);
 }
-
--- ---- document 01's limits
-module _ (s : List ℕ) (q : Query) (room : ℕ) where
-  -- what stands past 11
-  rest : Limits → Tables → Res (List ℕ)
-  rest lim t = X.listedOf (skippedIn lim t (askedOf q) (q .budget)) (runOf lim t (askedOf q) (q .budget)) room
-
-  eleven : Tables → Res Unit
-  eleven t = rule 11 (both (ltb (q .left) (length (t .classes))) (ltb (q .right) (length (t .classes))))
-
-  -- 12 for want of room is all that `mergeUnder` does not have
-  under-at : (lim : Limits) (m : ℕ) (r : Res (List ℕ)) → mergeAt lim m s q room ≡ r → ((r ≡ refused 12) → ⊥) → mergeUnder lim true s (q .left) (q .right) (q .budget) room ≡ r
-  unfolding mergeAt acceptedOf mergeUnder X.listedOf rest eleven
-  under-at lim m r e n12 = first (imageOf s) e
-    where
-      third : (t : Tables) (b : Bool) → ((rule 12 b >>= λ _. ok t) >>= rest lim) ≡ r → rest lim t ≡ r
-      third t true e = e
-      third t false e = absurd (n12 (sym e))
-
-      second : (t : Tables) (x : Res Unit) → ((x >>= λ _. (rule 12 (roomFor lim (length (t .classes)) m) >>= λ _. ok t)) >>= rest lim) ≡ r → (x >>= λ _. rest lim t) ≡ r
-      second t (ok u) e = third t (roomFor lim (length (t .classes)) m) e
-      second t (refused n) e = e
-
-      first : (x : Res Tables) → ((x >>= λ t. (eleven t >>= λ _. (rule 12 (roomFor lim (length (t .classes)) m) >>= λ _. ok t))) >>= rest lim) ≡ r → (x >>= λ t. (eleven t >>= λ _. rest lim t)) ≡ r
-      first (ok t) e = second t (eleven t) e
-      first (refused n) e = e
-
-  -- an answer under smaller limits that is neither 12 nor 13 is the answer of the merge
-  pub under-same : (lim : Limits) → NoLess lim documentLimits → (m : ℕ) (r : Res (List ℕ)) → mergeAt lim m s q room ≡ r → ((r ≡ refused 12) → ⊥) → ((r ≡ refused 13) → ⊥) → mergeOf true s (q .left) (q .right) (q .budget) room ≡ r
-  unfolding mergeOf
-  under-same lim less m r e n12 n13 = merge-same lim documentLimits less true s (q .left) (q .right) (q .budget) room r (under-at lim m r e n12) n12 n13
-
-  -- an array of 69,632 numbers has room for the classes of every image
-  pub under-full : (m : ℕ) → 69632 ≤ m → mergeAt documentLimits m s q room ≡ mergeOf true s (q .left) (q .right) (q .budget) room
-  unfolding mergeAt acceptedOf mergeOf mergeUnder X.listedOf rest eleven
-  under-full m h = first (imageOf s) refl
-    where
-      third : (t : Tables) (b : Bool) → b ≡ true → ((rule 12 b >>= λ _. ok t) >>= rest documentLimits) ≡ rest documentLimits t
-      third t b e = rw e refl
-
-      second : (t : Tables) → roomFor documentLimits (length (t .classes)) m ≡ true → (x : Res Unit) → ((x >>= λ _. (rule 12 (roomFor documentLimits (length (t .classes)) m) >>= λ _. ok t)) >>= rest documentLimits) ≡ (x >>= λ _. rest documentLimits t)
-      second t e (ok u) = third t (roomFor documentLimits (length (t .classes)) m) e
-      second t e (refused n) = refl
-
-      first : (x : Res Tables) → imageOf s ≡ x → ((x >>= λ t. (eleven t >>= λ _. (rule 12 (roomFor documentLimits (length (t .classes)) m) >>= λ _. ok t))) >>= rest documentLimits) ≡ (x >>= λ t. (eleven t >>= λ _. rest documentLimits t))
-      first (ok t) e = second t (le-leb (length (t .classes) * length (t .classes) + 4096) m (omega (arith, h, square (length (t .classes)) (A.valid s t e .counts .fewClasses)))) (eleven t)
-      first (refused n) e = refl

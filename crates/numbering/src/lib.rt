@@ -21,8 +21,8 @@ fn settle(marks: &mut [u16], n: usize, t: usize)
     requires { ⌜ (2 * n + 1 < length (now marks)) × (2 * t < length (now marks)) × (n < 16384) × (t < 16384) ⌝ }
     ensures { λ _. ⌜ now (marks .exit) ≡ settle (now (marks .entry)) n t ⌝ }
 {
-    numbers::put_u16(marks, 2 * t, n + 1);
-    numbers::put_u16(marks, 2 * n + 1, t);
+    stores::put_u16(marks, 2 * t, n + 1);
+    stores::put_u16(marks, 2 * n + 1, t);
 }
 
 // t and its subterms that have no number yet get the numbers after n0, children first
@@ -60,7 +60,7 @@ pub fn number_of(marks: &[u16], t: usize) -> u64
     requires { ⌜ 0 < getD (now marks) (2 * t) 0 ⌝ }
     ensures { λ r. ⌜ r ≡ getD (now (marks .entry)) (2 * t) 0 - 1 ⌝ }
 {
-    numbers::long_size(numbers::at_u16(marks, 2 * t) - 1)
+    numbers::long_size(stores::at_u16(marks, 2 * t) - 1)
 }
 
 // the term of line k
@@ -68,5 +68,5 @@ pub fn term_at(marks: &[u16], k: usize) -> usize
     requires { ⌜ 2 * k + 1 < length (now marks) ⌝ }
     ensures { λ r. ⌜ r ≡ getD (now (marks .entry)) (2 * k + 1) 0 ⌝ }
 {
-    numbers::at_u16(marks, 2 * k + 1)
+    stores::at_u16(marks, 2 * k + 1)
 }

@@ -21,7 +21,7 @@ fn kept_run(s: &[u8], im: Image, best: &[u16], k: usize) -> u64
 {
     let c = members::child_class(s, im, k);
     let n = members::child_times(s, im, k);
-    n * 16384 + numbers::long_size(numbers::at_u16(best, c) - 1)
+    n * 16384 + numbers::long_size(stores::at_u16(best, c) - 1)
 }
 
 // the n children from child k on, as runs over the kept terms of their classes
@@ -31,7 +31,7 @@ fn kept_runs(s: &[u8], im: Image, best: &[u16], list: &mut [u64], k: usize, n: u
 {
     let mut i = 0;
     while i < n {
-        numbers::put_u64(list, i, kept_run(s, im, best, k + i));
+        stores::put_u64(list, i, kept_run(s, im, best, k + i));
         i += 1;
     }
 }

@@ -57,6 +57,6 @@ pub fn settle_one(changed: bool, pairs: &mut [u32], k: usize)
     let mass = pairs[at + NEW + MASS];
     let term = pairs[at + NEW + TERM];
     if moved(changed, pairs[at + TERM], term) {
-        arrays::give(pairs, at, size, mass, term);
+        giving::give(pairs, at, size, mass, term);
     }
 }

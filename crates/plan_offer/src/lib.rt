@@ -22,9 +22,9 @@ use arrays::size_of;
 use arrays::term_of;
 use cells::cell;
 use numbers::long_u32;
-use numbers::put_u64;
 use quality::Best;
 use quality::How;
+use stores::put_u64;
 use wide::Wide;
 
 // ---- its quality

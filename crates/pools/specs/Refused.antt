@@ -62,7 +62,8 @@ pub record NoLess (l m : Limits) : Type 0 where
   pub terms : l .terms ≤ m .terms
   pub runs : l .runs ≤ m .runs
 
-module _ (l m : Limits) (h : NoLess l m) where
+-- the limits of terms and runs alone, since the pool does not read that of pairs
+module _ (l m : Limits) (terms : l .terms ≤ m .terms) (runs : l .runs ≤ m .runs) where
   pub intern-kept : (p : Pool) (n : Node) → Kept (intern l p n) (intern m p n)
   unfolding intern
   intern-kept p n = kept-room 13 (interned p (place (sameNode n) p)) (interned (p ++ (n ∷ [])) (length p)) (ltb (place (sameNode n) p) (length p)) (room l) (room m) (go (ltb (length p) (l .terms)) refl (leb (runCount p + length (n .runs)) (l .runs)) refl)
@@ -71,7 +72,7 @@ module _ (l m : Limits) (h : NoLess l m) where
       room k = both (ltb (length p) (k .terms)) (leb (runCount p + length (n .runs)) (k .runs))
 
       go : (x : Bool) → ltb (length p) (l .terms) ≡ x → (y : Bool) → leb (runCount p + length (n .runs)) (l .runs) ≡ y → both x y ≡ true → room m ≡ true
-      go true a true b e = rw (lt-ltb (length p) (m .terms) (omega (arith, ltb-true (length p) (l .terms) a, h .terms)), le-leb (runCount p + length (n .runs)) (m .runs) (omega (arith, leb-true (runCount p + length (n .runs)) (l .runs) b, h .runs))) refl
+      go true a true b e = rw (lt-ltb (length p) (m .terms) (omega (arith, ltb-true (length p) (l .terms) a, terms)), le-leb (runCount p + length (n .runs)) (m .runs) (omega (arith, leb-true (runCount p + length (n .runs)) (l .runs) b, runs))) refl
       go true a false b e = absurd (let z : _≡_ {A = ℕ} 0 1 = cc in omega arith)
       go false a y b e = absurd (let z : _≡_ {A = ℕ} 0 1 = cc in omega arith)
 

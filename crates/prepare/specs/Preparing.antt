@@ -20,13 +20,13 @@ use Rattle.prepared.specs.declared.Prepared.the-variants.{Refused, Doubled, Go}
 abbrev pub roomFor : Limits → ℕ → ℕ → Bool
 roomFor lim w m = leb (w * w + lim .pairs) m
 
--- 2 to 11, and 12 where the graph's array of m numbers has no room for the classes of the image: the tables of an image that is accepted, for a query of its classes
+-- 2 to 11, and 13 where the graph's array of m numbers has no room for the classes of the image (not 12, which says that a pair beyond the limit was met): the tables of an image that is accepted, for a query of its classes
 unfoldable pub acceptedOf : Limits → ℕ → List ℕ → Query → Res Tables
 unfolding imageOf
 acceptedOf lim m image q = do
   t ← imageOf image
   _ ← rule 11 (both (ltb (q .left) (length (t .classes))) (ltb (q .right) (length (t .classes))))
-  _ ← rule 12 (roomFor lim (length (t .classes)) m)
+  _ ← rule 13 (roomFor lim (length (t .classes)) m)
   ok t
 
 -- the image is accepted, and the query is of its classes

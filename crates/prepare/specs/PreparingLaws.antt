@@ -35,14 +35,14 @@ module _ (lim : Limits) (m : ℕ) (s : List ℕ) (q : Query) where
     right-refused g h = rw (e, lt-ltb (q .left) (length (tablesOf s .classes)) (omega (arith, classes-many s im L)), le-ltb (q .right) (length (tablesOf s .classes)) (omega (arith, classes-many s im L))) refl
 
     -- past 11
-    past-eleven : q .left < im .classes → q .right < im .classes → (b : Bool) → roomFor lim (im .classes) m ≡ b → acceptedOf lim m s q ≡ (rule 12 b >>= λ _. ok (tablesOf s))
+    past-eleven : q .left < im .classes → q .right < im .classes → (b : Bool) → roomFor lim (im .classes) m ≡ b → acceptedOf lim m s q ≡ (rule 13 b >>= λ _. ok (tablesOf s))
     unfolding acceptedOf
     past-eleven g h b r =
         let n = classes-many s im L in
         rw (e, lt-ltb (q .left) (length (tablesOf s .classes)) (omega (arith, n, g)), lt-ltb (q .right) (length (tablesOf s .classes)) (omega (arith, n, h)), n, r) refl
 
-    -- 12
-    pub room-refused : q .left < im .classes → q .right < im .classes → roomFor lim (im .classes) m ≡ false → acceptedOf lim m s q ≡ refused 12
+    -- 13 for want of room
+    pub room-refused : q .left < im .classes → q .right < im .classes → roomFor lim (im .classes) m ≡ false → acceptedOf lim m s q ≡ refused 13
     room-refused g h r = past-eleven g h false r
 
   pub goes-accepted : (im : Image) → Goes lim m s q im → acceptedOf lim m s q ≡ ok (tablesOf s)

@@ -1,4 +1,4 @@
-// Before the pair table: refusals 2 to 11 (and 12 where the graph's array has no room for the classes), the root's starting term, and building.
+// Before the pair table: refusals 2 to 11 (and 13 where the graph's array has no room for the classes), the root's starting term, and building.
 ghost use mathlib.Core.Path.{_≡_};
 ghost use Prim.Native.Nat.{_≤_};
 ghost use Rattle.spec.specs.Bytes.{ok};
@@ -23,7 +23,7 @@ fn has_room(lim: Limits, im: Image, len: usize) -> bool
     arrays::keys(im.classes) + lim.pairs <= len
 }
 
-// 11, 12 for want of room, the root's starting term, and building.
+// 11, 13 for want of room, the root's starting term, and building.
 fn start(
     lim: Limits,
     s: &[u8],
@@ -46,10 +46,10 @@ fn start(
         let b = beginning::begin(lim, s, im, q, graph, terms, runs);
         return Prepared::Go(im, b);
     }
-    Prepared::Refused(12)
+    Prepared::Refused(13)
 }
 
-// 2 to 11, 12 for want of room, the root's starting term, and building.
+// 2 to 11, 13 for want of room, the root's starting term, and building.
 pub fn prepare(
     lim: Limits,
     s: &[u8],

@@ -10,8 +10,9 @@ use borrow.Author.Tests.{ne-eqb}
 use Rattle.spec.specs.Bytes.{refused}
 use Rattle.spec.specs.Image.{tablesOf}
 use Rattle.spec.specs.Pairs.{pairs, making}
-use Rattle.spec.specs.Run.{documentLimits}
-use Rattle.spec.specs.Merge.{mergeOf}
+use Rattle.spec.specs.Run.{limitsFor}
+use Rattle.spec.specs.declared.Caller.{Caller}
+use Rattle.spec.specs.Merge.{mergeFor}
 use Rattle.laws.specs.Accepted as A
 use Rattle.laws.specs.Results.{refused-ok, refused-inj}
 use Rattle.lgg.specs.Count.{pair-count}
@@ -25,28 +26,28 @@ use Rattle.returned.specs.declared.Returned.{Returned}
 use Rattle.returned.specs.Returns.{returnedOf, Returns, lengths}
 
 -- a refusal's number is 1 to 14
-pub number : (fit : Bool) (image : List ℕ) (left right budget room k : ℕ) → mergeOf fit image left right budget room ≡ refused k → (1 ≤ k) × (k ≤ 14)
-number fit image left right budget room k q = go (way fit image left right budget room)
+pub number : (who : Caller) (fit : Bool) (image : List ℕ) (left right budget room k : ℕ) → mergeFor who fit image left right budget room ≡ refused k → (1 ≤ k) × (k ≤ 14)
+number who fit image left right budget room k q = go (way who fit image left right budget room)
   where
-    same : (j : ℕ) → mergeOf fit image left right budget room ≡ refused j → j ≡ k
+    same : (j : ℕ) → mergeFor who fit image left right budget room ≡ refused j → j ≡ k
     same j e = refused-inj (sym e ∙ q)
 
-    from : (j : ℕ) → mergeOf fit image left right budget room ≡ refused j → 1 ≤ j → j ≤ 14 → (1 ≤ k) × (k ≤ 14)
+    from : (j : ℕ) → mergeFor who fit image left right budget room ≡ refused j → 1 ≤ j → j ≤ 14 → (1 ≤ k) × (k ≤ 14)
     from j e a b = let z = same j e in (omega arith, omega arith)
 
-    go : Way fit image left right budget room (mergeOf fit image left right budget room) → (1 ≤ k) × (k ≤ 14)
+    go : Way who fit image left right budget room (mergeFor who fit image left right budget room) → (1 ≤ k) × (k ≤ 14)
     go (short e f) = from 1 e (omega arith) (omega arith)
     go (unsound j e f g) = let z = A.refused-in-its-case image j .0 g in from j e (omega (arith, z .0)) (omega (arith, z .1))
     go (outside e f g h) = from 11 e (omega arith) (omega arith)
     go (stopped j e T f) =
         let (n, c, _) = pair-count (tablesOf image) (left, right) in
-        elim (refused-by (pairs (tablesOf image)) (making documentLimits (tablesOf image)) (refuses13 documentLimits (tablesOf image)) (left, right) n c budget j f) [ inl x ↦ let z = x .0 in from j e (omega arith) (omega arith) | inr x ↦ from j e (omega arith) (omega arith) ]
+        elim (refused-by (pairs (tablesOf image)) (making (limitsFor who) (tablesOf image)) (refuses13 (limitsFor who) (tablesOf image)) (left, right) n c budget j f) [ inl x ↦ let z = x .0 in from j e (omega arith) (omega arith) | inr x ↦ from j e (omega arith) (omega arith) ]
     go (over o e T f h) = from 14 e (omega arith) (omega arith)
     go (listed o e T f h) = absurd (refused-ok (sym q ∙ e))
 
 -- each case's numbers say what the case says
-pub returns-of : (image : List ℕ) (left right budget : ℕ) (fit : Bool) (out out′ : List ℕ) (a : Answer) → Merges image left right budget fit out out′ a → Returns image left right budget fit out out′ (returnedOf a)
-returns-of image left right budget fit out out′ (Listing n) m = record {
+pub returns-of : (who : Caller) (image : List ℕ) (left right budget : ℕ) (fit : Bool) (out out′ : List ℕ) (a : Answer) → Merges who image left right budget fit out out′ a → Returns who image left right budget fit out out′ (returnedOf a)
+returns-of who image left right budget fit out out′ (Listing n) m = record {
   result = m .answer;
   output = m .output;
   room = m .carries;
@@ -55,8 +56,8 @@ returns-of image left right budget fit out out′ (Listing n) m = record {
   no-listing = λ e. absurd (e refl);
   no-class = λ e. refl;
 }
-returns-of image left right budget fit out out′ (Refused k) m =
-    let (a, b) = number fit image left right budget (length out) k (sym (m .answer)) in
+returns-of who image left right budget fit out out′ (Refused k) m =
+    let (a, b) = number who fit image left right budget (length out) k (sym (m .answer)) in
     record {
       result = rw (ne-eqb k 0 (λ e. absurd (omega arith))) (m .answer);
       output = m .output;
@@ -66,7 +67,7 @@ returns-of image left right budget fit out out′ (Refused k) m =
       no-listing = λ e. refl;
       no-class = λ e. refl;
     }
-returns-of image left right budget fit out out′ (Doubled c) m = record {
+returns-of who image left right budget fit out out′ (Doubled c) m = record {
   result = m .answer;
   output = m .output;
   room = omega arith;
@@ -76,8 +77,8 @@ returns-of image left right budget fit out out′ (Doubled c) m = record {
   no-class = λ e. absurd (e refl);
 }
 
-pub returns-as : (image : List ℕ) (left right budget : ℕ) (fit : Bool) (out out′ : List ℕ) (a : Answer) (r : Returned) → r ≡ returnedOf a → Merges image left right budget fit out out′ a → Returns image left right budget fit out out′ r
-returns-as image left right budget fit out out′ a r e m = rw e (returns-of image left right budget fit out out′ a m)
+pub returns-as : (who : Caller) (image : List ℕ) (left right budget : ℕ) (fit : Bool) (out out′ : List ℕ) (a : Answer) (r : Returned) → r ≡ returnedOf a → Merges who image left right budget fit out out′ a → Returns who image left right budget fit out out′ r
+returns-as who image left right budget fit out out′ a r e m = rw e (returns-of who image left right budget fit out out′ a m)
 
 -- buffers of these lengths are never refused
 pub lengths-fit : fitOf 256 (lengths .graph) (lengths .pairs) (lengths .work) (lengths .flow) (lengths .terms) (lengths .runs) ≡ true

@@ -1,4 +1,4 @@
--- What a call with the C interface returns: each case of the answer as numbers.
+-- What a call of `tariff_merge` or `tariff_quote`, the C interface, returns: each case of the answer as numbers.
 use mathlib.Core.Path.{_≡_}
 use mathlib.Core.Logic.{_≢_}
 use mathlib.Core.Bool.{Bool}
@@ -8,7 +8,8 @@ use lib.Dec.{eqb}
 use lib.ListN.{length, take}
 use Rattle.spec.specs.Bytes.{pick, Res, ok, refused}
 use Rattle.spec.specs.Image.{lowestDoubled, tablesOf}
-use Rattle.spec.specs.Merge.{mergeOf, outputAfter}
+use Rattle.spec.specs.Merge.{mergeFor, outputAfter}
+use Rattle.spec.specs.declared.Caller.{Caller}
 use Rattle.contract.specs.declared.Answer.{Answer}
 use Rattle.contract.specs.declared.Answer.the-variants.{Listing, Refused, Doubled}
 use Rattle.returned.specs.declared.Returned.{Returned}
@@ -24,10 +25,10 @@ returnedOf (Doubled c) = record { number = 10; bytes = 0; class = c }
 abbrev pub resultOf : List ℕ → Returned → Res (List ℕ)
 resultOf out r = pick (eqb (r .number) 0) (ok (take (r .bytes) out)) (refused (r .number))
 
--- `fit`: no work buffer is below its constant length; `out`, `out′`: the output buffer before and after the call.
-pub record Returns (image : List ℕ) (left right budget : ℕ) (fit : Bool) (out out′ : List ℕ) (r : Returned) : Type 0 where
-  pub result : resultOf out′ r ≡ mergeOf fit image left right budget (length out)
-  pub output : out′ ≡ outputAfter out (mergeOf fit image left right budget (length out))
+-- A call of the caller `who` (02, Paper 9): of `tariff_merge` the desk's, of `tariff_quote` the quote page's. `fit`: no work buffer is below its constant length; `out`, `out′`: the output buffer before and after the call.
+pub record Returns (who : Caller) (image : List ℕ) (left right budget : ℕ) (fit : Bool) (out out′ : List ℕ) (r : Returned) : Type 0 where
+  pub result : resultOf out′ r ≡ mergeFor who fit image left right budget (length out)
+  pub output : out′ ≡ outputAfter out (mergeFor who fit image left right budget (length out))
   -- the listing's bytes are all in the output buffer
   pub room : r .bytes ≤ length out′
   -- the table of refusals, without those of the transport alone
@@ -38,6 +39,6 @@ pub record Returns (image : List ℕ) (left right budget : ℕ) (fit : Bool) (ou
   pub no-listing : r .number ≢ 0 → r .bytes ≡ 0
   pub no-class : r .number ≢ 10 → r .class ≡ 0
 
--- The constant lengths of the work buffers (docs/BUFFERS.md).
+-- The constant lengths of the work buffers (docs/BUFFERS.md): (02, Paper 9) "the same for both" callers.
 abbrev pub lengths : Lengths
 lengths = record { graph = 4352; pairs = 1536; work = 1024; flow = 256; terms = 3074; runs = 1024 }

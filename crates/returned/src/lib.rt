@@ -15,7 +15,7 @@ pub struct Returned {
     pub class: usize,
 }
 
-// How many numbers each work buffer of `tariff_merge` has at least.
+// How many numbers each work buffer of `tariff_merge` and of `tariff_quote` has at least.
 #[repr(C)]
 pub struct Lengths {
     pub graph: usize,

@@ -4,3 +4,4 @@ pub mod Slips
 pub mod Bounds
 pub mod Refusals
 pub mod Limits
+pub mod Callers

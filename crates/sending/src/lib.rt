@@ -6,9 +6,9 @@ ghost use Rattle.spec.specs.Transport.{WIDEST};
 ghost use Rattle.search_laws.specs.Walk.{LAST, stepsFrom};
 ghost use Rattle.search_laws.specs.Path.{Step, Steps, sentOn, sent};
 use net::NODES;
-use numbers::put_u64;
 use plan_parts::less;
 use plan_parts::place;
+use stores::put_u64;
 use tracing::LAST;
 
 // n units along the step from u to v.

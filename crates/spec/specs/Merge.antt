@@ -12,8 +12,10 @@ use Rattle.spec.specs.Pool.{startingTerm}
 use Rattle.spec.specs.System as system
 use Rattle.spec.specs.Pairs.{offersOf, actionTerm}
 use Rattle.spec.specs.Graph.{skippedIn}
-use Rattle.spec.specs.Run.{documentLimits, runOf}
+use Rattle.spec.specs.Run.{limitsFor, runOf}
 use Rattle.spec.specs.Listing.{listingOf, line}
+use Rattle.spec.specs.declared.Caller.{Caller}
+use Rattle.spec.specs.declared.Caller.the-variants.{Desk}
 
 -- "Order: 1 to 11, then 12 and 13 as met, 14 last". 2 to 10 are the image's, 12 and 13 the run's.
 -- `fit`: no work buffer is below its constant length; `room`: the output buffer's length.
@@ -28,10 +30,15 @@ mergeUnder lim fit image left right budget room = do
   _ ← rule 14 (leb (length l) room)
   ok l
 
--- at document 01's limits
-unfoldable pub mergeOf : Bool → List ℕ → ℕ → ℕ → ℕ → ℕ → Res (List ℕ)
+-- (02, Paper 9) "Refusal 12 is returned at the caller's own limit": of the quote page or the account desk
+unfoldable pub mergeFor : Caller → Bool → List ℕ → ℕ → ℕ → ℕ → ℕ → Res (List ℕ)
 unfolding mergeUnder
-mergeOf fit image left right budget room = mergeUnder documentLimits fit image left right budget room
+mergeFor c fit image left right budget room = mergeUnder (limitsFor c) fit image left right budget room
+
+-- document 01's merge: "the account desk keeps 4,096"
+unfoldable pub mergeOf : Bool → List ℕ → ℕ → ℕ → ℕ → ℕ → Res (List ℕ)
+unfolding mergeFor
+mergeOf fit image left right budget room = mergeFor Desk fit image left right budget room
 
 -- What the output buffer holds afterwards: the listing, and past it what it held; after a refusal all that it held.
 -- A work buffer afterwards is `workAfter` (Bytes) of `fit`: "An accepted call clears the work buffers too (every number zero)".

@@ -11,10 +11,21 @@ unfoldable pub use Rattle.spec.specs.System.{afterRound}
 use Rattle.spec.specs.Pairs.{pairs, making}
 use Rattle.spec.specs.Graph.{PAIRS}
 use Rattle.spec.specs.Round.{Turn}
+use Rattle.spec.specs.declared.Caller.{Caller}
+use Rattle.spec.specs.declared.Caller.the-variants.{Page, Desk}
 
--- "a pair beyond 4,096 would be entered", "a term beyond 16,384 or a run beyond 65,536 would be entered"
+-- (02, Paper 9) "The public quote page .. may hold 256 pairs, while the account desk keeps 4,096"
+abbrev pub limitOf : Caller → ℕ
+limitOf Page = 256
+limitOf Desk = PAIRS
+
+-- "Refusal 12 is returned at the caller's own limit, one of these two"; "a term beyond 16,384 or a run beyond 65,536 would be entered"
+abbrev pub limitsFor : Caller → Limits
+limitsFor c = record { pairs = limitOf c; terms = TERMS; runs = RUNS }
+
+-- "a pair beyond 4,096 would be entered": document 01's limits are the desk's
 abbrev pub documentLimits : Limits
-documentLimits = record { pairs = PAIRS; terms = TERMS; runs = RUNS }
+documentLimits = limitsFor Desk
 
 abbrev pub startingTerms : Limits → Tables → List Two → ℕ → Pool → Res (Checked Terms)
 startingTerms lim t cs b p = system.startingTerms (making lim t) cs b p

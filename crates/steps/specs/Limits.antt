@@ -1,5 +1,6 @@
--- Larger limits: what is accepted under some limits is accepted, and is the same, under limits that are no less.
-use mathlib.Core.Path.{_≡_, refl, ap}
+-- Larger limits: what is accepted under some limits is accepted, and is the same, under limits that are no less; and where the limit of nodes alone is larger, whatever is not refused by 12 is the same.
+use mathlib.Core.Path.{_≡_, refl, sym, ap, _∙_}
+use mathlib.Core.Logic.{_⊎_, inl, inr}
 use mathlib.Core.Bool.{Bool, true, false}
 use mathlib.Core.List.{List, [], _∷_, _++_}
 use Prim.Native.Nat.{ℕ, zero, suc, _≤_}
@@ -10,13 +11,19 @@ use borrow.Author.Tests.{ltb-true, lt-ltb}
 use Rattle.spec.specs.Bytes.{any, Two, Res, ok, refused, _>>=_, Checked, passed, cutShort}
 use Rattle.spec.specs.Pool.{Pool, Interned}
 use Rattle.spec.specs.System.{System, Making, enter, enterAll, buildFrom, build, turnedFrom, turned, lookUp, Choice, stay, act, Turn, changes, turnsOf, planRuns, choiceTerm, Terms, turnsTerms, startingTerms, Outcome, State, outcome, stateAfter, afterRound, roundTerms, roundsFrom, startState, afterStarting, afterBuilding, runOf}
-use Rattle.laws.specs.Results.{Kept, kept-bind, kept-room, refused-ok, bind-ok}
+use Rattle.laws.specs.Results.{Only13, Kept, kept-bind, kept-ok, kept-room, refused-ok, bind-ok, bind-refused}
+use Rattle.steps.specs.Graph.{build-refused}
+use Rattle.steps.specs.Refusals.{Refuses13, after-only}
+
+-- a making whose terms are refused no more
+pub record Roomier {N : Type 0} (L M : Making N) : Type 0 where
+  pub start : (p : Pool) (c : N) → Kept (L .startingTerm p c) (M .startingTerm p c)
+  pub action : (p : Pool) (o : ℕ) (r : List Two) → Kept (L .actionTerm p o r) (M .actionTerm p o r)
 
 -- a making that refuses no more
 pub record Wider {N : Type 0} (L M : Making N) : Type 0 where
   pub nodes : L .limit ≤ M .limit
-  pub start : (p : Pool) (c : N) → Kept (L .startingTerm p c) (M .startingTerm p c)
-  pub action : (p : Pool) (o : ℕ) (r : List Two) → Kept (L .actionTerm p o r) (M .actionTerm p o r)
+  pub terms : Roomier L M
 
 -- ---- building
 module _ {N : Type 0} (S : System N) (l m : ℕ) (h : l ≤ m) where
@@ -78,7 +85,7 @@ module _ {N : Type 0} (S : System N) (l m : ℕ) (h : l ≤ m) where
       go (refused n) y k z = absurd (refused-ok z)
 
 -- ---- terms
-module _ {N : Type 0} (L M : Making N) (W : Wider L M) where
+module _ {N : Type 0} (L M : Making N) (W : Roomier L M) where
   starting-kept : (cs : List N) (b : ℕ) (p : Pool) → Kept (startingTerms L cs b p) (startingTerms M cs b p)
   unfolding startingTerms
   starting-kept [] b p = refl
@@ -97,8 +104,8 @@ module _ {N : Type 0} (L M : Making N) (W : Wider L M) where
   turns-kept of (c ∷ ps) (w ∷ ws) zero p = refl
   turns-kept of (c ∷ ps) (w ∷ ws) (suc b) p = kept-bind (choiceTerm L of p (of c) (w .choice)) (choiceTerm M of p (of c) (w .choice)) _ _ (choice-kept of p (of c) (w .choice)) (λ a. kept-bind (turnsTerms L of ps ws b (a .pool)) (turnsTerms M of ps ws b (a .pool)) _ _ (turns-kept of ps ws b (a .pool)) (λ r. refl))
 
--- ---- the run
-module _ {N : Type 0} (S : System N) (L M : Making N) (W : Wider L M) where
+-- ---- rounds
+module _ {N : Type 0} (S : System N) (L M : Making N) (W : Roomier L M) where
   round-kept : (ps : List N) (s : State) (ws : List (Turn N)) (b : ℕ) → Kept (roundTerms S L ps s ws b) (roundTerms S M ps s ws b)
   unfolding roundTerms
   round-kept ps s ws zero = refl
@@ -132,9 +139,11 @@ module _ {N : Type 0} (S : System N) (L M : Making N) (W : Wider L M) where
       go cutShort = refl
       go (passed r c) = rounds-kept c ps (startState S ps r c)
 
+-- ---- the run
+module _ {N : Type 0} (S : System N) (L M : Making N) (W : Wider L M) where
   pub run-kept : (p : N) (b : ℕ) → Kept (runOf S L p b) (runOf S M p b)
   unfolding runOf
-  run-kept p b = kept-bind (L .startingTerm [] p) (M .startingTerm [] p) _ _ (W .start [] p) (λ root. kept-bind (build S (L .limit) p b) (build S (M .limit) p b) _ _ (build-kept S (L .limit) (M .limit) (W .nodes) p b) (λ g. after-kept p root g))
+  run-kept p b = kept-bind (L .startingTerm [] p) (M .startingTerm [] p) _ _ (W .terms .start [] p) (λ root. kept-bind (build S (L .limit) p b) (build S (M .limit) p b) _ _ (build-kept S (L .limit) (M .limit) (W .nodes) p b) (λ g. after-kept S L M (W .terms) p root g))
 
   -- of a run that is not refused the same nodes have their turns in building
   pub run-turned : (p : N) (b : ℕ) (o : Outcome) → runOf S L p b ≡ ok o → turned S (M .limit) p b ≡ turned S (L .limit) p b
@@ -143,3 +152,39 @@ module _ {N : Type 0} (S : System N) (L M : Making N) (W : Wider L M) where
       let (root, _, f) = bind-ok (L .startingTerm [] p) _ o e in
       let (g, k, _) = bind-ok (build S (L .limit) p b) _ o f in
       turned-kept S (L .limit) (M .limit) (W .nodes) p b g k
+
+  -- Where both may enter as many nodes, a run refused by 12 is refused by 12: before it only the root's starting term was made, and the terms are refused by 13 alone.
+  pub run-twelve : Refuses13 L → L .limit ≡ M .limit → (p : N) (b : ℕ) → runOf S L p b ≡ refused 12 → runOf S M p b ≡ refused 12
+  unfolding runOf
+  run-twelve R same p b e = go (bind-refused (L .startingTerm [] p) (λ root. build S (L .limit) p b >>= λ g. afterBuilding S L p root g) 12 e)
+    where
+      go : (L .startingTerm [] p ≡ refused 12) ⊎ ((root : Interned) × (L .startingTerm [] p ≡ ok root) × ((build S (L .limit) p b >>= λ g. afterBuilding S L p root g) ≡ refused 12)) → (M .startingTerm [] p >>= λ root. build S (M .limit) p b >>= λ g. afterBuilding S M p root g) ≡ refused 12
+      go (inl z) = absurd (omega (arith, R .start [] p 12 z))
+      go (inr (root, y, z)) = elim (bind-refused (build S (L .limit) p b) (λ g. afterBuilding S L p root g) 12 z) [
+        | inl x ↦ rw (kept-ok (L .startingTerm [] p) (M .startingTerm [] p) root (W .terms .start [] p) y, sym (ap (λ (n : ℕ). build S n p b) same) ∙ x) refl
+        | inr x ↦ absurd (omega (arith, after-only S L R p root (x .0) 12 (x .2)))
+      ]
+
+-- ---- a larger limit of nodes alone
+both-kept : {A : Type 0} (x y : Res A) → Kept x y → Kept y x → Only13 x → Only13 y → x ≡ y
+both-kept (ok a) y k j h g = sym k
+both-kept (refused n) (ok b) k j h g = j
+both-kept (refused n) (refused i) k j h g = ap refused (h n refl ∙ sym (g i refl))
+
+-- terms that are kept both ways and refused by 13 alone are the same
+module _ {N : Type 0} (S : System N) (L M : Making N) (W : Wider L M) (B : Roomier M L) (R : Refuses13 L) (Q : Refuses13 M) where
+  -- A run is refused by 12, or it is the run with the larger limit: only building reads the limit, and it is refused by 12 alone.
+  pub run-or-twelve : (p : N) (b : ℕ) → (runOf S L p b ≡ refused 12) ⊎ (runOf S L p b ≡ runOf S M p b)
+  unfolding runOf
+  run-or-twelve p b = starts (L .startingTerm [] p) (M .startingTerm [] p) (both-kept (L .startingTerm [] p) (M .startingTerm [] p) (W .terms .start [] p) (B .start [] p) (R .start [] p) (Q .start [] p))
+    where
+      rest : Making N → Interned → Res (Checked (List N)) → Res Outcome
+      rest K root g = g >>= λ x. afterBuilding S K p root x
+
+      built : (root : Interned) (x : Res (Checked (List N))) → build S (L .limit) p b ≡ x → (y : Res (Checked (List N))) → Kept x y → (rest L root x ≡ refused 12) ⊎ (rest L root x ≡ rest M root y)
+      built root (ok g) e y k = inr (rw k (both-kept (afterBuilding S L p root g) (afterBuilding S M p root g) (after-kept S L M (W .terms) p root g) (after-kept S M L B p root g) (after-only S L R p root g) (after-only S M Q p root g)))
+      built root (refused n) e y k = inl (ap refused (build-refused S (L .limit) p b n e .0))
+
+      starts : (x y : Res Interned) → x ≡ y → ((x >>= λ root. rest L root (build S (L .limit) p b)) ≡ refused 12) ⊎ ((x >>= λ root. rest L root (build S (L .limit) p b)) ≡ (y >>= λ root. rest M root (build S (M .limit) p b)))
+      starts (ok root) y e = rw (← e) (built root (build S (L .limit) p b) refl (build S (M .limit) p b) (build-kept S (L .limit) (M .limit) (W .nodes) p b))
+      starts (refused n) y e = inr (rw (← e) refl)

@@ -59,7 +59,8 @@ module _ {N : Type 0} (S : System N) (M : Making N) (R : Refuses13 M) where
       go cutShort ih = only-ok (outcome false ps s)
       go (passed r b) ih = by (any changes ws) r b ih
 
-  after-only : (p : N) (root : Interned) (g : Checked (List N)) → Only13 (afterBuilding S M p root g)
+  -- once the graph is built, 13 is the only refusal
+  pub after-only : (p : N) (root : Interned) (g : Checked (List N)) → Only13 (afterBuilding S M p root g)
   unfolding afterBuilding afterStarting
   after-only p root cutShort = only-ok (started S p root 1)
   after-only p root (passed ps b) = only-bind (startingTerms M ps b (root .pool)) _ (starting-only M R ps b (root .pool)) go

@@ -1,6 +1,7 @@
 // The merge for other languages: calls with the C interface, and the lengths of the work buffers.
 ghost use mathlib.Core.Path.{_≡_};
 ghost use lib.ListN.{length};
+ghost use Rattle.spec.specs.declared.Caller.the-variants.{Page, Desk};
 ghost use Rattle.contract.specs.Merges.{fitOf};
 ghost use Rattle.contract.specs.Answers.{Cleared};
 ghost use Rattle.returned.specs.Children.{ReturnsAdded};
@@ -8,10 +9,12 @@ ghost use Rattle.returned.specs.Narrows.{ReturnsNarrowed};
 ghost use Rattle.returned.specs.Returns.{lengths, Returns};
 use numbers::long_size;
 use numbers::size_u16;
+use query::Query;
 use returned::AddedChild;
 use returned::Lengths;
 use returned::NarrowedList;
 use returned::Returned;
+use spec::Caller;
 
 #[no_mangle]
 pub extern "C" fn tariff_lengths() -> Lengths
@@ -20,7 +23,19 @@ pub extern "C" fn tariff_lengths() -> Lengths
     returned::buffer_lengths()
 }
 
-// `merge` of crate `au` with a pair table of its own.
+// The question, as one value.
+fn asked(left: u16, right: u16, budget: u32, caller: Caller) -> Query
+    ensures { λ r. ⌜ r ≡ record { left = left; right = right; budget = budget; caller = caller } ⌝ }
+{
+    Query {
+        left: left,
+        right: right,
+        budget: budget,
+        caller: caller,
+    }
+}
+
+// The account desk's call: `merge_plain` of crate `au`, with 4,096 pairs.
 #[no_mangle]
 pub extern "C" fn tariff_merge(
     image: &[u8],
@@ -37,21 +52,34 @@ pub extern "C" fn tariff_merge(
 ) -> Returned
     ensures { λ r. do
       let fit = fitOf 256 (length (now (graph .entry))) (length (now (pairs .entry))) (length (now (work .entry))) (length (now (flow .entry))) (length (now (terms .entry))) (length (now (runs .entry)))
-      ⌜ Returns (now (image .entry)) left right budget fit (now (out .entry)) (now (out .exit)) r × Cleared fit (now (graph .entry)) (now (graph .exit)) (now (pairs .entry)) (now (pairs .exit)) (now (work .entry)) (now (work .exit)) (now (flow .entry)) (now (flow .exit)) (now (terms .entry)) (now (terms .exit)) (now (runs .entry)) (now (runs .exit)) ⌝ }
+      ⌜ Returns Desk (now (image .entry)) left right budget fit (now (out .entry)) (now (out .exit)) r × Cleared fit (now (graph .entry)) (now (graph .exit)) (now (pairs .entry)) (now (pairs .exit)) (now (work .entry)) (now (work .exit)) (now (flow .entry)) (now (flow .exit)) (now (terms .entry)) (now (terms .exit)) (now (runs .entry)) (now (runs .exit)) ⌝ }
 {
-    let a = au::merge_plain(
-        image,
-        left,
-        right,
-        budget,
-        graph,
-        pairs,
-        work,
-        flow,
-        terms,
-        runs,
-        out,
-    );
+    let q = asked(left, right, budget, Caller::Desk);
+    let a = au::merge_plain(image, q, graph, pairs, work, flow, terms, runs, out);
+    returned::numbers_of(a)
+}
+
+// The quote page's call: the same with 256 pairs.
+#[no_mangle]
+pub extern "C" fn tariff_quote(
+    image: &[u8],
+    left: u16,
+    right: u16,
+    budget: u32,
+    graph: &mut [u16],
+    pairs: &mut [u32],
+    work: &mut [u64],
+    flow: &mut [u64],
+    terms: &mut [u32],
+    runs: &mut [u64],
+    out: &mut [u8],
+) -> Returned
+    ensures { λ r. do
+      let fit = fitOf 256 (length (now (graph .entry))) (length (now (pairs .entry))) (length (now (work .entry))) (length (now (flow .entry))) (length (now (terms .entry))) (length (now (runs .entry)))
+      ⌜ Returns Page (now (image .entry)) left right budget fit (now (out .entry)) (now (out .exit)) r × Cleared fit (now (graph .entry)) (now (graph .exit)) (now (pairs .entry)) (now (pairs .exit)) (now (work .entry)) (now (work .exit)) (now (flow .entry)) (now (flow .exit)) (now (terms .entry)) (now (terms .exit)) (now (runs .entry)) (now (runs .exit)) ⌝ }
+{
+    let q = asked(left, right, budget, Caller::Page);
+    let a = au::merge_plain(image, q, graph, pairs, work, flow, terms, runs, out);
     returned::numbers_of(a)
 }
 

@@ -1,4 +1,3 @@
 pub mod TermEntry
-pub mod KeyLaws
 pub mod CopyLaws
 pub mod EnterLaws

@@ -1,4 +1,4 @@
-// A node's key, and a term entered: after the last one, in the chain of its key.
+// A term entered: after the last one, in the chain of its key.
 use terms::BUCKET;
 use terms::CHAINS;
 use terms::COUNT;
@@ -11,39 +11,10 @@ ghost use mathlib.Core.Path.{_≡_};
 ghost use Prim.Native.Nat.{_+_, _*_, _≤_, _<_};
 ghost use lib.ListN.{length};
 ghost use lib.Seq.{paste};
-ghost use Rattle.terms.specs.Buffers.{BUCKETS, LEAST, firstIn, countIn, part};
-ghost use Rattle.terms.specs.Chains.{mixOf, fold, keyOf, Holds};
+ghost use Rattle.terms.specs.Buffers.{BUCKETS, LEAST, firstIn, countIn};
+ghost use Rattle.terms.specs.Chains.{Holds};
 ghost use Rattle.term_entry.specs.TermEntry.{putTerm, putChain, enterTerm, enterRuns};
 
-// ---- the key of a node
-fn mix(x: u64, r: u64) -> u64
-    requires { ⌜ x < 4294967296 ⌝ }
-    ensures { λ s. ⌜ (s ≡ mixOf x r) × (s < 4294967296) ⌝ }
-{
-    (x * 31 + r % 4294967296 + r / 4294967296) % 4294967296
-}
-
-fn folded(x: u64) -> usize
-    requires { ⌜ x < 4294967296 ⌝ }
-    ensures { λ r. ⌜ (r ≡ fold x) × (r < BUCKETS) ⌝ }
-{
-    numbers::size_u64((x + x / 1024 + x / 1048576) % 1024)
-}
-
-pub fn key(list: &[u64], n: usize, h: u32, v: u32) -> usize
-    requires { ⌜ n ≤ length (now list) ⌝ }
-    ensures { λ r. ⌜ (r ≡ keyOf h v (part (now (list .entry)) 0 n)) × (r < BUCKETS) ⌝ }
-{
-    let mut x = (numbers::long_u32(h) * 4096 + numbers::long_u32(v)) % 4294967296;
-    let mut i = 0;
-    while i < n {
-        x = mix(x, list[i]);
-        i += 1;
-    }
-    folded(x)
-}
-
-// ---- entering
 fn copy_runs(runs: &mut [u64], from: usize, list: &[u64], n: usize)
     requires { ⌜ (from + n ≤ length (now runs)) × (n ≤ length (now list)) ⌝ }
     ensures { λ _. ⌜ now (runs .exit) ≡ paste (now (runs .entry)) from (now (list .entry)) n ⌝ }
@@ -59,9 +30,9 @@ fn put_term(terms: &mut [u32], t: usize, h: u32, v: u32, end: u32)
     requires { ⌜ LEAST + (t + 1) * 4 ≤ length (now terms) ⌝ }
     ensures { λ _. ⌜ now (terms .exit) ≡ putTerm (now (terms .entry)) t h v end ⌝ }
 {
-    numbers::put_u32(terms, HEADS + t * 4, h);
-    numbers::put_u32(terms, VALUES + t * 4, v);
-    numbers::put_u32(terms, FIRSTS + (t + 1) * 4, end);
+    stores::put_u32(terms, HEADS + t * 4, h);
+    stores::put_u32(terms, VALUES + t * 4, v);
+    stores::put_u32(terms, FIRSTS + (t + 1) * 4, end);
 }
 
 fn put_chain(terms: &mut [u32], t: usize, bucket: usize)
@@ -69,9 +40,9 @@ fn put_chain(terms: &mut [u32], t: usize, bucket: usize)
     ensures { λ _. ⌜ now (terms .exit) ≡ putChain (now (terms .entry)) t bucket ⌝ }
 {
     let old = terms[BUCKET + bucket];
-    numbers::put_u32(terms, CHAINS + t * 4, old);
-    numbers::put_u32(terms, BUCKET + bucket, numbers::short_size(t + 1));
-    numbers::put_u32(terms, COUNT, numbers::short_size(t + 1));
+    stores::put_u32(terms, CHAINS + t * 4, old);
+    stores::put_u32(terms, BUCKET + bucket, numbers::short_size(t + 1));
+    stores::put_u32(terms, COUNT, numbers::short_size(t + 1));
 }
 
 // the term after the last one, in the chain of its key

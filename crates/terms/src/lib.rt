@@ -44,14 +44,14 @@ pub fn count(terms: &[u32]) -> usize
     requires { ⌜ COUNT < length (now terms) ⌝ }
     ensures { λ r. ⌜ (r ≡ countIn (now (terms .entry))) × (r < 4294967296) ⌝ }
 {
-    numbers::at_u32(terms, COUNT)
+    stores::at_u32(terms, COUNT)
 }
 
 pub fn first(terms: &[u32], t: usize) -> usize
     requires { ⌜ LEAST + t * 4 ≤ length (now terms) ⌝ }
     ensures { λ r. ⌜ (r ≡ firstIn (now (terms .entry)) t) × (r < 4294967296) ⌝ }
 {
-    numbers::at_u32(terms, FIRSTS + t * 4)
+    stores::at_u32(terms, FIRSTS + t * 4)
 }
 
 pub fn head(terms: &[u32], t: usize) -> u32

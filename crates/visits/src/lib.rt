@@ -47,7 +47,7 @@ pub fn visit(
         }
         Taken::To(y) => {
             let term = numbers::short_size(y.term);
-            arrays::give(pairs, WIDTH * k + NEW, y.size, y.mass, term);
+            giving::give(pairs, WIDTH * k + NEW, y.size, y.mass, term);
             return Step::To(y.changed);
         }
     }

@@ -12,7 +12,7 @@ use crate::limits;
 use crate::rng::Rng;
 use crate::skipped;
 
-pub const FAMILIES: [(&str, usize); 21] = [
+pub const FAMILIES: [(&str, usize); 22] = [
     ("mixed", 30),
     ("twins", 24),
     ("ties", 10),
@@ -38,6 +38,8 @@ pub const FAMILIES: [(&str, usize); 21] = [
     ("doubled", 0),
     // The sample's third part.
     ("skipped", 6),
+    // About 256 pairs: drawn by name only.
+    ("page", 0),
 ];
 
 /// The families of the sample's first part.
@@ -623,6 +625,54 @@ fn wide(rng: &mut Rng) -> Img {
     img
 }
 
+/// About 256 pairs, the quote page's limit: rows and columns of literals or of chains, some with
+/// pairs by position; in some images more than the 64 classes that the lent buffers have room for.
+fn page(rng: &mut Rng) -> Img {
+    match rng.below(4) {
+        0 => limits::pairs_over(16, 15, rng.range(250, 257)),
+        1 => limits::pairs_over(64, 3, rng.range(250, 257)),
+        2 => {
+            let (rows, columns) = *rng.pick(&[(17, 15), (16, 16), (51, 5), (64, 4), (23, 11)]);
+            limits::crowded(rows, columns)
+        }
+        _ => {
+            let sides = *rng.pick(&[[17, 15], [15, 17], [16, 16], [51, 5], [8, 32], [18, 14]]);
+            chains(rng, sides)
+        }
+    }
+}
+
+/// A chain on either side, of so many classes, each of one with each of the other.
+fn chains(rng: &mut Rng, sides: [usize; 2]) -> Img {
+    let mut img = Img {
+        ops: vec![op(9, None), op(1, None), op(2, None), op(7, None)],
+        classes: vec![class(vec![lit(0, 1)]), class(vec![lit(0, 2)])],
+    };
+    let most = sides[0].max(sides[1]);
+    let mut sums = Vec::new();
+    for (first, length) in sides.into_iter().enumerate() {
+        let mut row = vec![first];
+        while row.len() < length {
+            let under = row[row.len() - 1];
+            let member = match rng.below(3) {
+                0 => over(2, &[under, *rng.pick(&row)]),
+                _ => over(1, &[under]),
+            };
+            row.push(img.classes.len());
+            img.classes.push(class(vec![member]));
+        }
+        let mut sum = over(3, &row);
+        sum.children[0].1 += (most - length) as u32;
+        sums.push(class(vec![sum]));
+    }
+    img.classes.extend(sums);
+    img.order();
+    if !img.settle() {
+        return mixed(rng);
+    }
+    img
+}
+
 /// Many pairs: a row of chains on either side, each with each.
 fn grid(rng: &mut Rng) -> Img {
     let n = rng.range(12, 50);
@@ -757,6 +807,7 @@ fn image(rng: &mut Rng, family: &str) -> Img {
         "chain" => chain(rng),
         "wide" => wide(rng),
         "grid" => grid(rng),
+        "page" => page(rng),
         "huge" => huge(rng),
         "literals" => literals(rng),
         "reverse" => reverse(rng),
@@ -805,7 +856,7 @@ pub fn frames(rng: &mut Rng, family: &str) -> Vec<Vec<u8>> {
     let img = image(rng, if family == "damaged" { "mixed" } else { family });
     let n = img.classes.len();
     let last = [
-        "chain", "wide", "grid", "lists", "cells", "crowded", "terms", "long", "literals",
+        "chain", "wide", "grid", "lists", "cells", "crowded", "terms", "long", "literals", "page",
     ]
     .contains(&family);
     let drawn = |rng: &mut Rng| {

@@ -13,6 +13,8 @@ pub enum Judge {
         pruning: bool,
     },
     Model(Slip),
+    /// The model with the quote page's 256 pairs.
+    Page,
     /// The model, with the number of skipped monomial pairs counted by force.
     Force,
     /// A command that takes a stream of frames and gives a stream of answers.
@@ -81,13 +83,14 @@ pub fn call(line: &str, input: &[u8]) -> Result<Vec<u8>, String> {
 }
 
 impl Judge {
-    /// `oracle`, `oracle-pruning`, `model`, `force`, `slip:NAME`, `stream:COMMAND` or
+    /// `oracle`, `oracle-pruning`, `model`, `page`, `force`, `slip:NAME`, `stream:COMMAND` or
     /// `each:COMMAND`.
     pub fn parse(word: &str) -> Result<Judge, String> {
         match word.split_once(':') {
             None if word == "oracle" => Ok(Judge::Oracle { pruning: false }),
             None if word == "oracle-pruning" => Ok(Judge::Oracle { pruning: true }),
             None if word == "model" => Ok(Judge::Model(Slip::None)),
+            None if word == "page" => Ok(Judge::Page),
             None if word == "force" => Ok(Judge::Force),
             Some(("stream", line)) => Ok(Judge::Stream(line.to_string())),
             Some(("each", line)) => Ok(Judge::Each(line.to_string())),
@@ -109,6 +112,10 @@ impl Judge {
             Judge::Model(slip) => Ok(frames
                 .iter()
                 .map(|frame| model::answer(frame, *slip).into())
+                .collect()),
+            Judge::Page => Ok(frames
+                .iter()
+                .map(|frame| model::answer_within(model::PAGE, frame, Slip::None).into())
                 .collect()),
             Judge::Force => Ok(frames.iter().map(|frame| skipped::forced(frame)).collect()),
             Judge::Stream(line) => {

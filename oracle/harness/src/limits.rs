@@ -1,6 +1,7 @@
 // SPDX-License-Identifier: Apache-2.0
 //! Images and queries at every limit of document 01 and just past it.
 
+use model::DESK;
 use model::run::run;
 use model::slip::Slip;
 
@@ -184,13 +185,20 @@ fn inputs(found: &mut Vec<Case>) {
     }
 }
 
-/// A graph of exactly `pairs` pairs: 64 × 63 cells, the root, and pairs by position.
+/// A graph of exactly `count` pairs, 4,033 to 4,097.
 pub fn pairs(count: usize) -> Img {
-    let mut classes = literals(127);
-    let left: Vec<usize> = (0..64).collect();
-    let mut right: Vec<(usize, u32)> = (64..127).map(|n| (n, 1)).collect();
-    right[0].1 = 2;
-    let more = count - 1 - 64 * 63;
+    pairs_over(64, 63, count)
+}
+
+/// A graph of exactly `count` pairs: `rows` × `columns` cells, the root, and at most `rows` pairs
+/// by position. The last two classes are queried.
+pub fn pairs_over(rows: usize, columns: usize, count: usize) -> Img {
+    let mut classes = literals(rows + columns);
+    let left: Vec<usize> = (0..rows).collect();
+    let mut right: Vec<(usize, u32)> = (rows..rows + columns).map(|n| (n, 1)).collect();
+    right[0].1 += (rows - columns) as u32;
+    let more = count - 1 - rows * columns;
+    assert!(more <= rows, "pairs by position are different");
     classes.push(class(vec![
         over(1, &left),
         over(2, &(0..more).collect::<Vec<_>>()),
@@ -201,7 +209,7 @@ pub fn pairs(count: usize) -> Img {
             literal: 0,
             children: right,
         },
-        over(2, &(1..=more).map(|n| n % 64).collect::<Vec<_>>()),
+        over(2, &(1..=more).map(|n| n % rows).collect::<Vec<_>>()),
     ]));
     settled(Img {
         ops: vec![op(9), op(7), op(6)],
@@ -221,7 +229,26 @@ fn graphs(found: &mut Vec<Case>) {
     }
 }
 
-/// Graphs of about 4,096 pairs, `rows` x `columns` cells.
+/// (02, Paper 9) Graphs at the limits of both callers and just past them, with their numbers of
+/// pairs. Those about the quote page's limit also in an image of more than the 64 classes that the
+/// lent buffers have room for.
+pub fn callers() -> Vec<(usize, Vec<u8>)> {
+    let shapes = [(16, 15), (64, 3)].map(|shape| (shape, [255, 256, 257]));
+    let mut found = Vec::new();
+    for ((rows, columns), counts) in shapes {
+        found.extend(counts.map(|count| (count, pairs_over(rows, columns, count))));
+    }
+    found.extend([4_096, 4_097].map(|count| (count, pairs(count))));
+    found
+        .into_iter()
+        .map(|(count, img)| {
+            let n = img.classes.len();
+            (count, img.frame(&ask(n - 2, n - 1, u32::MAX)))
+        })
+        .collect()
+}
+
+/// Graphs of `rows` x `columns` cells and the root.
 pub fn crowded(rows: usize, columns: usize) -> Img {
     let mut classes = literals(rows + columns);
     let left: Vec<usize> = (0..rows).collect();
@@ -345,7 +372,7 @@ fn equal_terms() -> Img {
 /// The least budget at which the model refuses with 13.
 fn first_refusal(img: &Img, left: usize, right: usize) -> Option<u32> {
     let image = model::image::accept(&img.bytes(), Slip::None).ok()?;
-    let refused = |budget: u32| run(&image, left, right, budget, Slip::None).is_err();
+    let refused = |budget: u32| run(&image, left, right, budget, DESK, Slip::None).is_err();
     let (mut low, mut high) = (0, 1 << 24);
     if !refused(high) {
         return None;
@@ -423,7 +450,7 @@ pub fn long_lines(width: usize, tail: usize, values: &[u32]) -> Img {
 fn listing_length(img: &Img) -> usize {
     let image = model::image::accept(&img.bytes(), Slip::None).expect("a sound image");
     let n = img.classes.len();
-    let outcome = run(&image, n - 2, n - 1, u32::MAX, Slip::None).expect("no limit but 14");
+    let outcome = run(&image, n - 2, n - 1, u32::MAX, DESK, Slip::None).expect("no limit but 14");
     model::listing::listing(&outcome, Slip::None).len()
 }
 

@@ -200,6 +200,24 @@ fn run(words: &[&str]) -> Result<(), String> {
             }
             Ok(())
         }
+        ["callers"] => {
+            for (pairs, frame) in limits::callers() {
+                let first = |limit| {
+                    let answer = model::answer_within(limit, &frame, Slip::None);
+                    answer.lines().next().unwrap_or("").to_string()
+                };
+                let (page, desk) = (first(model::PAGE), first(model::DESK));
+                println!(
+                    "{:>6} bytes  {pairs} pairs: page {page}, desk {desk}",
+                    frame.len()
+                );
+            }
+            Ok(())
+        }
+        ["frames", "callers"] => {
+            let frames: Vec<Vec<u8>> = limits::callers().into_iter().map(|case| case.1).collect();
+            stdout(&pack(&frames))
+        }
         ["frames", "limits"] => {
             let frames: Vec<Vec<u8>> = limits::cases().into_iter().map(|case| case.1).collect();
             stdout(&pack(&frames))

@@ -2,7 +2,7 @@
 //! What the gate asks of oracle, model and sample.
 
 use harness::drive::{Counts, compare};
-use harness::img::Img;
+use harness::img::{Img, Query};
 use harness::judge::{Judge, as_the_rust, unpack};
 use harness::{damage, draw, limits, pairs, plans, sample, skipped, small, text, verdicts};
 use model::belongs::{Belongs, Reading};
@@ -10,6 +10,7 @@ use model::brute::Derivations;
 use model::image::{Image, LIT, lowest_doubled, tables, verdict};
 use model::run::Phase;
 use model::slip::{SLIPS, Slip};
+use model::{DESK, PAGE};
 
 fn file(name: &str) -> String {
     let path = format!("{}/../{name}", env!("CARGO_MANIFEST_DIR"));
@@ -121,6 +122,107 @@ fn limits_are_where_document_01_puts_them() {
             None => assert!(!answer.starts_with("refused"), "{what}: {answer}"),
         }
     }
+}
+
+/// (02, Paper 9) Each caller is refused beyond its own limit, and what both accept has the same
+/// bytes. The first check lets the root join all other pairs; without it nothing is refused.
+#[test]
+fn callers_are_refused_at_their_own_limits() {
+    for (pairs, mut frame) in limits::callers() {
+        for (budget, reported) in [(0, 1), (1, 1), (u32::MAX, pairs)] {
+            let at = frame.len() - 4;
+            frame[at..].copy_from_slice(&budget.to_be_bytes());
+            for (limit, most) in [(PAGE, 256), (DESK, 4_096)] {
+                let answer = model::answer_within(limit, &frame, Slip::None);
+                if pairs > most && budget > 0 {
+                    assert_eq!(answer, "refused 12\n", "{pairs} pairs, limit {limit}");
+                } else {
+                    let line = format!(" pairs {reported} rounds ");
+                    assert!(answer.contains(&line), "{pairs} pairs, limit {limit}");
+                    assert!(alike(&frame, &answer));
+                    assert_eq!(answer, model::answer(&frame, Slip::None));
+                }
+            }
+        }
+    }
+}
+
+/// The calls of crate samples, module Callers, are answered as they say, and their image is that of
+/// callers.image.
+#[test]
+fn the_definitions_tests_of_both_callers() {
+    let (img, _) = text::parse(&file("sample/callers.image")).unwrap();
+    let hex: String = img.bytes().iter().map(|b| format!("{b:02x}")).collect();
+    let module = file("../crates/samples/specs/Callers.antt");
+    assert!(module.contains(&format!("hex \"{hex}\"")));
+    let said = |word: &str| word.split('"').nth(1).unwrap().replace("\\n", "\n");
+    let named = |name: &str| {
+        let start = format!("{name} = \"");
+        module
+            .lines()
+            .find(|line| line.starts_with(&start))
+            .map(said)
+            .unwrap()
+    };
+    let mut met = [0; 2];
+    for line in module.lines() {
+        let Some((_, call)) = line.split_once(" : mergeFor ") else {
+            continue;
+        };
+        let (call, answer) = call.split_once(" ≡ ").unwrap();
+        let ["Page" | "Desk", "true" | "false", "image", numbers @ ..] =
+            &call.split(' ').collect::<Vec<_>>()[..]
+        else {
+            panic!("{line}");
+        };
+        let numbers: Vec<usize> = numbers.iter().map(|n| n.parse().unwrap()).collect();
+        let [left, right, budget, room] = numbers[..] else {
+            panic!("{line}");
+        };
+        let budget = budget as u32;
+        let frame = img.frame(&Query {
+            left,
+            right,
+            budget,
+        });
+        let page = call.starts_with("Page");
+        met[usize::from(page)] += 1;
+        let limit = if page { PAGE } else { DESK };
+        let model = match model::answer_within(limit, &frame, Slip::None) {
+            _ if call.contains("false") => "refused 1\n".to_string(),
+            listing if !listing.starts_with("refused") && listing.len() > room => {
+                "refused 14\n".to_string()
+            }
+            other => other,
+        };
+        let answer = match answer.strip_prefix("ok ") {
+            Some(_) => {
+                let rest = answer.trim_end_matches(')').rsplit_once(' ').unwrap().1;
+                said(answer) + &named(rest)
+            }
+            None => format!("{answer}\n"),
+        };
+        assert_eq!(model, answer, "{line}");
+    }
+    assert!(met[0] > 2 && met[1] > 5, "{met:?}");
+}
+
+/// What the quote page accepts has the desk's bytes, on drawn queries about the page's limit.
+#[test]
+fn what_the_page_accepts_the_desk_accepts() {
+    let mut met = [0; 3];
+    for frame in draw(20_261_116, 600, Some("page")) {
+        let page = model::answer_within(PAGE, &frame, Slip::None);
+        let desk = model::answer(&frame, Slip::None);
+        let case = match page.as_str() {
+            "refused 12\n" if desk == page => 0,
+            "refused 12\n" => 1,
+            _ => 2,
+        };
+        met[case] += 1;
+        assert!(case < 2 || desk == page);
+    }
+    assert!(met[0] == 0 && met[1] > 50 && met[2] > 200, "{met:?}");
 }
 
 /// The number at the head of a damaged frame's name is its refusal.

@@ -32,6 +32,8 @@ pub struct Graph {
     pub pairs: Vec<Pair>,
     pub actions: Vec<Vec<Action>>,
     number: HashMap<Pair, usize>,
+    /// How many pairs may be entered.
+    limit: usize,
     passed_over: HashSet<PassedOver>,
     pub met: Monomials,
 }
@@ -78,12 +80,14 @@ impl Graph {
         image: &Image,
         root: Pair,
         budget: &mut Budget,
+        limit: usize,
         slip: Slip,
     ) -> Result<Built, Refusal> {
         let mut graph = Graph {
             pairs: Vec::new(),
             actions: Vec::new(),
             number: HashMap::new(),
+            limit,
             passed_over: HashSet::new(),
             met: Monomials::default(),
         };
@@ -188,15 +192,16 @@ impl Graph {
         self.passed_over.insert(once);
     }
 
-    /// The number of a pair; 12: "a pair beyond 4,096 would be entered".
+    /// The number of a pair; 12: "a pair beyond 4,096 would be entered", and "returned at the
+    /// caller's own limit" (02, Paper 9).
     fn enter(&mut self, pair: Pair, slip: Slip) -> Result<usize, Refusal> {
         if let Some(&number) = self.number.get(&pair) {
             return Ok(number);
         }
         let most = match slip {
-            Slip::Pairs4095 => 4_095,
-            Slip::Pairs4097 => 4_097,
-            _ => 4_096,
+            Slip::Pairs4095 => self.limit - 1,
+            Slip::Pairs4097 => self.limit + 1,
+            _ => self.limit,
         };
         if self.pairs.len() == most {
             return Err(Refusal(12));

@@ -42,10 +42,24 @@ pub fn query(frame: &[u8], slip: Slip) -> Result<(Image, usize, usize, u32), Ref
     Ok((image, left, right, budget))
 }
 
+/// (02, Paper 9) "The public quote page .. may hold 256 pairs, while the account desk keeps
+/// 4,096." Program `merge` is the desk's, and so are the answers where no limit is named.
+pub const PAGE: usize = 256;
+pub const DESK: usize = 4_096;
+
 /// The listing and how it came about, or the refusal.
 pub fn outcome(frame: &[u8], slip: Slip) -> Result<(String, Outcome), Refusal> {
+    outcome_within(DESK, frame, slip)
+}
+
+/// The same where at most `limit` pairs may be entered.
+pub fn outcome_within(
+    limit: usize,
+    frame: &[u8],
+    slip: Slip,
+) -> Result<(String, Outcome), Refusal> {
     let (image, left, right, budget) = query(frame, slip)?;
-    let outcome = run(&image, left, right, budget, slip)?;
+    let outcome = run(&image, left, right, budget, limit, slip)?;
     let text = listing::listing(&outcome, slip);
     let room = 65_536 - usize::from(slip == Slip::OutputOneLess);
     if text.len() > room {
@@ -56,7 +70,12 @@ pub fn outcome(frame: &[u8], slip: Slip) -> Result<(String, Outcome), Refusal> {
 
 /// What program `merge` prints to a frame.
 pub fn answer(frame: &[u8], slip: Slip) -> String {
-    match outcome(frame, slip) {
+    answer_within(DESK, frame, slip)
+}
+
+/// What it would print where at most `limit` pairs may be entered.
+pub fn answer_within(limit: usize, frame: &[u8], slip: Slip) -> String {
+    match outcome_within(limit, frame, slip) {
         Ok((text, _)) => text,
         Err(Refusal(number)) => format!("refused {number}\n"),
     }

@@ -56,11 +56,13 @@ pub struct Outcome {
     pub met: Met,
 }
 
+/// A run that may enter `limit` pairs.
 pub fn run(
     image: &Image,
     left: usize,
     right: usize,
     checks: u32,
+    limit: usize,
     slip: Slip,
 ) -> Result<Outcome, Refusal> {
     let mut budget = Budget::new(checks, slip);
@@ -68,7 +70,7 @@ pub fn run(
     let mut met = Met::default();
     // "The root's starting term is entered before building."
     let root = pool.starting(image, left, right)?;
-    let graph = match Graph::build(image, (left, right), &mut budget, slip)? {
+    let graph = match Graph::build(image, (left, right), &mut budget, limit, slip)? {
         Built::Whole(graph) => graph,
         // "A run cut short in building reports 1 pair, any other run n."
         Built::Cut {

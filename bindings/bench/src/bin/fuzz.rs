@@ -10,99 +10,16 @@
 
 use std::collections::BTreeMap;
 
+use bench::buffers::{Buffers, Expected};
 use harness::draw;
 use harness::r#gen::{self, FAMILIES};
 use harness::rng::Rng;
-use model::image::{lowest_doubled, tables};
-use model::slip::Slip;
-use tariff_merge::raw;
+use tariff_merge::Caller;
 
 const OUTPUT: usize = 2_048;
-const GARBAGE: u8 = 0xa5;
 
-struct Buffers {
-    graph: Vec<u16>,
-    pairs: Vec<u32>,
-    work: Vec<u64>,
-    flow: Vec<u64>,
-    terms: Vec<u32>,
-    runs: Vec<u64>,
-    out: Vec<u8>,
-}
-
-impl Buffers {
-    fn new() -> Buffers {
-        Buffers {
-            graph: vec![0; raw::GRAPH + 3],
-            pairs: vec![0; raw::PAIRS + 3],
-            work: vec![0; raw::WORK + 3],
-            flow: vec![0; raw::FLOW + 3],
-            terms: vec![0; raw::TERMS + 3],
-            runs: vec![0; raw::RUNS + 3],
-            out: vec![0; OUTPUT],
-        }
-    }
-
-    fn fill(&mut self) {
-        self.graph.fill(0xa5a5);
-        self.pairs.fill(0xa5a5_a5a5);
-        self.work.fill(0xa5a5_a5a5_a5a5_a5a5);
-        self.flow.fill(0xa5a5_a5a5_a5a5_a5a5);
-        self.terms.fill(0xa5a5_a5a5);
-        self.runs.fill(0xa5a5_a5a5_a5a5_a5a5);
-        self.out.fill(GARBAGE);
-    }
-
-    /// Whether every number of the work buffers is zero, or garbage as before the call.
-    fn all(&self, garbage: bool) -> bool {
-        let (two, four, eight) = if garbage {
-            (0xa5a5, 0xa5a5_a5a5, 0xa5a5_a5a5_a5a5_a5a5)
-        } else {
-            (0, 0, 0)
-        };
-        self.graph.iter().all(|x| *x == two)
-            && self.pairs.iter().all(|x| *x == four)
-            && self.work.iter().all(|x| *x == eight)
-            && self.flow.iter().all(|x| *x == eight)
-            && self.terms.iter().all(|x| *x == four)
-            && self.runs.iter().all(|x| *x == eight)
-    }
-
-    /// One call; `short`: the terms' buffer is one number too short.
-    fn call(&mut self, image: &[u8], query: [u8; 8], short: bool) -> raw::Returned {
-        let [a, b, c, d, e, f, g, h] = query;
-        let terms = if short {
-            raw::TERMS - 1
-        } else {
-            self.terms.len()
-        };
-        // SAFETY: each pointer and length is a vector's own, `terms` not above its length; no two overlap;
-        // `main` runs this on a thread with 64 MiB of stack.
-        unsafe {
-            raw::tariff_merge(
-                image.as_ptr(),
-                image.len(),
-                u16::from_be_bytes([a, b]),
-                u16::from_be_bytes([c, d]),
-                u32::from_be_bytes([e, f, g, h]),
-                self.graph.as_mut_ptr(),
-                self.graph.len(),
-                self.pairs.as_mut_ptr(),
-                self.pairs.len(),
-                self.work.as_mut_ptr(),
-                self.work.len(),
-                self.flow.as_mut_ptr(),
-                self.flow.len(),
-                self.terms.as_mut_ptr(),
-                terms,
-                self.runs.as_mut_ptr(),
-                self.runs.len(),
-                self.out.as_mut_ptr(),
-                self.out.len(),
-            )
-        }
-    }
-}
+/// The buffer that is too short now and then: the terms'.
+const SHORT: usize = 4;
 
 /// Drawn frames.
 enum Drawn {
@@ -170,47 +87,27 @@ fn input(rng: &mut Rng, drawn: &mut Drawn) -> (Vec<u8>, [u8; 8]) {
     (image, query)
 }
 
-/// What the table of refusals says for this image and query: the number, the class where it is 10, and the listing where
-/// there is one.
-fn expected(image: &[u8], query: [u8; 8]) -> (u32, usize, Vec<u8>) {
-    let mut frame = image.to_vec();
-    frame.extend_from_slice(&query);
-    let answer = model::answer(&frame, Slip::None);
-    match answer.strip_prefix("refused ") {
-        Some("10\n") => {
-            let image = tables(image, Slip::None).expect("no rule before 10 is broken");
-            (10, lowest_doubled(&image).expect("a class"), Vec::new())
-        }
-        Some(number) => (number.trim().parse().expect("a number"), 0, Vec::new()),
-        None if answer.len() > OUTPUT => (14, 0, Vec::new()),
-        None => (0, 0, answer.into_bytes()),
-    }
-}
-
 fn fuzz(seed: u64, count: u64, family: Option<&'static str>) -> BTreeMap<u32, u64> {
     let mut rng = Rng::new(seed);
     let mut drawn = Drawn::new(seed, family);
-    let mut buffers = Buffers::new();
+    let mut buffers = Buffers::new(OUTPUT);
     let mut met = BTreeMap::new();
     for turn in 0..count {
         let (image, query) = input(&mut rng, &mut drawn);
         let short = rng.below(500) == 0;
         buffers.fill();
-        let r = buffers.call(&image, query, short);
-        let (number, class, listing) = if short {
-            (1, 0, Vec::new())
+        // SAFETY: `main` runs this on a thread with 64 MiB of stack.
+        let r =
+            unsafe { buffers.call(Caller::Desk, &image, query, short.then_some(SHORT), OUTPUT) };
+        let expected = if short {
+            Expected::refused(1)
         } else {
-            expected(&image, query)
+            Expected::of(Caller::Desk, &image, query, OUTPUT)
         };
-        let right = r.number == number
-            && r.class == class
-            && r.bytes == listing.len()
-            && buffers.out[..r.bytes] == listing[..]
-            && buffers.out[r.bytes..].iter().all(|x| *x == GARBAGE)
-            && buffers.all(short);
+        let right = buffers.hold(r, &expected, short);
         assert!(
             right,
-            "turn {turn} of seed {seed}: {r:?}, expected {number} class {class}; image {image:02x?} query {query:02x?}"
+            "turn {turn} of seed {seed}: {r:?}, expected {expected:?}; image {image:02x?} query {query:02x?}"
         );
         *met.entry(r.number).or_insert(0) += 1;
     }

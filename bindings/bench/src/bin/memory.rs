@@ -56,7 +56,7 @@ fn main() {
         2 * raw::GRAPH + 4 * (raw::PAIRS + raw::TERMS) + 8 * (raw::WORK + raw::FLOW + raw::RUNS);
     println!("| Queries | listed, bytes at the peak | library, bytes of work buffers |");
     println!("|---|---|---|");
-    for family in families() {
+    for family in families().iter().filter(|family| family.number == 0) {
         println!("| {} | {} | {lent} |", family.name, most(&family.frames));
     }
 }

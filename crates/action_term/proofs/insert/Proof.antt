@@ -16,7 +16,7 @@ use Rattle.action_term.proofs.insert.Reads as reads
 use Rattle.action_term.proofs.insert.Lts as lts
 use Rattle.terms.proofs.child.Reads as child-reads
 use Rattle.action_term.proofs.is_greater.Reads as is-greater-reads
-use Rattle.numbers.proofs.put_u64.Reads as put-u64-reads
+use Rattle.stores.proofs.put_u64.Reads as put-u64-reads
 
 abbrev Inv-loop : tie.InvT-loop
 Inv-loop terms runs list₀ i n x j₀ list j = Moving (poolOf terms runs) list₀ i n x list j

@@ -10,7 +10,7 @@ use Rattle.best_terms.proofs.best_term.Tie as tie
 use Rattle.best_terms.proofs.best_term.Reads as reads
 use Rattle.best_terms.proofs.best_term.Lts as lts
 use Rattle.best_terms.proofs.build_best_term.Reads as build-best-term-reads
-use Rattle.numbers.proofs.at_u16.Reads as at-u16-reads
+use Rattle.stores.proofs.at_u16.Reads as at-u16-reads
 
 at-u16-requires : tie.Need-at-u16-requires
 at-u16-requires c κs =

@@ -19,8 +19,8 @@ use Rattle.members.proofs.child_class.Reads as child-class-reads
 use Rattle.members.proofs.child_count.Reads as child-count-reads
 use Rattle.members.proofs.first_child.Reads as first-child-reads
 use Rattle.member_terms.proofs.member_term.Reads as member-term-reads
-use Rattle.numbers.proofs.at_u16.Reads as at-u16-reads
-use Rattle.numbers.proofs.put_u16.Reads as put-u16-reads
+use Rattle.stores.proofs.at_u16.Reads as at-u16-reads
+use Rattle.stores.proofs.put_u16.Reads as put-u16-reads
 
 abbrev Inv-inner : tie.InvT-inner
 Inv-inner lim s im terms₀ runs₀ best class waiting₀ c₀ m k n i₀ terms runs waiting c i =

@@ -1,4 +1,5 @@
-use Rattle.child_list.proofs.Insert.{stands-before, there, added-hit, added-miss}
+use Rattle.class_place.specs.StandingLaws.{stands-before, there}
+use Rattle.child_list.proofs.Insert.{added-hit, added-miss}
 use Prim.Native.Nat.{_-_}
 use native.Mathlib.Omega.{arith}
 use mathlib.Core.Path.{sym, _∙_}

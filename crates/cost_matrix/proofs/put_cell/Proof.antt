@@ -7,7 +7,7 @@ use Rattle.cost_matrix.proofs.put_cell.Statement.{statement}
 use Rattle.cost_matrix.proofs.put_cell.Tie as tie
 use Rattle.cost_matrix.proofs.put_cell.Reads as reads
 use Rattle.cost_matrix.proofs.put_cell.Lts as lts
-use Rattle.numbers.proofs.put_u64.Reads as put-u64-reads
+use Rattle.stores.proofs.put_u64.Reads as put-u64-reads
 
 mul-at : tie.Need-mul-at
 mul-at c = search needs

@@ -11,7 +11,7 @@ use Rattle.interning.proofs.intern.Lts as lts
 use Rattle.terms.proofs.count.Reads as count-reads
 use Rattle.term_entry.proofs.enter.Reads as enter-reads
 use Rattle.terms.proofs.first.Reads as first-reads
-use Rattle.term_entry.proofs.key.Reads as key-reads
+use Rattle.term_key.proofs.key.Reads as key-reads
 use Rattle.interning.proofs.look_up.Reads as look-up-reads
 
 key-requires : tie.Need-key-requires

@@ -14,7 +14,7 @@ use Rattle.interning.proofs.look_up.Tie as tie
 use Rattle.interning.proofs.look_up.Reads as reads
 use Rattle.interning.proofs.look_up.Lts as lts
 use Rattle.interning.proofs.is_term.Reads as is-term-reads
-use Rattle.numbers.proofs.at_u32.Reads as at-u32-reads
+use Rattle.stores.proofs.at_u32.Reads as at-u32-reads
 
 abbrev Inv-loop : tie.InvT-loop
 Inv-loop terms runs bucket list n h v t₀ t = Walking terms runs h v (part list 0 n) t

@@ -12,7 +12,7 @@ use Rattle.joining.proofs.append.Statement.{statement}
 use Rattle.joining.proofs.append.Tie as tie
 use Rattle.joining.proofs.append.Reads as reads
 use Rattle.joining.proofs.append.Lts as lts
-use Rattle.numbers.proofs.put_u64.Reads as put-u64-reads
+use Rattle.stores.proofs.put_u64.Reads as put-u64-reads
 
 put-u64-requires : tie.Need-put-u64-requires
 put-u64-requires c κs = search needs

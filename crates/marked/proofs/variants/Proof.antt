@@ -15,7 +15,7 @@ use Rattle.marked.proofs.variants.Tie as tie
 use Rattle.marked.proofs.variants.Reads as reads
 use Rattle.marked.proofs.variants.Lts as lts
 use Rattle.numbers.proofs.long_size.Reads as long-size-reads
-use Rattle.numbers.proofs.put_u64.Reads as put-u64-reads
+use Rattle.stores.proofs.put_u64.Reads as put-u64-reads
 use Rattle.interning.proofs.intern.Reads as intern-reads
 use Rattle.joining.proofs.join_runs.Reads as join-runs-reads
 

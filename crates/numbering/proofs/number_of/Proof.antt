@@ -6,7 +6,7 @@ use Rattle.numbering.proofs.number_of.Statement.{statement}
 use Rattle.numbering.proofs.number_of.Tie as tie
 use Rattle.numbering.proofs.number_of.Reads as reads
 use Rattle.numbering.proofs.number_of.Lts as lts
-use Rattle.numbers.proofs.at_u16.Reads as at-u16-reads
+use Rattle.stores.proofs.at_u16.Reads as at-u16-reads
 use Rattle.numbers.proofs.long_size.Reads as long-size-reads
 
 mul-at-u16 : tie.Need-mul-at-u16

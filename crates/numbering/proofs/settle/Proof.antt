@@ -4,7 +4,7 @@ use Rattle.numbering.proofs.settle.Statement.{statement}
 use Rattle.numbering.proofs.settle.Tie as tie
 use Rattle.numbering.proofs.settle.Reads as reads
 use Rattle.numbering.proofs.settle.Lts as lts
-use Rattle.numbers.proofs.put_u16.Reads as put-u16-reads
+use Rattle.stores.proofs.put_u16.Reads as put-u16-reads
 
 mul-put-u16 : tie.Need-mul-put-u16
 mul-put-u16 c = search needs

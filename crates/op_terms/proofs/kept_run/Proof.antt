@@ -13,7 +13,7 @@ use Rattle.op_terms.proofs.kept_run.Reads as reads
 use Rattle.op_terms.proofs.kept_run.Lts as lts
 use Rattle.members.proofs.child_class.Reads as child-class-reads
 use Rattle.members.proofs.child_times.Reads as child-times-reads
-use Rattle.numbers.proofs.at_u16.Reads as at-u16-reads
+use Rattle.stores.proofs.at_u16.Reads as at-u16-reads
 use Rattle.numbers.proofs.long_size.Reads as long-size-reads
 
 child-class-requires : tie.Need-child-class-requires

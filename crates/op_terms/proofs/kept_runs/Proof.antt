@@ -17,7 +17,7 @@ use Rattle.op_terms.proofs.kept_runs.Tie as tie
 use Rattle.op_terms.proofs.kept_runs.Reads as reads
 use Rattle.op_terms.proofs.kept_runs.Lts as lts
 use Rattle.op_terms.proofs.kept_run.Reads as kept-run-reads
-use Rattle.numbers.proofs.put_u64.Reads as put-u64-reads
+use Rattle.stores.proofs.put_u64.Reads as put-u64-reads
 
 abbrev Inv-loop : tie.InvT-loop
 Inv-loop s im best list₀ k n i₀ list i = (i ≤ n) × (length list ≡ length list₀) × ((j : ℕ) → j < i → (getD list j 0 ≡ keptNumber best (theChild (tablesOf s) (k + j))) × (getD list j 0 < 2 ^ 47))

@@ -11,7 +11,7 @@ use Rattle.sending.proofs.send_on.Reads as reads
 use Rattle.sending.proofs.send_on.Lts as lts
 use Rattle.plan_parts.proofs.less.Reads as less-reads
 use Rattle.plan_parts.proofs.place.Reads as place-reads
-use Rattle.numbers.proofs.put_u64.Reads as put-u64-reads
+use Rattle.stores.proofs.put_u64.Reads as put-u64-reads
 
 -- the cell of a step is one of the problem's
 forward-cell : (d : tie.After-place) → d .place .result < d .before .before .before .before .args .r * d .before .before .before .before .args .c

@@ -1,11 +1,11 @@
 use borrow.Author.Needs.{needs}
+use Rattle.spec.specs.declared.Caller.the-variants.{Desk}
 use Rattle.returned.specs.Cases.{returns-as}
 use Rattle.tariff.proofs.tariff_merge.Statement.{statement}
 use Rattle.tariff.proofs.tariff_merge.Tie as tie
-use Rattle.tariff.proofs.tariff_merge.Reads as reads
-use Rattle.tariff.proofs.tariff_merge.Lts as lts
-use Rattle.au.proofs.merge_plain.Reads as merge-plain-reads
-use Rattle.returned.proofs.numbers_of.Reads as numbers-of-reads
+
+asked-requires : tie.Need-asked-requires
+asked-requires c κs = search needs
 
 merge-plain-requires : tie.Need-merge-plain-requires
 merge-plain-requires c κs = search needs
@@ -37,12 +37,13 @@ same-length-7 c = search needs
 returns : tie.Need-returns
 returns c =
     let m = c .before .before .before .before .before .before .before .before .before .before .before .before .before .before .before .merge-plain .ensures in
-    (returns-as _ _ _ _ _ _ _ _ _ (c .numbers-of .ensures) (m .0), m .1)
+    (returns-as Desk _ _ _ _ _ _ _ _ _ (c .numbers-of .ensures) (rw (c .before .before .before .before .before .before .before .before .before .before .before .before .before .before .before .before .before .before .before .before .before .before .before .asked .ensures) at (m .0)), m .1)
 
 pub tariff-merge-spec : {M : Type 1} → statement M
 tariff-merge-spec =
     tie.close
     (tie.spec
+    asked-requires
     merge-plain-requires
     numbers-of-requires
     same-length

@@ -4,7 +4,7 @@ use Rattle.term_entry.proofs.put_chain.Statement.{statement}
 use Rattle.term_entry.proofs.put_chain.Tie as tie
 use Rattle.term_entry.proofs.put_chain.Reads as reads
 use Rattle.term_entry.proofs.put_chain.Lts as lts
-use Rattle.numbers.proofs.put_u32.Reads as put-u32-reads
+use Rattle.stores.proofs.put_u32.Reads as put-u32-reads
 use Rattle.numbers.proofs.short_size.Reads as short-size-reads
 
 add-old : tie.Need-add-old

@@ -4,7 +4,7 @@ use Rattle.term_entry.proofs.put_term.Statement.{statement}
 use Rattle.term_entry.proofs.put_term.Tie as tie
 use Rattle.term_entry.proofs.put_term.Reads as reads
 use Rattle.term_entry.proofs.put_term.Lts as lts
-use Rattle.numbers.proofs.put_u32.Reads as put-u32-reads
+use Rattle.stores.proofs.put_u32.Reads as put-u32-reads
 
 mul-put-u32 : tie.Need-mul-put-u32
 mul-put-u32 c = search needs
