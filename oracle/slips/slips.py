@@ -620,7 +620,7 @@ SLIPS = {
         ('skipped of the query swapped', [('listingOf (skippedIn lim t (left, right) budget) o', 'listingOf (skippedIn lim t (right, left) budget) o')]),
         ('skipped of no check', [('listingOf (skippedIn lim t (left, right) budget) o', 'listingOf (skippedIn lim t (left, right) 0) o')]),
         ('skipped of one check more', [('listingOf (skippedIn lim t (left, right) budget) o', 'listingOf (skippedIn lim t (left, right) (suc budget)) o')]),
-        ('skipped of one check less', [('use Prim.Native.Nat.{ℕ, zero, suc, _+_}', 'use Prim.Native.Nat.{ℕ, zero, suc, _+_, _-_}'), ('listingOf (skippedIn lim t (left, right) budget) o', 'listingOf (skippedIn lim t (left, right) (budget - 1)) o')]),
+        ('skipped of one check less', [('use Prim.Native.Nat.{ℕ, _+_}', 'use Prim.Native.Nat.{ℕ, _+_, _-_}'), ('listingOf (skippedIn lim t (left, right) budget) o', 'listingOf (skippedIn lim t (left, right) (budget - 1)) o')]),
         ('pairs as skipped', [('listingOf (skippedIn lim t (left, right) budget) o', 'listingOf (o .nodes) o')]),
         ('merge: 1 left out', [('  _ ← rule 1 fit\n', '')]),
         ('merge: 1 after the image', [('  _ ← rule 1 fit\n  t ← imageOf image\n', '  t ← imageOf image\n  _ ← rule 1 fit\n')]),

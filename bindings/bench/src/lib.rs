@@ -4,11 +4,23 @@
 
 pub mod buffers;
 
-use harness::r#gen::{class, lit, over};
+use harness::r#gen::{FAMILIES, class, lit, over};
 use harness::img::{Class, Img, Member, Operation, Query};
 use harness::limits::{many_terms, pairs};
 use harness::{draw, draw_first, text};
 use tariff_merge::Caller;
+
+/// The words of a command line `SEED COUNT [FAMILY]`.
+pub fn seed_count_family() -> Option<(u64, usize, Option<&'static str>)> {
+    let words: Vec<String> = std::env::args().skip(1).collect();
+    let (seed, count) = (words.first()?.parse().ok()?, words.get(1)?.parse().ok()?);
+    let known = |name: &String| FAMILIES.iter().find(|family| family.0 == name);
+    match &words[2..] {
+        [] => Some((seed, count, None)),
+        [name] => Some((seed, count, Some(known(name)?.0))),
+        _ => None,
+    }
+}
 
 fn op(kind: u8) -> Operation {
     Operation {

@@ -15,7 +15,6 @@ use Rattle.spec.specs.Pairs.{pairs}
 use Rattle.spec.specs.Round.{lookUp, qualitiesAfter}
 use Rattle.spec.specs.Run.{limitOf, limitsFor, runOf}
 use Rattle.spec.specs.declared.Caller.{Caller}
-use Rattle.spec.specs.declared.Caller.the-variants.{Page, Desk}
 use Rattle.spec.specs.Meaning.{In, here, there}
 use Rattle.laws.specs.Valid.{Valid}
 use Rattle.laws.specs.Results.{refused-ok}
@@ -26,6 +25,7 @@ use Rattle.lgg.specs.Moves.{pair-backs}
 use Rattle.lgg.specs.TurnPlaces.{turn-choice}
 use Rattle.laws.specs.BestMembers.{IsPair}
 use Rattle.lgg.specs.Within.{reach-within}
+use Rattle.lgg.specs.Limits.{limit-most}
 use Rattle.steps.specs.Demand3.{FirstQuiet, settled}
 use Rattle.counted.specs.Counted.{Improved, Counted, Beyond}
 use Rattle.counted.specs.CountedFew.{Ends, FinalRuns, final-runs, counted-few}
@@ -81,11 +81,6 @@ final-runs-joined t ps b w h k p i m l =
     all = length-append (each (λ a. a .pairs) (structural t (p .0) (p .1))) (each (λ a. cellPairs (a .sides)) (transports t (p .0) (p .1)))
 
 -- ---- not refused
--- no caller may hold more than 4,096 pairs
-pub limit-most : (who : Caller) → limitOf who ≤ 4096
-limit-most Page = omega arith
-limit-most Desk = omega arith
-
 module _ (who : Caller) (t : Tables) (v : Valid t) (p : Two) (h : IsPair t p) (b : ℕ) where
   pairs-within : (B C : ℕ) (ps : List Two) → build (limitsFor who) t p B ≡ ok (passed ps C) → (q : Two) → In q ps → IsPair t q
   pairs-within B C ps e q i = reach-within t v p q h (build-whole (pairs t) (limitOf who) p B C ps e .exactly q .0 i)

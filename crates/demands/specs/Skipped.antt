@@ -25,8 +25,8 @@ use Rattle.steps.specs.Run.{Ends, inBuilding, inStarting, inRounds, run-ends}
 use Rattle.steps.specs.Outcomes.{started-says}
 use Rattle.steps.specs.Demand3 as D
 use Rattle.lgg.specs.Pairs.{PairCount}
+use Rattle.lgg.specs.Limits.{limit-most}
 use Rattle.lgg.specs.Skipped.{skipped-grows, same-skipped, skipped-fits}
-use Rattle.counted.specs.Refused13.{limit-most}
 use Rattle.contract.specs.declared.Answer.the-variants.{Listing}
 use Rattle.contract.specs.Merges.{Merges}
 use Rattle.demands.specs.Calls.{Taken, passedOver, accepted, read-of}

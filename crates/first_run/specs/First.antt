@@ -1,6 +1,5 @@
 -- A call's first run: its limits, and which of its answers is not yet the call's.
 use mathlib.Core.Bool.{Bool, false}
-use Prim.Native.Nat.{ℕ}
 use lib.Dec.{eqb}
 use Rattle.spec.specs.Bytes.{either, Limits}
 use Rattle.spec.specs.declared.Caller.{Caller}

@@ -12,13 +12,20 @@ use Rattle.spec.specs.Image.{Tables, imageOf}
 use Rattle.spec.specs.Action.{skippedAt}
 use Rattle.spec.specs.Pairs.{pairs, making}
 use Rattle.spec.specs.Graph.{skippedIn}
-use Rattle.spec.specs.Run.{Outcome, runOf}
+use Rattle.spec.specs.Run.{limitOf, Outcome, runOf}
 use Rattle.spec.specs.Listing.{listingOf}
 use Rattle.spec.specs.Merge.{mergeUnder}
+use Rattle.spec.specs.declared.Caller.{Caller}
+use Rattle.spec.specs.declared.Caller.the-variants.{Page, Desk}
 use Rattle.laws.specs.Results.{refused-ok, refused-inj, Kept, kept-ok}
 use Rattle.pools.specs.Refused.{NoLess, start-only, action-only, start-larger, action-larger}
 use Rattle.steps.specs.Refusals.{Refuses13, run-refused}
 use Rattle.steps.specs.Limits.{Roomier, Wider, run-kept, run-turned, run-twelve, run-or-twelve}
+
+-- either caller's limit is at most 4,096
+pub limit-most : (who : Caller) → limitOf who ≤ 4096
+limit-most Page = omega arith
+limit-most Desk = omega arith
 
 -- ---- the pairs' terms: refused by 13 alone, and kept under larger limits
 pub refuses13 : (lim : Limits) (t : Tables) → Refuses13 (making lim t)

@@ -17,7 +17,7 @@ use Rattle.spec.specs.declared.Caller.{Caller}
 use Rattle.spec.specs.declared.Caller.the-variants.{Page, Desk}
 use Rattle.laws.specs.Accepted as A
 use Rattle.laws.specs.Results.{refused-inj}
-use Rattle.lgg.specs.Limits.{merge-same, merge-twelve}
+use Rattle.lgg.specs.Limits.{limit-most, merge-same, merge-twelve}
 use Rattle.pools.specs.Refused.{NoLess}
 use Rattle.arrays.specs.ArrayLaws.{square}
 use Rattle.query.specs.Settings.{askedOf, limitsOf}
@@ -31,12 +31,7 @@ use Rattle.contract.specs.Merges.{Merges}
 use Rattle.merge_under.specs.Under.{mergeAt, Roomy, MergesUnder}
 use Rattle.second_run.specs.Twice.{Full}
 
--- either caller's limit is at most 4,096
-pub limit-few : (c : Caller) → limitOf c ≤ 4096
-limit-few Page = omega arith
-limit-few Desk = omega arith
-
--- .. and at least 64
+-- either caller's limit is at least 64, as the runs of a turn's winner need
 limit-many : (c : Caller) → 64 ≤ limitOf c
 limit-many Page = omega arith
 limit-many Desk = omega arith
@@ -98,7 +93,7 @@ module _ (s : List ℕ) (q : Query) (room : ℕ) where
 -- its arrays have room for it
 full-roomy : (c : Caller) {a b d e f g : List ℕ} → Full c a b d e f g → Roomy (limitsFor c) a b d e f g
 full-roomy c w =
-    let k = limit-few c in
+    let k = limit-most c in
     let h = limit-many c in
     record {
       marks = omega (arith, w .graph);
@@ -114,7 +109,7 @@ Asked lim t a b c d e f = (lim .pairs ≤ 4096) × (lim .pairs ≤ length t) × 
 pub asked-full : (c : Caller) (lim : Limits) (t : List Pair) (a b d e f g : List ℕ) → limitsOf lim ≡ limitsFor c → length t ≡ 4096 → Full c a b d e f g → Asked lim t a b d e f g
 asked-full c lim t a b d e f g z k w =
     let n : lim .pairs ≡ limitOf c = ap (λ (l : bytes.Limits). l .pairs) z in
-    let h = limit-few c in
+    let h = limit-most c in
     (omega (arith, n), omega (arith, n, k), subst (λ (l : bytes.Limits). Roomy l a b d e f g) (sym z) (full-roomy c w))
 
 -- its answer is the call's

@@ -1,7 +1,7 @@
 -- The whole: a call of `merge`, from the image's bytes, the query and the lent buffers to the answer and every buffer afterwards; and program `merge`.
 use mathlib.Core.Bool.{Bool, true}
 use mathlib.Core.List.{List, [], _∷_, _++_}
-use Prim.Native.Nat.{ℕ, zero, suc, _+_}
+use Prim.Native.Nat.{ℕ, _+_}
 use lib.Dec.{ltb, leb, eqb}
 use lib.ListN.{length, take, drop}
 use Rattle.spec.specs.Bytes.{both, be2, be4, text, decimal, digits, Limits, Res, ok, refused, _>>=_, rule}

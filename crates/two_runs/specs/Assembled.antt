@@ -6,11 +6,11 @@ use mathlib.Core.List.{List}
 use Prim.Native.Nat.{ℕ, _≤_}
 use native.Mathlib.Omega.{arith}
 use native.Mathlib.Decide.{ℕ-discrete}
-use lib.Dec.{T, leb, eqb}
+use lib.Dec.{T, leb}
 use lib.ListN.{length}
 use borrow.Author.Tests.{leb-true}
 use Rattle.spec.specs.Bytes as bytes
-use Rattle.spec.specs.Bytes.{either, Res, ok, refused}
+use Rattle.spec.specs.Bytes.{Res, ok, refused}
 use Rattle.spec.specs.Run.{limitsFor}
 use Rattle.spec.specs.Merge.{mergeUnder, mergeFor, outputAfter}
 use Rattle.spec.specs.declared.Caller.{Caller}

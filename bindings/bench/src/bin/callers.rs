@@ -17,8 +17,7 @@
 use std::collections::BTreeMap;
 
 use bench::buffers::{Buffers, Expected};
-use bench::{cycles, runs};
-use harness::r#gen::FAMILIES;
+use bench::{cycles, runs, seed_count_family};
 use harness::rng::Rng;
 use harness::{draw, limits};
 use tariff_merge::Caller::{Desk, Page};
@@ -225,20 +224,8 @@ fn run(seed: u64, count: usize, family: Option<&str>) {
     );
 }
 
-/// Seed, count and family.
-fn asked() -> Option<(u64, usize, Option<&'static str>)> {
-    let words: Vec<String> = std::env::args().skip(1).collect();
-    let (seed, count) = (words.first()?.parse().ok()?, words.get(1)?.parse().ok()?);
-    let known = |name: &String| FAMILIES.iter().find(|family| family.0 == name);
-    match &words[2..] {
-        [] => Some((seed, count, None)),
-        [name] => Some((seed, count, Some(known(name)?.0))),
-        _ => None,
-    }
-}
-
 fn main() {
-    let Some((seed, count, family)) = asked() else {
+    let Some((seed, count, family)) = seed_count_family() else {
         eprintln!("callers SEED COUNT [FAMILY]");
         std::process::exit(2);
     };

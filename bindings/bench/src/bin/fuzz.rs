@@ -11,8 +11,9 @@
 use std::collections::BTreeMap;
 
 use bench::buffers::{Buffers, Expected};
+use bench::seed_count_family;
 use harness::draw;
-use harness::r#gen::{self, FAMILIES};
+use harness::r#gen;
 use harness::rng::Rng;
 use tariff_merge::Caller;
 
@@ -87,7 +88,7 @@ fn input(rng: &mut Rng, drawn: &mut Drawn) -> (Vec<u8>, [u8; 8]) {
     (image, query)
 }
 
-fn fuzz(seed: u64, count: u64, family: Option<&'static str>) -> BTreeMap<u32, u64> {
+fn fuzz(seed: u64, count: usize, family: Option<&'static str>) -> BTreeMap<u32, u64> {
     let mut rng = Rng::new(seed);
     let mut drawn = Drawn::new(seed, family);
     let mut buffers = Buffers::new(OUTPUT);
@@ -114,20 +115,8 @@ fn fuzz(seed: u64, count: u64, family: Option<&'static str>) -> BTreeMap<u32, u6
     met
 }
 
-/// Seed, count and family.
-fn asked() -> Option<(u64, u64, Option<&'static str>)> {
-    let words: Vec<String> = std::env::args().skip(1).collect();
-    let (seed, count) = (words.first()?.parse().ok()?, words.get(1)?.parse().ok()?);
-    let known = |name: &String| FAMILIES.iter().find(|family| family.0 == name);
-    match &words[2..] {
-        [] => Some((seed, count, None)),
-        [name] => Some((seed, count, Some(known(name)?.0))),
-        _ => None,
-    }
-}
-
 fn main() {
-    let Some((seed, count, family)) = asked() else {
+    let Some((seed, count, family)) = seed_count_family() else {
         eprintln!("fuzz SEED COUNT [FAMILY]");
         std::process::exit(2);
     };

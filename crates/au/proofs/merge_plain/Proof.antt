@@ -4,7 +4,7 @@ use Rattle.walks.specs.Walk.{_≡_, refl, subst, ℕ, List, [], _∷_, length, 
 use Rattle.walks.specs.Walk.{SProp, ent, emp, fst∗, id⊢, via, GName, Fml, ftrue, fsep, fat, froom, flft, Memory, Routine, Heap, Calls, Loops, Env, WpFn, Tables, Atoms, Fun, fact, givenOf, tables, tablesOf}
 use Rattle.walks.specs.Walk.{Given, Item, ‵, raw, some, later, _⊛_, ⋆, atRet, runs, Sq, _$_, _∵_, !, qed, by, move, keep, drop, use0, use1, use2, use3, split, join, group, pick, await, fsplit, fjoin, feqL, suffices, frame, done}
 use Rattle.walks.specs.Walk.{whole, sub, look-in, agg, look, init, forget, stop, hop, fld, from, load, lit, of-opd, addr, and-then, no-more, assigns, land, returns, enter, alloc1, alloc0, params1, pass1, pass0, WpFn-mono, FmC, fmOf}
-use Rattle.walks.specs.Walk.{RattleType, Is, shows, pointee, u16, RefT, now, sliceTy, MutSlice, ShrSlice, Room, finally, slice-vals, mut-slice-tells, shr-slice-tells, plain, nothing, owned, facts, peeks, heard}
+use Rattle.walks.specs.Walk.{RattleType, Is, shows, pointee, u16, RefT, now, sliceTy, MutSlice, ShrSlice, Room, finally, slice-vals, mut-slice-tells, shr-slice-tells, plain, nothing, owned, peeks, heard}
 use Rattle.walks.specs.Walk.{Contract, Triple, calls-at, ensured, lasts, Vals, onEntry, Meets, tripleOf, entered, cited, says, Stays, gave-slice, walkOf, Walks, ends-at, walked, goes-gave-slice, walk-meets, yes}
 use mir.Syntax.{w8, w32, tyArray}
 use types.Kit as Kit

@@ -1,10 +1,10 @@
 -- `two_runs::merge_query` meets its contract: a walk of its MIR, by hand, in parts: the test of the lengths; then `merge_under`, which is given the work buffers for good and has the output lent again; then `settle`.
 -- Assumes nothing.
-use Rattle.walks.specs.Walk.{_≡_, refl, _∙_, ap, subst, ℕ, _<_, _^_, Bool, true, List, [], _∷_, length, lit<, URA, fullShare, named, erased, imm, mut, w16, w64, Ty, tyInt, tyBool, tyRef, Val, vint, vbool}
+use Rattle.walks.specs.Walk.{_≡_, refl, _∙_, ap, ℕ, _<_, _^_, Bool, true, List, [], _∷_, length, lit<, URA, fullShare, named, erased, imm, mut, w16, w64, Ty, tyInt, tyBool, tyRef, Val, vint, vbool}
 use Rattle.walks.specs.Walk.{SProp, ent, emp, fst∗, id⊢, via, GName, Fml, ftrue, fsep, fat, froom, flft, Memory, Routine, Heap, Calls, Loops, Env, WpFn, Tables, Atoms, Fun, fact, givenOf, tables, tablesOf}
 use Rattle.walks.specs.Walk.{Given, Item, ‵, raw, some, later, _⊛_, ⋆, atRet, runs, Sq, _$_, _∵_, !, qed, by, move, keep, drop, use0, use1, use2, use3, split, join, group, pick, await, rewrite, fsplit, fjoin, feqL, suffices, frame, done}
 use Rattle.walks.specs.Walk.{whole, sub, look-in, agg, look, init, forget, stop, hop, fld, from, load, lit, of-opd, addr, and-then, no-more, assigns, land, first, branches, skips, returns, returns-within, exec, enter, alloc1, alloc0, params1, pass1, pass0, WpFn-mono, FmC, fmOf}
-use Rattle.walks.specs.Walk.{RattleType, Is, shows, pointee, uint-vals, uint-tells, uint-makes, bool-lawful, u16, usize, bool, now, sliceTy, ShrSlice, finally, slice-vals, mut-slice-tells, shr-slice-tells, shr-slice-copy, plain, only, nothing, owned, facts, peeks, heard}
+use Rattle.walks.specs.Walk.{RattleType, Is, shows, pointee, uint-makes, bool-lawful, u16, usize, bool, now, sliceTy, ShrSlice, finally, slice-vals, mut-slice-tells, shr-slice-tells, shr-slice-copy, plain, only, nothing, owned, facts, peeks, heard}
 use Rattle.walks.specs.Walk.{Contract, Triple, calls-at, ensured, lasts, Vals, onEntry, Meets, tripleOf, entered, cited, says, Stays, gave-slice, walkOf, Walks, ends-at, walked, goes-gave-slice, walk-meets, yes}
 use mir.Syntax.{w8, w32}
 use mathlib.Core.Bool.{not}
