@@ -1,4 +1,4 @@
-# make test: the gate. make run: image E through program `merge`. make bindings: C and Rust over the static library. make bench: against the listed Rust. make fuzz: a million random and damaged inputs. make layers: docs/LAYERS.md.
+# make test: the gate. make run: image E through program `merge`. make bindings: C and Rust over the static library. make bench: against the listed Rust. make fuzz: a million random and damaged inputs, and more. make layers: docs/LAYERS.md.
 .PHONY: test run oracle fmt bindings bench fuzz layers
 SHELL := /bin/bash
 
@@ -46,9 +46,10 @@ bench:
 	cd bindings && cargo run --release --offline --quiet -p bench --bin judging
 	cd bindings && cargo run --release --offline --quiet -p bench --bin streaming
 
-# A million random and damaged inputs for the static library, 20,000 queries through both callers, with graphs at the limits of both, and a million children in lists, narrowed after each; each answer and buffer held to the promises and to the model.
+# A million random and damaged inputs for the static library, 20,000 queries through both callers, with graphs at the limits of both, 10,000 queries both ways round, at budgets about what they spend, and a million children in lists, narrowed after each; each answer and buffer held to the promises and to the model.
 fuzz:
 	rt staticlib tariff
 	cd bindings && cargo run --release --offline --quiet -p bench --bin fuzz 1 1000000
 	cd bindings && cargo run --release --offline --quiet -p bench --bin callers 1 20000
+	cd bindings && cargo run --release --offline --quiet -p bench --bin turned 1 10010
 	cd bindings && cargo run --release --offline --quiet -p bench --bin children 1 1000000

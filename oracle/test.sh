@@ -23,7 +23,7 @@ trap 'rm -f "$frame" "$frame.rust"' EXIT
 for name in E airport night luggage cap zones; do
     $bin/harness bytes <"../examples/$name.txt" >"$frame"
     $bin/model <"$frame" | cmp - "../examples/$name.listing"
-    # the Rust does not write the first line's last field
+    # the Rust does not write the first line's last two fields
     $bin/harness as-the-rust <"../examples/$name.listing" >"$frame.rust"
     $bin/listed <"$frame" | cmp - "$frame.rust"
 done

@@ -43,9 +43,12 @@ extern "C" {
 /* What `number` says. */
 enum tariff_number {
     /* a listing: the first `bytes` bytes of the output buffer. Its first line is the status (`complete` or
-       `partial`) and, each behind its word, pairs, rounds, size, mass and skipped: how many monomial pairs
-       were passed over in building since a count in them is above 4,294,967,295. Above 0, a complete run
-       is least among the formulas that do without them */
+       `partial`) and, each behind its word, pairs, rounds, size, mass, skipped and checks. Skipped: how many
+       monomial pairs were passed over in building since a count in them is above 4,294,967,295; above 0, a
+       complete run is least among the formulas that do without them. Checks: how many checks passed; a
+       complete run with n pairs and r rounds spends 2n + (r + 1)(n + 1), however large its budget, one that
+       was cut short spends its budget. Complete runs on (left, right) and (right, left) have the same
+       first line */
     TARIFF_LISTING = 0,
     /* a work buffer below its constant length: lend buffers of the lengths above */
     TARIFF_WORK_SHORT = 1,

@@ -63,6 +63,7 @@ static const uint8_t large[125] = {
 _Static_assert(sizeof large == sizeof image, "one length for both");
 
 #define MERGED "0 lit 0 5\n1 lit 0 7\n2 variants 1:1 0:1\n3 op 1 0:1 2:1\n"
+#define TURNED "0 lit 0 5\n1 lit 0 7\n2 variants 0:1 1:1\n3 op 1 0:1 2:1\n"
 #define APART "0 lit 0 5\n1 lit 0 7\n2 op 1 0:1 1:1\n3 op 1 0:2\n4 variants 2:1 3:1\n"
 #define TWO "0 lit 0 7\n1 lit 0 9\n2 variants 0:1 1:1\n"
 
@@ -94,13 +95,13 @@ static void soil(void)
 }
 
 /* A listing of one of the images, each of 125 bytes. */
-static void listed(const uint8_t *of, uint16_t left, uint32_t budget, const char *text)
+static void listed(const uint8_t *of, uint16_t left, uint16_t right, uint32_t budget, const char *text)
 {
     char what[64];
     size_t length = strlen(text);
     snprintf(what, sizeof what, "image %s with budget %u", of == image ? "E" : "of a skipped pair", (unsigned)budget);
     soil();
-    struct tariff_returned r = tariff_merge_in(&work, of, sizeof image, left, left + 1, budget, out, sizeof out);
+    struct tariff_returned r = tariff_merge_in(&work, of, sizeof image, left, right, budget, out, sizeof out);
     expect(r.number == TARIFF_LISTING && r.bytes == length && r.class_number == 0, what);
     expect(memcmp(out, text, length) == 0, what);
     expect(all(out + length, sizeof out - length, 0x5a), "output past the listing untouched");
@@ -163,6 +164,10 @@ static void complete(struct tariff_returned r, unsigned pairs, const char *what)
     size_t length = (size_t)snprintf(first, sizeof first, "complete pairs %u rounds 1 ", pairs);
     expect(r.number == TARIFF_LISTING && r.bytes > length && r.class_number == 0, what);
     expect(memcmp(out, first, length) == 0 && out[r.bytes - 1] == '\n', what);
+    /* 2n + (r + 1)(n + 1) checks, with 1 round */
+    length = (size_t)snprintf(first, sizeof first, " skipped 0 checks %u\n", 2 * pairs + 2 * (pairs + 1));
+    const uint8_t *end = memchr(out, '\n', r.bytes);
+    expect(end && (size_t)(end + 1 - out) > length && memcmp(end + 1 - length, first, length) == 0, "checks of a complete run");
     expect(all(out + r.bytes, sizeof out - r.bytes, 0x5a), "output past the listing untouched");
     expect(all(&work, sizeof work, 0), "work buffers cleared");
 }
@@ -311,13 +316,18 @@ int main(void)
             && lengths.flow == TARIFF_FLOW && lengths.terms == TARIFF_TERMS && lengths.runs == TARIFF_RUNS,
         "the header's lengths are the library's");
 
-    listed(image, 2, 14, "complete pairs 3 rounds 1 size 4 mass 2 skipped 0\n" MERGED);
-    listed(image, 2, 13, "partial pairs 3 rounds 1 size 4 mass 2 skipped 0\n" MERGED);
-    listed(image, 2, 9, "partial pairs 3 rounds 0 size 6 mass 6 skipped 0\n" APART);
-    listed(image, 2, 2, "partial pairs 1 rounds 0 size 6 mass 6 skipped 0\n" APART);
-    listed(large, 1, 14, "complete pairs 1 rounds 0 size 2 mass 2 skipped 1\n" TWO);
-    listed(large, 1, 1, "partial pairs 1 rounds 0 size 2 mass 2 skipped 1\n" TWO);
-    listed(large, 1, 0, "partial pairs 1 rounds 0 size 2 mass 2 skipped 0\n" TWO);
+    listed(image, 2, 3, 14, "complete pairs 3 rounds 1 size 4 mass 2 skipped 0 checks 14\n" MERGED);
+    listed(image, 2, 3, 1000, "complete pairs 3 rounds 1 size 4 mass 2 skipped 0 checks 14\n" MERGED);
+    listed(image, 2, 3, 13, "partial pairs 3 rounds 1 size 4 mass 2 skipped 0 checks 13\n" MERGED);
+    listed(image, 2, 3, 9, "partial pairs 3 rounds 0 size 6 mass 6 skipped 0 checks 9\n" APART);
+    listed(image, 2, 3, 2, "partial pairs 1 rounds 0 size 6 mass 6 skipped 0 checks 2\n" APART);
+    listed(image, 2, 3, 0, "partial pairs 1 rounds 0 size 6 mass 6 skipped 0 checks 0\n" APART);
+    /* turned round */
+    listed(image, 3, 2, 14, "complete pairs 3 rounds 1 size 4 mass 2 skipped 0 checks 14\n" TURNED);
+    listed(image, 3, 2, 13, "partial pairs 3 rounds 1 size 4 mass 2 skipped 0 checks 13\n" TURNED);
+    listed(large, 1, 2, 14, "complete pairs 1 rounds 0 size 2 mass 2 skipped 1 checks 4\n" TWO);
+    listed(large, 1, 2, 1, "partial pairs 1 rounds 0 size 2 mass 2 skipped 1 checks 1\n" TWO);
+    listed(large, 1, 2, 0, "partial pairs 1 rounds 0 size 2 mass 2 skipped 0 checks 0\n" TWO);
 
     soil();
     refused(tariff_merge(image, sizeof image, 2, 3, 14,
@@ -330,7 +340,7 @@ int main(void)
     soil();
     refused(tariff_merge_in(&work, image, sizeof image, 2, 4, 14, out, sizeof out), TARIFF_QUERY, 0, "refusal 11: class 4");
     soil();
-    refused(tariff_merge_in(&work, image, sizeof image, 2, 3, 14, out, 103), TARIFF_OUTPUT_SHORT, 0, "refusal 14: one byte too few");
+    refused(tariff_merge_in(&work, image, sizeof image, 2, 3, 14, out, 113), TARIFF_OUTPUT_SHORT, 0, "refusal 14: one byte too few");
 
     uint8_t doubled[sizeof image];
     memcpy(doubled, image, sizeof image);

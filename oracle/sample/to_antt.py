@@ -1,6 +1,7 @@
 #!/usr/bin/env python3
 """Writes the definitions' tests from the small queries: Samples.antt and Refusals.antt of crate samples from oracle/sample/small.txt,
 Skipped.antt of crate samples from oracle/sample/skipped.txt (monomial pairs passed over),
+Checks.antt of crate samples from oracle/sample/checks.txt (checks spent, and queries turned round),
 Slips.antt of crate samples and Kept.antt of crate spec from oracle/sample/slips.txt (queries that tell the rules from a porter's slips).
 Run from the repository's root; then `rt fmt`."""
 import re
@@ -71,9 +72,11 @@ def queries(path, heading, head, groups):
 
 slips = grouped('oracle/sample/slips.txt').items()
 skipped = grouped('oracle/sample/skipped.txt').items()
-queries('crates/samples/specs/Samples.antt', '-- Small queries for each feature, and budgets that cut in each phase: answers of the listed Rust (oracle/sample/small.txt).', HEAD, samples)
-queries('crates/samples/specs/Skipped.antt', "-- (02, Paper 7) Monomial pairs passed over: answers of the listed Rust, the number of skipped pairs from the model (oracle/sample/skipped.txt).", HEAD, skipped)
-queries('crates/samples/specs/Slips.antt', "-- Queries whose answer tells the rules from a porter's slip: answers of the listed Rust (oracle/sample/slips.txt).", HEAD, [(t, qs) for t, qs in slips if t not in KEPT])
+checks = grouped('oracle/sample/checks.txt').items()
+queries('crates/samples/specs/Samples.antt', '-- Small queries for each feature, and budgets that cut in each phase: answers of the listed Rust with its own count of checks (oracle/sample/small.txt).', HEAD, samples)
+queries('crates/samples/specs/Skipped.antt', "-- (02, Paper 7) Monomial pairs passed over: answers of the listed Rust with its own count of checks, the number of skipped pairs from the model (oracle/sample/skipped.txt).", HEAD, skipped)
+queries('crates/samples/specs/Checks.antt', "-- (02, Paper 13) Checks that passed, and the two classes in either order: answers of the listed Rust with its own count of checks, the number of skipped pairs from the model (oracle/sample/checks.txt).", HEAD, checks)
+queries('crates/samples/specs/Slips.antt', "-- Queries whose answer tells the rules from a porter's slip: answers of the listed Rust with its own count of checks (oracle/sample/slips.txt).", HEAD, [(t, qs) for t, qs in slips if t not in KEPT])
 queries('crates/spec/specs/Kept.antt', "-- Two queries of crate samples' kind (oracle/sample/slips.txt) that stand here since they refuse a must-fail edit that no other test of this crate refuses.", INSIDE, [(t, qs) for t, qs in slips if t in KEPT])
 
 out = ['-- A sound image, and a damaged one for each way to break a rule, refusals 2 to 11; images that break two rules show the order (oracle/sample/small.txt).', DAMAGED]

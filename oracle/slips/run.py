@@ -10,8 +10,8 @@ home = os.path.dirname(os.path.dirname(os.path.realpath(shutil.which('rt'))))
 own = f'{home}/on/{os.uname().machine}'
 definitions = 'Bytes Image Monomial Transport Action Pool System Pairs Graph Round Run Listing Merge Meaning'.split()
 # groups of test modules, the quickest first; those of crate samples stand in the copy as modules of spec
-samples = 'Samples Slips Bounds Refusals Limits Skipped Callers'.split()
-tests = [['Asked', 'Belonging', 'Lowest', 'Passed'], ['Asked', 'Edges', 'Found', 'Kept'], ['Asked', 'Skipped'], ['Asked', 'Slips'], ['Asked', 'Refusals'], ['Asked', 'Limits', 'Bounds'], ['Asked', 'Callers'], ['Asked', 'Samples']]
+samples = 'Samples Slips Bounds Refusals Limits Skipped Callers Checks'.split()
+tests = [['Asked', 'Belonging', 'Lowest', 'Passed'], ['Asked', 'Edges', 'Found', 'Kept'], ['Asked', 'Skipped'], ['Asked', 'Checks'], ['Asked', 'Slips'], ['Asked', 'Refusals'], ['Asked', 'Limits', 'Bounds'], ['Asked', 'Callers'], ['Asked', 'Samples']]
 
 
 # definitions beside crate spec, with the crate of each; they stand in one copy with their tests, over spec and with the type of the code that they name

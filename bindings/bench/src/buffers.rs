@@ -1,6 +1,8 @@
 // SPDX-License-Identifier: Apache-2.0
 //! Buffers that hold garbage before a call, and what a call is to leave in them; what the model answers.
 
+use harness::judge::Said;
+use harness::turned::First;
 use model::image::{lowest_doubled, tables};
 use model::slip::Slip;
 use tariff_merge::{Caller, raw};
@@ -113,6 +115,14 @@ impl Buffers {
             && self.out[listing.len()..].iter().all(|x| *x == GARBAGE)
             && self.all(short)
     }
+}
+
+/// Whether a listing's first line has the checks that its run spends: 2n + (r + 1)(n + 1) where it is complete, else the
+/// budget.
+pub fn checks_hold(listing: &[u8], query: [u8; 8]) -> bool {
+    let [.., e, f, g, h] = query;
+    let first = First::read(&Said::alone(listing));
+    first.is_some_and(|first| first.as_promised(u32::from_be_bytes([e, f, g, h])))
 }
 
 /// What a call is to answer: the number, the class where it is 10, and the listing where there is one.

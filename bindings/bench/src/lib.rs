@@ -7,8 +7,9 @@ pub mod buffers;
 use harness::r#gen::{FAMILIES, class, lit, over};
 use harness::img::{Class, Img, Member, Operation, Query};
 use harness::limits::{many_terms, pairs};
+use harness::turned::{First, Ran};
 use harness::{draw, draw_first, text};
-use tariff_merge::Caller;
+use tariff_merge::{Caller, Merger};
 
 /// The words of a command line `SEED COUNT [FAMILY]`.
 pub fn seed_count_family() -> Option<(u64, usize, Option<&'static str>)> {
@@ -143,6 +144,26 @@ fn tariffs() -> Vec<Vec<u8>> {
         img.frame(&queries[0])
     })
     .collect()
+}
+
+/// What the library says to a frame, through the Rust crate.
+pub fn ran(merger: &mut Merger, frame: &[u8]) -> Ran {
+    let Some((image, &[a, b, c, d, e, f, g, h])) = frame.split_last_chunk::<8>() else {
+        return Ran::Refused(2);
+    };
+    let (left, right) = (u16::from_be_bytes([a, b]), u16::from_be_bytes([c, d]));
+    match merger.merge(image, left, right, u32::from_be_bytes([e, f, g, h])) {
+        Ok(listing) => Ran::Listing(First {
+            complete: listing.complete,
+            pairs: listing.pairs,
+            rounds: listing.rounds,
+            size: listing.size,
+            mass: listing.mass,
+            skipped: Some(listing.skipped),
+            checks: listing.checks,
+        }),
+        Err(refusal) => Ran::Refused(refusal.number().into()),
+    }
 }
 
 pub struct Family {

@@ -12,7 +12,7 @@ use std::hint::black_box;
 use std::time::{Duration, Instant};
 
 use bench::{Family, families};
-use harness::judge::as_the_rust;
+use harness::judge::Said;
 use listed::au::egraph_api::AuSnapshot;
 use listed::config::ImageConfig;
 use listed::egraph::EGraph;
@@ -43,13 +43,14 @@ impl<'a> Asked<'a> {
 }
 
 /// The queries of a family that both can answer, with the listed Rust's answers.
-fn answered(family: &Family) -> Vec<(Asked<'_>, String)> {
+fn answered(family: &Family) -> Vec<(Asked<'_>, Said)> {
     let mut found = Vec::new();
     for frame in &family.frames {
-        if let listed::Answer::Listing(text) = listed::answer(frame, false)
+        let said = Said::of_oracle(frame, false);
+        if said.counted.is_some()
             && let Some(asked) = Asked::of(frame)
         {
-            found.push((asked, text));
+            found.push((asked, said));
         }
     }
     found
@@ -68,16 +69,13 @@ fn measure(family: &Family, work: &mut Work, merger: &mut Merger) {
     let caller = family.caller;
     let mut asked = answered(family);
     let mut refused = 0;
-    asked.retain(|(q, text)| {
+    asked.retain(|(q, said)| {
         // SAFETY: `main` runs this on a thread with 64 MiB of stack.
         let returned = unsafe { work.merge_for(caller, q.image, q.left, q.right, q.budget) };
         if returned.number == 0 {
-            // The Rust does not write the first line's last field.
-            let ours = as_the_rust(&work.output()[..returned.bytes]);
-            assert!(
-                ours.as_deref() == Some(text.as_bytes()),
-                "the answers differ"
-            );
+            // The Rust does not write the first line's last two fields; its checks are counted.
+            let ours = &work.output()[..returned.bytes];
+            assert!(said.agrees(ours), "the answers differ");
         }
         let kept = returned.number == family.number;
         refused += usize::from(!kept);

@@ -1,7 +1,9 @@
 // SPDX-License-Identifier: Apache-2.0
 //! Drawn and damaged frames through the safe interface, against the model.
 
+use harness::drive::Counts;
 use harness::judge::Judge;
+use harness::turned::turned;
 use harness::{damage, draw, limits, skipped};
 use model::image::verdict;
 use model::slip::Slip;
@@ -92,6 +94,46 @@ fn both_callers() {
     for caller in [Caller::Page, Caller::Desk] {
         compare_for(caller, &frames);
     }
+}
+
+/// Left and right exchanged, at budgets about the checks that the run spends.
+#[test]
+fn turned_queries() {
+    let mut merger = Merger::new();
+    let mut runs = |frames: &[Vec<u8>]| {
+        let ran = frames.iter().map(|frame| bench::ran(&mut merger, frame));
+        Ok(ran.collect())
+    };
+    let mut counts = Counts::default();
+    turned(&draw(13, 1_000, None), &mut runs, &mut counts).unwrap();
+    turned(&draw(13, 500, Some("skipped")), &mut runs, &mut counts).unwrap();
+    let complete = counts.get("enough checks: both complete");
+    assert!(complete > 1_350, "{complete}");
+}
+
+/// "Neither refused": turned round a listing may be longer, so that 14 may be met one way only.
+#[test]
+fn refused_one_way_only() {
+    let mut merger = Merger::new();
+    let mut met = 0;
+    for frame in draw(77, 3_000, Some("crossed")) {
+        let (image, &[a, b, c, d, ..]) = frame.split_last_chunk::<8>().unwrap();
+        let (left, right) = (u16::from_be_bytes([a, b]), u16::from_be_bytes([c, d]));
+        let mut both = [(left, right), (right, left)]
+            .map(|(left, right)| merger.merge(image, left, right, u32::MAX).unwrap())
+            .map(|listing| listing.bytes().len());
+        if both[0] == both[1] {
+            continue;
+        }
+        met += 1;
+        both.sort();
+        let mut short = Merger::with_output(both[0]);
+        let again = [(left, right), (right, left)]
+            .map(|(left, right)| short.merge(image, left, right, u32::MAX));
+        let refused = again.iter().filter(|one| **one == Err(Refusal::Output));
+        assert_eq!(refused.count(), 1);
+    }
+    assert!(met > 0);
 }
 
 #[test]

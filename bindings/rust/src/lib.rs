@@ -11,7 +11,7 @@
 //! let mut merger = Merger::new();
 //! let listing = merger.merge(&image, 2, 3, 14)?;
 //! assert!(listing.complete);
-//! assert_eq!(listing.skipped, 0);
+//! assert_eq!((listing.skipped, listing.checks), (0, 14));
 //! assert_eq!(listing.text(100), "op1(5, {7 | 5})");
 //! assert_eq!(listing.left_reading().text(100), "op1(5, 7)");
 //! assert_eq!(listing.right_reading().text(100), "op1(5:2)");

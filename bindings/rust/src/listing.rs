@@ -32,7 +32,7 @@ pub enum Line {
 }
 
 /// The words of the first line behind the status, each with a number behind it.
-const FIELDS: [&str; 5] = ["pairs", "rounds", "size", "mass", "skipped"];
+const FIELDS: [&str; 6] = ["pairs", "rounds", "size", "mass", "skipped", "checks"];
 
 /// Whether the run is complete, and the numbers of the first line's fields.
 fn first_line(line: &str) -> Option<(bool, [u64; FIELDS.len()])> {
@@ -72,6 +72,9 @@ pub struct Listing {
     /// Above 0, a complete run is least among the formulas that do without them; where the run
     /// was cut short in building, they are those met until then.
     pub skipped: u64,
+    /// How many checks passed. A complete run with n pairs and r rounds spends
+    /// 2n + (r + 1)(n + 1), however large its budget; one that was cut short spends its budget.
+    pub checks: u64,
     /// The distinct subterms; the last one is the formula. Never empty.
     pub terms: Vec<Line>,
     bytes: Vec<u8>,
@@ -125,7 +128,7 @@ impl Listing {
     fn parse(bytes: Vec<u8>) -> Option<Listing> {
         let text = std::str::from_utf8(&bytes).ok()?;
         let mut lines = text.strip_suffix('\n')?.split('\n');
-        let (complete, [pairs, rounds, size, mass, skipped]) = first_line(lines.next()?)?;
+        let (complete, [pairs, rounds, size, mass, skipped, checks]) = first_line(lines.next()?)?;
         let mut terms = Vec::new();
         for line in lines {
             let line = Line::parse(terms.len(), line)?;
@@ -141,6 +144,7 @@ impl Listing {
             size,
             mass,
             skipped,
+            checks,
             terms,
             bytes,
         })
@@ -203,26 +207,31 @@ mod tests {
 
     #[test]
     fn first_lines() {
-        let read = Some((true, [3, 1, 4, 2, 262_144]));
+        let read = Some((true, [3, 1, 4, 2, 262_144, 14]));
         assert_eq!(
-            first_line("complete pairs 3 rounds 1 size 4 mass 2 skipped 262144"),
+            first_line("complete pairs 3 rounds 1 size 4 mass 2 skipped 262144 checks 14"),
             read
         );
-        let read = Some((false, [1, 0, 6, 6, 0]));
+        let read = Some((false, [1, 0, 6, 6, 0, 4_294_967_295]));
         assert_eq!(
-            first_line("partial pairs 1 rounds 0 size 6 mass 6 skipped 0"),
+            first_line("partial pairs 1 rounds 0 size 6 mass 6 skipped 0 checks 4294967295"),
             read
         );
         for broken in [
             "",
             "refused 2",
-            "done pairs 3 rounds 1 size 4 mass 2 skipped 0",
+            "done pairs 3 rounds 1 size 4 mass 2 skipped 0 checks 14",
             "complete pairs 3 rounds 1 size 4 mass 2",
-            "complete pairs 3 rounds 1 size 4 mass 2 skipped",
-            "complete pairs 3 rounds 1 size 4 mass 2 skipped 0 ",
-            "complete pairs 3 rounds 1 size 4 mass 2 skipped 0 checks 14",
-            "complete pairs 3 rounds 1 mass 2 size 4 skipped 0",
-            "complete pairs 3 rounds 1 size 4 mass 2 skipped -1",
+            "complete pairs 3 rounds 1 size 4 mass 2 skipped 0",
+            "complete pairs 3 rounds 1 size 4 mass 2 checks 14",
+            "complete pairs 3 rounds 1 size 4 mass 2 checks 14 skipped 0",
+            "complete pairs 3 rounds 1 size 4 mass 2 skipped checks 14",
+            "complete pairs 3 rounds 1 size 4 mass 2 skipped 0 checks",
+            "complete pairs 3 rounds 1 size 4 mass 2 skipped 0 checks 14 ",
+            "complete pairs 3 rounds 1 size 4 mass 2 skipped 0 checks 14 more 0",
+            "complete pairs 3 rounds 1 mass 2 size 4 skipped 0 checks 14",
+            "complete pairs 3 rounds 1 size 4 mass 2 skipped -1 checks 14",
+            "complete pairs 3 rounds 1 size 4 mass 2 skipped 0 checks -1",
         ] {
             assert_eq!(first_line(broken), None, "{broken}");
         }

@@ -107,31 +107,54 @@ fn lengths_are_the_librarys() {
 #[test]
 fn image_e_at_its_budgets() {
     let mut merger = Merger::new();
-    for (budget, first, rest) in [
+    for (budget, checks, first, rest) in [
+        (14, 14, "complete pairs 3 rounds 1 size 4 mass 2", MERGED),
+        (1_000, 14, "complete pairs 3 rounds 1 size 4 mass 2", MERGED),
         (
+            u32::MAX,
             14,
-            "complete pairs 3 rounds 1 size 4 mass 2 skipped 0",
+            "complete pairs 3 rounds 1 size 4 mass 2",
             MERGED,
         ),
-        (
-            13,
-            "partial pairs 3 rounds 1 size 4 mass 2 skipped 0",
-            MERGED,
-        ),
-        (
-            10,
-            "partial pairs 3 rounds 1 size 4 mass 2 skipped 0",
-            MERGED,
-        ),
-        (9, "partial pairs 3 rounds 0 size 6 mass 6 skipped 0", APART),
-        (3, "partial pairs 3 rounds 0 size 6 mass 6 skipped 0", APART),
-        (2, "partial pairs 1 rounds 0 size 6 mass 6 skipped 0", APART),
-        (0, "partial pairs 1 rounds 0 size 6 mass 6 skipped 0", APART),
+        (13, 13, "partial pairs 3 rounds 1 size 4 mass 2", MERGED),
+        (10, 10, "partial pairs 3 rounds 1 size 4 mass 2", MERGED),
+        (9, 9, "partial pairs 3 rounds 0 size 6 mass 6", APART),
+        (3, 3, "partial pairs 3 rounds 0 size 6 mass 6", APART),
+        (2, 2, "partial pairs 1 rounds 0 size 6 mass 6", APART),
+        (0, 0, "partial pairs 1 rounds 0 size 6 mass 6", APART),
     ] {
         let listing = merger.merge(IMAGE, 2, 3, budget).unwrap();
-        assert_eq!(listing.bytes(), format!("{first}\n{rest}").as_bytes());
-        assert_eq!(listing.complete, budget == 14);
+        let text = format!("{first} skipped 0 checks {checks}\n{rest}");
+        assert_eq!(listing.bytes(), text.as_bytes());
+        assert_eq!((listing.complete, listing.checks), (budget >= 14, checks));
+        // Turned round: the same numbers, whatever the terms.
+        let turned = merger.merge(IMAGE, 3, 2, budget).unwrap();
+        let numbers = |l: &Listing| (l.complete, l.pairs, l.rounds, l.size, l.mass, l.checks);
+        assert_eq!(numbers(&turned), numbers(&listing));
     }
+}
+
+/// What the stored answers say of their checks: 2n + (r + 1)(n + 1) of a complete run, the budget of
+/// one that was cut short.
+#[test]
+fn checks_of_stored_answers() {
+    let mut merger = Merger::new();
+    let mut met = [0; 2];
+    for (image, asked, answer) in stored() {
+        if answer.starts_with(b"refused") {
+            continue;
+        }
+        let listing = ask(&mut merger, image, asked).unwrap();
+        let (n, r) = (listing.pairs, listing.rounds);
+        let spent = if listing.complete {
+            2 * n + (r + 1) * (n + 1)
+        } else {
+            u64::from(asked.budget)
+        };
+        assert_eq!(listing.checks, spent);
+        met[usize::from(listing.complete)] += 1;
+    }
+    assert!(met.iter().all(|met| *met > 100), "{met:?}");
 }
 
 #[test]
@@ -140,7 +163,7 @@ fn image_e_parsed_and_read() {
     let run = |child: usize, count: u64| Run { child, count };
     assert_eq!((listing.pairs, listing.rounds), (3, 1));
     assert_eq!((listing.size, listing.mass), (4, 2));
-    assert_eq!(listing.skipped, 0);
+    assert_eq!((listing.skipped, listing.checks), (0, 14));
     assert_eq!(
         listing.terms,
         [
@@ -212,9 +235,9 @@ fn refusals_are_typed() {
     assert_eq!(doubled, Err(Refusal::Literal { class: 0 }));
     assert_eq!(merger.merge(IMAGE, 4, 3, 14), Err(Refusal::Query));
     assert_eq!(merger.merge(IMAGE, 2, u16::MAX, 14), Err(Refusal::Query));
-    let mut short = Merger::with_output(103);
+    let mut short = Merger::with_output(113);
     assert_eq!(short.merge(IMAGE, 2, 3, 14), Err(Refusal::Output));
-    assert!(Merger::with_output(104).merge(IMAGE, 2, 3, 14).is_ok());
+    assert!(Merger::with_output(114).merge(IMAGE, 2, 3, 14).is_ok());
     assert_eq!(
         Merger::with_output(0).merge(IMAGE, 2, 3, 14),
         Err(Refusal::Output)
@@ -316,7 +339,8 @@ fn skipped_pairs_are_reported() {
         let listing = ask(&mut merger, image, q).unwrap();
         assert_eq!(listing.bytes(), answer.as_bytes());
         let first = answer.lines().next().unwrap();
-        assert!(first.ends_with(&format!(" skipped {}", listing.skipped)));
+        let (skipped, checks) = (listing.skipped, listing.checks);
+        assert!(first.ends_with(&format!(" skipped {skipped} checks {checks}")));
         above += usize::from(listing.skipped > 0);
     }
     assert!(above > 15, "only {above} above 0");

@@ -1,65 +1,24 @@
 -- The cells of a transport action by their numbers: row by row.
 use mathlib.Core.Path.{_≡_, refl, sym, ap, _∙_}
 use mathlib.Core.Bool.{true}
-use mathlib.Core.List.{List, [], _∷_, _++_, map}
+use mathlib.Core.List.{List, [], _∷_}
 use Prim.Native.Nat.{ℕ, zero, suc, _+_, _*_, _/_, _%_, _≤_, _<_}
-use native.Mathlib.Nat.{suc-mul, div-add-mod'}
+use native.Mathlib.Nat.{div-add-mod'}
 use native.Mathlib.Omega.{arith}
-use lib.ListN.{length, getD, length-append}
-use lib.Seq.{getD-take, getD-append-add}
-use Rattle.spec.specs.Bytes.{Two, each}
+use lib.ListN.{length, getD}
+use lib.Seq.{getD-take}
+use Rattle.spec.specs.Bytes.{Two}
 use Rattle.spec.specs.Monomial.{Monomial, MonomialPair, pairOf, classes, narrow}
 use Rattle.spec.specs.Action.{cellPairs}
 use Rattle.spec.specs.Meaning.{In}
-use Rattle.laws.specs.Lists.{length-map, get-in}
+use Rattle.laws.specs.Lists.{get-in}
+use Rattle.laws.specs.Grids.{cells-length, cells-at}
 use Rattle.monomial_terms.specs.Terms.{TERMS, NUMBERS, terms, held}
 use Rattle.monomial_terms.specs.TermLaws.{held-length}
 use Rattle.cost_matrix.specs.Places.{cells-fit, div-in}
 
--- ---- each row with each column
-abbrev key : Two → ℕ
-key t = t .0
-
-front-at : (l m : List Two) (k : ℕ) → k < length l → getD (l ++ m) k (0, 0) ≡ getD l k (0, 0)
-front-at [] m k h = absurd (omega arith)
-front-at (x ∷ l) m zero h = refl
-front-at (x ∷ l) m (suc k) h = front-at l m k (omega arith)
-
 abbrev pub with : ℕ → ℕ → Two
 with a b = (a, b)
-
-beside : (x : ℕ) (ys : List ℕ) (j : ℕ) → j < length ys → _≡_ {A = Two} (getD (map (with x) ys) j (0, 0)) (x, getD ys j 0)
-beside x [] j h = absurd (omega arith)
-beside x (y ∷ ys) zero h = refl
-beside x (y ∷ ys) (suc j) h = beside x ys j (omega arith)
-
-abbrev crossing : List ℕ → List ℕ → List Two
-crossing xs ys = each (λ a. map (with a) ys) xs
-
-crossing-length : (xs ys : List ℕ) → length (crossing xs ys) ≡ length xs * length ys
-unfolding each
-crossing-length [] ys = omega arith
-crossing-length (x ∷ xs) ys =
-    length-append (map (with x) ys) (crossing xs ys)
-    ∙ omega (arith, length-map (with x) ys, crossing-length xs ys, suc-mul (length xs) (length ys))
-
-crossing-at : (xs ys : List ℕ) (i j : ℕ) → i < length xs → j < length ys → getD (crossing xs ys) (i * length ys + j) (0, 0) ≡ with (getD xs i 0) (getD ys j 0)
-unfolding each
-crossing-at [] ys i j h k = absurd (omega arith)
-crossing-at (x ∷ xs) ys zero j h k =
-    let e : 0 * length ys + j ≡ j = omega arith in
-    ap (λ (n : ℕ). getD (crossing (x ∷ xs) ys) n (0, 0)) e ∙ front-at (map (with x) ys) (crossing xs ys) j (omega (arith, length-map (with x) ys)) ∙ beside x ys j k
-crossing-at (x ∷ xs) ys (suc i) j h k =
-    let e : suc i * length ys + j ≡ length (map (with x) ys) + (i * length ys + j) = omega (arith, length-map (with x) ys, suc-mul i (length ys)) in
-    ap (λ (n : ℕ). getD (crossing (x ∷ xs) ys) n (0, 0)) e
-    ∙ getD-append-add (map (with x) ys) (crossing xs ys) (i * length ys + j) (0, 0)
-    ∙ crossing-at xs ys i j (omega arith) k
-
-pub cells-length : (m : MonomialPair) → length (cellPairs m) ≡ length (m .rows) * length (m .cols)
-unfolding cellPairs
-cells-length m =
-    crossing-length (classes (m .rows)) (classes (m .cols))
-    ∙ (λ i. length-map key (m .rows) i * length-map key (m .cols) i)
 
 -- ---- in the buffers of two monomials
 abbrev pub sidesOf : List ℕ → ℕ → List ℕ → ℕ → MonomialPair
@@ -105,15 +64,12 @@ module _ (left : List ℕ) (r : ℕ) (right : List ℕ) (c : ℕ) (S : Sides lef
     some-col = omega (arith, div-in r c k h .1)
 
     pub cell-is : with (getD (terms left) (k / c) (0, 0) .0) (getD (terms right) (k % c) (0, 0) .0) ≡ getD (cellPairs (sidesOf left r right c)) k (0, 0)
-    unfolding cellPairs
     cell-is =
-        let u : length (classes (held r left)) ≡ r = length-map key (held r left) ∙ held-length r left (S .leftLong) (S .fewRows) in
-        let v : length (classes (held c right)) ≡ c = length-map key (held c right) ∙ held-length c right (S .rightLong) (S .fewCols) in
+        let u : length (held r left) ≡ r = held-length r left (S .leftLong) (S .fewRows) in
+        let v : length (held c right) ≡ c = held-length c right (S .rightLong) (S .fewCols) in
         let (hi, hj) = div-in r c k h in
-        let e : k / c * length (classes (held c right)) + k % c ≡ k = ap (λ (n : ℕ). k / c * n + k % c) v ∙ div-add-mod' k c in
         sym (
-        ap (λ (n : ℕ). getD (cellPairs (sidesOf left r right c)) n (0, 0)) (sym e)
-        ∙ crossing-at (classes (held r left)) (classes (held c right)) (k / c) (k % c) (omega (arith, hi)) (omega (arith, hj))
+        cells-at (sidesOf left r right c) (k / c) (k % c) k (omega (arith, hi)) (omega (arith, hj)) (sym (ap (λ (n : ℕ). k / c * n + k % c) v ∙ div-add-mod' k c))
         ∙ (λ i. (class-in left r (k / c) (S .leftLong) (S .fewRows) hi i, class-in right c (k % c) (S .rightLong) (S .fewCols) hj i))
         )
 

@@ -11,7 +11,7 @@ use lib.Seq.{slice, take-length}
 use Rattle.spec.specs.Bytes.{pick, both, either, any, each, upFrom, Two}
 use Rattle.spec.specs.Image.{Tables, Operation, Member, NO-IDENTITY, theClass, theMember, membersOf, childrenOf}
 use Rattle.spec.specs.Monomial.{classes}
-use Rattle.laws.specs.Tests.{either-false}
+use Rattle.laws.specs.Tests.{either-false, either-swap}
 use Rattle.laws.specs.Valid.{Valid}
 use Rattle.laws.specs.AcceptedLists.{any-cons}
 use Rattle.laws.specs.AcceptedTurns.{any-append}
@@ -76,13 +76,7 @@ module _ (p : ℕ → Bool) where
   any-itself : (c : ℕ) (l : List ℕ) → any p (withItself c l) ≡ either (any p l) (both (nonEmpty l) (p c))
   unfolding withItself any
   any-itself c [] = refl
-  any-itself c (e ∷ l) = any-cons p c (e ∷ l) ∙ turn (p c) (any p (e ∷ l))
-    where
-      turn : (a b : Bool) → either a b ≡ either b a
-      turn true true = refl
-      turn true false = refl
-      turn false true = refl
-      turn false false = refl
+  any-itself c (e ∷ l) = any-cons p c (e ∷ l) ∙ either-swap (p c) (any p (e ∷ l))
 
   module _ (t : Tables) (c : ℕ) where
     abbrev members : Bool

@@ -15,7 +15,7 @@ use Rattle.spec.specs.Pool.{Pool, Interned, startingTerm}
 use Rattle.spec.specs.System as system
 use Rattle.spec.specs.Pairs.{pairs}
 use Rattle.spec.specs.Round.{Terms, prepend, Choice, stay, act, Turn, changes, startingQuality, lookUp, choiceTerm, turnOf, turnsOf, turnsTerms, qualitiesAfter}
-use Rattle.spec.specs.Run.{limitOf, limitsFor, State, Outcome, outcome, startingTerms, roundTerms, afterRound, roundsFrom, started, afterStarting, afterBuilding, runOf}
+use Rattle.spec.specs.Run.{limitOf, limitsFor, State, Outcome, outcome, stateAfter, startingTerms, roundTerms, afterRound, roundsFrom, started, startState, afterStarting, afterBuilding, runOf}
 use Rattle.spec.specs.declared.Caller.{Caller}
 use Rattle.spec.specs.Meaning.{In, here, there, Term, treeAt}
 use Rattle.laws.specs.Tests.{clash}
@@ -146,7 +146,7 @@ module _ (who : Caller) (t : Tables) (v : Valid t) (ps : List Two) (closed : Clo
       (B .kept)))
 
   further : (s : State) → Between s → (r : Terms) (left : ℕ) → Kept C (r .pool) → Holds (r .pool) (termAfter t ps (suc (s .rounds))) ps (r .terms) → s .budget ≡ suc (length ps) + left
-      → Between (record { pool = r .pool; qualities = map (λ w. w .quality) (turnsOf t ps (s .qualities)); terms = r .terms; rounds = suc (s .rounds); budget = left })
+      → Between (stateAfter s (turnsOf t ps (s .qualities)) r left)
   unfolding system.qualitiesAfter
   further s B r left K H e = record { kept = K; holds = H; qualities = ap (λ (l : List Two). map (λ (w : Turn). w .quality) (turnsOf t ps l)) (B .qualities); spent = omega (arith, B .spent) }
 
@@ -155,12 +155,12 @@ module _ (who : Caller) (t : Tables) (v : Valid t) (ps : List Two) (closed : Clo
     abbrev Final : Outcome → Type 0
     Final o = treeAt (o .pool) (o .root) ≡ termAfter t ps (o .rounds) p
 
-    ended : (s : State) → Between s → (complete : Bool) → Final (outcome complete ps s)
-    ended s B complete = holds-first p (first .0) (B .holds) (first .1)
+    ended : (s : State) → Between s → (complete : Bool) (left : ℕ) → Final (outcome complete ps s left)
+    ended s B complete left = holds-first p (first .0) (B .holds) (first .1)
 
     rounds-go : (f : ℕ) (s : State) → Between s → Goes C Final (roundsFrom (limitsFor who) f t ps s)
     unfolding system.roundsFrom afterRound
-    rounds-go zero s B = fine (ended s B false)
+    rounds-go zero s B = fine (ended s B false 0)
     rounds-go (suc f) s B = goes-bind (roundTerms (limitsFor who) t ps s ws (s .budget)) _ (round-walks s B (s .budget) refl) (λ r W. go r W (λ u D. rounds-go f u D))
       where
         ws : List Turn
@@ -168,15 +168,15 @@ module _ (who : Caller) (t : Tables) (v : Valid t) (ps : List Two) (closed : Clo
 
         go : (r : Checked Terms) → Walked C (s .pool) (termAfter t ps (suc (s .rounds))) ps (suc (length ps)) (s .budget) r → ((u : State) → Between u → Goes C Final (roundsFrom (limitsFor who) f t ps u))
             → Goes C Final (afterRound (λ u. roundsFrom (limitsFor who) f t ps u) ps s ws r)
-        go r cut ih = fine (ended s B false)
+        go r cut ih = fine (ended s B false 0)
         go r (whole a left K g H e) ih = by (any changes ws)
           where
             u : State
-            u = record { pool = a .pool; qualities = map (λ w. w .quality) ws; terms = a .terms; rounds = suc (s .rounds); budget = left }
+            u = stateAfter s ws a left
 
-            by : (x : Bool) → Goes C {A = Outcome} Final (elim x [ false ↦ ok (outcome true ps s) | true ↦ roundsFrom (limitsFor who) f t ps u ])
+            by : (x : Bool) → Goes C {A = Outcome} Final (elim x [ false ↦ ok (outcome true ps s left) | true ↦ roundsFrom (limitsFor who) f t ps u ])
             by true = ih u (further s B a left K H e)
-            by false = fine (ended s B true)
+            by false = fine (ended s B true left)
 
 -- ---- the run
 goes-ok : {C : Term → Type 0} {A : Type 0} {Q : A → Type 0} {r : Res A} (a : A) → Goes C Q r → r ≡ ok a → Q a
@@ -207,11 +207,11 @@ module _ (who : Caller) (t : Tables) (v : Valid t) (p : Two) (h : IsPair t p) wh
           absurd (counted-few t v (p ∷ []) (λ q i. elim (in-cons i) [ inl e ↦ rw e h | inr j ↦ absurd (in-nil j) ]) 0 0 0
           (λ k q i m l. absurd (omega arith)) (Slim t (p ∷ []) 0) (λ x d. d .0) (λ x d k q i m l e. absurd (omega arith)) (omega (arith, v .counts .fewClasses)) (omega (arith, v .counts .fewClasses)) B)
 
-  started-term : (ps : List Two) (root : Interned) (n : ℕ) → startingTerm (limitsFor who) t [] p ≡ ok root → treeAt (started t p root n .pool) (started t p root n .root) ≡ termAfter t ps (started t p root n .rounds) p
+  started-term : (b : ℕ) (ps : List Two) (root : Interned) (n : ℕ) → startingTerm (limitsFor who) t [] p ≡ ok root → treeAt (started t b p root n .pool) (started t b p root n .root) ≡ termAfter t ps (started t b p root n .rounds) p
   unfolding system.started termAfter
-  started-term ps root n er = goes-ok root (root-goes (p ∷ []) 0 here) er .means
+  started-term b ps root n er = goes-ok root (root-goes (p ∷ []) 0 here) er .means
 
-  built-goes : (b c : ℕ) (ps : List Two) (root : Interned) → build (limitsFor who) t p b ≡ ok (passed ps c) → startingTerm (limitsFor who) t [] p ≡ ok root → Goes (Slim t ps b) (λ o. treeAt (o .pool) (o .root) ≡ termAfter t ps (o .rounds) p) (afterBuilding (limitsFor who) t p root (passed ps c))
+  built-goes : (b c : ℕ) (ps : List Two) (root : Interned) → build (limitsFor who) t p b ≡ ok (passed ps c) → startingTerm (limitsFor who) t [] p ≡ ok root → Goes (Slim t ps b) (λ o. treeAt (o .pool) (o .root) ≡ termAfter t ps (o .rounds) p) (afterBuilding (limitsFor who) t b p root (passed ps c))
   unfolding system.afterBuilding system.afterStarting termAfter system.qualitiesAfter
   built-goes b c ps root e er =
       goes-bind (startingTerms (limitsFor who) t ps c (root .pool)) _
@@ -224,10 +224,10 @@ module _ (who : Caller) (t : Tables) (v : Valid t) (p : Two) (h : IsPair t p) wh
       within : (q : Two) → In q ps → IsPair t q
       within q i = reach-within t v p q h (build-whole (pairs t) (limitOf who) p b c ps e .exactly q .0 i)
 
-      go : (r : Checked Terms) → Walked C (root .pool) (startingTree t) ps (length ps) c r → Goes C (λ o. treeAt (o .pool) (o .root) ≡ termAfter t ps (o .rounds) p) (afterStarting (limitsFor who) t p root ps r)
-      go r cut = fine (started-term ps root (length ps) er)
+      go : (r : Checked Terms) → Walked C (root .pool) (startingTree t) ps (length ps) c r → Goes C (λ o. treeAt (o .pool) (o .root) ≡ termAfter t ps (o .rounds) p) (afterStarting (limitsFor who) t b p root ps r)
+      go r cut = fine (started-term b ps root (length ps) er)
       go r (whole a left K g H z) =
-          rounds-go who t v ps (build-closed (pairs t) (limitOf who) p b c ps e) b p (build-first (pairs t) (limitOf who) p b c ps e) left (record { pool = a .pool; qualities = map (startingQuality t) ps; terms = a .terms; rounds = 0; budget = left })
+          rounds-go who t v ps (build-closed (pairs t) (limitOf who) p b c ps e) b p (build-first (pairs t) (limitOf who) p b c ps e) left (startState t b ps a left)
           (record { kept = K; holds = H; qualities = refl; spent = omega (arith, build-passed (pairs t) (limitOf who) p (length ps) (ps, build-whole (pairs t) (limitOf who) p b c ps e, refl) b c ps e .1) })
 
   -- The term that a run gives is the queried pair's after the rounds reported; ps are the pairs of the full graph.
@@ -238,22 +238,22 @@ module _ (who : Caller) (t : Tables) (v : Valid t) (p : Two) (h : IsPair t p) wh
       let (g, eg, z″) = bind-ok (build (limitsFor who) t p b) _ o z′ in
       go root er g eg z″
     where
-      go : (root : Interned) → startingTerm (limitsFor who) t [] p ≡ ok root → (g : Checked (List Two)) → build (limitsFor who) t p b ≡ ok g → afterBuilding (limitsFor who) t p root g ≡ ok o → treeAt (o .pool) (o .root) ≡ termAfter t ps (o .rounds) p
-      go root er cutShort eg z = rw (← ok-inj z) (started-term ps root 1 er)
+      go : (root : Interned) → startingTerm (limitsFor who) t [] p ≡ ok root → (g : Checked (List Two)) → build (limitsFor who) t p b ≡ ok g → afterBuilding (limitsFor who) t b p root g ≡ ok o → treeAt (o .pool) (o .root) ≡ termAfter t ps (o .rounds) p
+      go root er cutShort eg z = rw (← ok-inj z) (started-term b ps root 1 er)
       go root er (passed qs c) eg z = rw (← build-same (pairs t) (limitOf who) p b c B C qs ps eg e) (goes-ok o (built-goes b c qs root eg er) z)
 
   -- A run is refused by 13 only where its graph is built, and the terms that are counted for it are more than 16,384 or have more than 65,536 runs.
   pub refused-13-slim : (b : ℕ) → runOf (limitsFor who) t p b ≡ refused 13 → (ps : List Two) × (c : ℕ) × (build (limitsFor who) t p b ≡ ok (passed ps c)) × Beyond (Slim t ps b)
   unfolding system.runOf system.afterBuilding
-  refused-13-slim b e = starts (bind-refused (startingTerm (limitsFor who) t [] p) (λ root. build (limitsFor who) t p b >>= λ g. afterBuilding (limitsFor who) t p root g) 13 e)
+  refused-13-slim b e = starts (bind-refused (startingTerm (limitsFor who) t [] p) (λ root. build (limitsFor who) t p b >>= λ g. afterBuilding (limitsFor who) t b p root g) 13 e)
     where
-      built : (root : Interned) → startingTerm (limitsFor who) t [] p ≡ ok root → (g : Checked (List Two)) → build (limitsFor who) t p b ≡ ok g → afterBuilding (limitsFor who) t p root g ≡ refused 13 → (ps : List Two) × (c : ℕ) × (build (limitsFor who) t p b ≡ ok (passed ps c)) × Beyond (Slim t ps b)
+      built : (root : Interned) → startingTerm (limitsFor who) t [] p ≡ ok root → (g : Checked (List Two)) → build (limitsFor who) t p b ≡ ok g → afterBuilding (limitsFor who) t b p root g ≡ refused 13 → (ps : List Two) × (c : ℕ) × (build (limitsFor who) t p b ≡ ok (passed ps c)) × Beyond (Slim t ps b)
       built root er cutShort eg z = absurd (refused-ok (sym z))
       built root er (passed ps c) eg z = (ps, c, eg, goes-refused 13 (built-goes b c ps root eg er) z)
 
-      starts : (startingTerm (limitsFor who) t [] p ≡ refused 13) ⊎ ((root : Interned) × (startingTerm (limitsFor who) t [] p ≡ ok root) × ((build (limitsFor who) t p b >>= λ g. afterBuilding (limitsFor who) t p root g) ≡ refused 13)) → (ps : List Two) × (c : ℕ) × (build (limitsFor who) t p b ≡ ok (passed ps c)) × Beyond (Slim t ps b)
+      starts : (startingTerm (limitsFor who) t [] p ≡ refused 13) ⊎ ((root : Interned) × (startingTerm (limitsFor who) t [] p ≡ ok root) × ((build (limitsFor who) t p b >>= λ g. afterBuilding (limitsFor who) t b p root g) ≡ refused 13)) → (ps : List Two) × (c : ℕ) × (build (limitsFor who) t p b ≡ ok (passed ps c)) × Beyond (Slim t ps b)
       starts (inl z) = absurd (refused-ok (sym z ∙ root-starts .1))
-      starts (inr (root, er, z)) = elim (bind-refused (build (limitsFor who) t p b) (λ g. afterBuilding (limitsFor who) t p root g) 13 z) [ inl x ↦ absurd (omega (arith, build-refused (pairs t) (limitOf who) p b 13 x .0)) | inr x ↦ built root er (x .0) (x .1) (x .2) ]
+      starts (inr (root, er, z)) = elim (bind-refused (build (limitsFor who) t p b) (λ g. afterBuilding (limitsFor who) t b p root g) 13 z) [ inl x ↦ absurd (omega (arith, build-refused (pairs t) (limitOf who) p b 13 x .0)) | inr x ↦ built root er (x .0) (x .1) (x .2) ]
 
   pub refused-13-beyond : (b : ℕ) → runOf (limitsFor who) t p b ≡ refused 13 → (ps : List Two) × (c : ℕ) × (build (limitsFor who) t p b ≡ ok (passed ps c)) × Beyond (Counted t ps b)
   refused-13-beyond b e =

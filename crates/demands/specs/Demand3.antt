@@ -93,7 +93,7 @@ module _ (who : Caller) (image : List ℕ) (left right budget : ℕ) (fit : Bool
       go : Ends (pairs t) (making (limitsFor who) t) (left, right) budget o → Reports
       go (inBuilding root k s) =
           let (j, c, _) = pair-count-of t (left, right) in
-          let (a, b, d, _) = started-says (pairs t) (left, right) root 1 o s in
+          let (a, b, d, _) = started-says (pairs t) budget (left, right) root 1 o s in
           cutInBuilding j c (build-cut (pairs t) ((limitsFor who) .pairs) (left, right) j c budget k) (a, b, d)
       go (inStarting root ps c k l s) = whole ps c k
       go (inRounds ps c d k l f) = whole ps c k

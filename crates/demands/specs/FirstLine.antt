@@ -1,4 +1,4 @@
--- "The first line has the status (`complete` or `partial`), pairs, rounds, size, mass", and (02, Paper 7) "ends with `skipped` and the number of monomial pairs passed over": its bytes tell each of them.
+-- "The first line has the status (`complete` or `partial`), pairs, rounds, size, mass", (02, Paper 7) "`skipped` and the number of monomial pairs passed over" and (Paper 13) "a final field `checks`": its bytes tell each of them.
 -- So what is said of an outcome is said of what the first line prints.
 use mathlib.Core.Path.{_≡_, refl, sym, ap}
 use mathlib.Core.Bool.{Bool, true, false}
@@ -60,7 +60,7 @@ names-solid k o = solids-of (names (reported k o)) refl
 
 -- what a first line says: of outcome o with k pairs skipped the same as of u with j
 abbrev pub SameReport : ℕ → ℕ → Outcome → Outcome → Type 0
-SameReport k j o u = (o .complete ≡ u .complete) × (o .nodes ≡ u .nodes) × (o .rounds ≡ u .rounds) × (o .quality .0 ≡ u .quality .0) × (o .quality .1 ≡ u .quality .1) × (k ≡ j)
+SameReport k j o u = (o .complete ≡ u .complete) × (o .nodes ≡ u .nodes) × (o .rounds ≡ u .rounds) × (o .quality .0 ≡ u .quality .0) × (o .quality .1 ≡ u .quality .1) × (k ≡ j) × (o .checks ≡ u .checks)
 
 -- whatever stands behind it
 pub first-line-cut : (k j : ℕ) (o u : Outcome) (l m : List ℕ) → firstLine k o ++ l ≡ firstLine j u ++ m → SameReport k j o u × (l ≡ m)
@@ -68,8 +68,8 @@ unfolding firstLine reported
 first-line-cut k j o u l m e =
     let (c, q, z) = fields-tell (o .complete) (u .complete) (reported k o) (reported j u) l m (names-solid k o) (names-solid j u) e in
     let at : (i : ℕ) → getD (reported k o) i ([], 0) .1 ≡ getD (reported j u) i ([], 0) .1 = λ i. ap (λ (f : List Field). getD f i ([], 0) .1) q in
-    ((c, at 0, at 1, at 2, at 3, at 4), z)
+    ((c, at 0, at 1, at 2, at 3, at 4, at 5), z)
 
--- Two first lines of the same bytes have the same status, pairs, rounds, size, mass and number skipped.
+-- Two first lines of the same bytes have the same status, pairs, rounds, size, mass, number skipped and checks.
 pub first-line-tells : (k j : ℕ) (o u : Outcome) → firstLine k o ≡ firstLine j u → SameReport k j o u
 first-line-tells k j o u e = first-line-cut k j o u [] [] (ap (λ (z : List ℕ). z ++ []) e) .0

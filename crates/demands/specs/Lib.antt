@@ -8,4 +8,5 @@ pub mod ListingTells
 pub mod Terms13
 pub mod SkippedPairs
 pub mod Skipped
+pub mod Checks
 pub mod Callers

@@ -94,18 +94,6 @@ module _ (who : Caller) (image : List ℕ) (left right budget : ℕ) (fit : Bool
   abbrev ran : runOf (limitsFor who) t (left, right) budget ≡ ok o
   ran = accepted who image left right budget fit out out′ n m .ran
 
-  -- "The first line of the listing ends with `skipped` and the number of monomial pairs passed over in building, zero included."
-  pub ends-with-skipped : take n out′
-      ≡ line (statusOf (o .complete)
-      ∷ text "pairs" ∷ decimal (o .nodes)
-      ∷ text "rounds" ∷ decimal (o .rounds)
-      ∷ text "size" ∷ decimal (o .quality .0)
-      ∷ text "mass" ∷ decimal (o .quality .1)
-      ∷ text "skipped" ∷ decimal (passedOver who image left right budget) ∷ [])
-      ++ each (termLine (o .pool) (subterms (o .pool) (o .root))) (subterms (o .pool) (o .root))
-  unfolding listingOf firstLine reportLine reported each
-  ends-with-skipped = accepted who image left right budget fit out out′ n m .listed
-
   -- Where the graph is built in full, the number counts the skipped ones of all its pairs.
   abbrev All : Type 0
   All = Many (λ x. Reachable t (left, right) (x .pair) × SkippedPlace t x) (passedOver who image left right budget)
@@ -131,7 +119,7 @@ module _ (who : Caller) (image : List ℕ) (left right budget : ℕ) (fit : Bool
   counts-complete full = go (run-ends (pairs t) (making (limitsFor who) t) (left, right) budget o ran)
     where
       go : Ends (pairs t) (making (limitsFor who) t) (left, right) budget o → All
-      go (inBuilding root e s) = absurd (clash (sym full ∙ started-says (pairs t) (left, right) root 1 o s .2))
+      go (inBuilding root e s) = absurd (clash (sym full ∙ started-says (pairs t) budget (left, right) root 1 o s .2))
       go (inStarting root ps d e l s) = counts-built ps d e
       go (inRounds ps d j e l f) = counts-built ps d e
 

@@ -1,6 +1,6 @@
 -- (02, Paper 7) The monomial pairs of two classes: which are skipped, that the others are the transport actions, and what the number of those skipped counts.
 use mathlib.Core.Path.{_≡_, refl, sym, ap, _∙_, subst}
-use mathlib.Core.Logic.{_≢_, _⊎_, inl, inr, _↔_}
+use mathlib.Core.Logic.{_≢_, inl, inr, _↔_}
 use mathlib.Core.Bool.{Bool, true, false, not}
 use mathlib.Core.List.{List, [], _∷_, _++_, map}
 use Prim.Native.Nat.{ℕ, zero, suc, _+_, _≤_, _<_}
@@ -15,13 +15,17 @@ use Rattle.spec.specs.Action.{Action, TransportAction, structural, acOps, trans
 use Rattle.spec.specs.System as system
 use Rattle.spec.specs.Pairs.{startingQuality, ones, problemOver, pairs}
 use Rattle.spec.specs.Meaning as meaning
-use Rattle.spec.specs.Meaning.{Plan, Move}
+use Rattle.spec.specs.Meaning.{Plan, Move, Reachable}
 use Rattle.laws.specs.Tests.{clash}
-use Rattle.laws.specs.Lists.{in-nil, in-cons, in-left, in-right, in-append, in-map, map-in, in-each, length-map, Distinct, none, more}
-use Rattle.laws.specs.Bag.{each-in, filter-in}
+use Rattle.laws.specs.Lists.{in-nil, in-cons, in-left, in-right, in-append, in-map, map-in, in-each, length-map, Distinct, none, more, distinct-map, pigeon}
+use Rattle.laws.specs.Bag.{each-in, filter-in, in-filter}
 use Rattle.skips.specs.Counted.{Once, nothing, also, Counted, counted}
 use Rattle.steps.specs.Rounds.{Moves, LeastOf}
 use Rattle.lgg.specs.Moves.{pair-moves}
+use Rattle.steps.specs.Mirror.{reach-flip}
+use Rattle.mirror.specs.Transpose.{flip, turnTransport}
+use Rattle.mirror.specs.Actions.{pairs-turn, ops-turn}
+use Rattle.mirror.specs.Runs.{fleets}
 
 -- ---- "A pair with a count above 4,294,967,295 on either side is skipped."
 abbrev pub Skipped : MonomialPair → Type 0
@@ -55,17 +59,6 @@ pub record Joint (t : Tables) (p : Two) (a : TransportAction) : Type 0 where
   pub different : p .0 ≢ p .1
   pub operation : In (a .op) (acOps t (p .0) (p .1))
   pub sides : In (a .sides) (representationPairs t (p .0) (p .1) (a .op))
-
-in-filter : {A : Type 0} (f : A → Bool) {x : A} (l : List A) → In x l → f x ≡ true → In x (filter f l)
-unfolding filter
-in-filter f [] i e = absurd (in-nil i)
-in-filter {A = A} f {x = x} (y ∷ l) i e = go (f y) refl (in-cons i) (λ j. in-filter f l j e)
-  where
-    go : (b : Bool) → f y ≡ b → (x ≡ y) ⊎ In x l → (In x l → In x (filter f l)) → In x (elim b [ true ↦ y ∷ filter f l | false ↦ filter f l ])
-    go true p (inl q) ih = rw q here
-    go true p (inr j) ih = there (ih j)
-    go false p (inl q) ih = absurd (clash (sym e ∙ ap f q ∙ p))
-    go false p (inr j) ih = ih j
 
 not-skipped : (m : MonomialPair) → both (narrow (m .rows)) (narrow (m .cols)) ≡ true → Skipped m → ⊥
 not-skipped m w s = clash (sym (skipped-test m .1 s) ∙ ap not w)
@@ -161,17 +154,13 @@ many-sum {A = A} {B = B} kind f P (b ∷ l) (more n d) h = go (h b here) (many-s
 many-map : {A B : Type 0} (g : A → B) (P : A → Type 0) (Q : B → Type 0) (n : ℕ) → ((x y : A) → g x ≡ g y → x ≡ y) → ((x : A) → P x → Q (g x)) → ((y : B) → Q y → (x : A) × P x × (g x ≡ y)) → Many P n → Many Q n
 many-map {A = A} {B = B} g P Q n one to from M = record {
   those = map g (M .those);
-  once = apart (M .those) (M .once);
+  once = distinct-map g one (M .those) (M .once);
   exactly = λ y. (
     λ i. (let (x, j, e) = map-in g (M .those) y i in subst Q e (to x (M .exactly x .0 j))),
     λ q. (let (x, p, e) = from y q in subst (λ z. In z (map g (M .those))) e (in-map g (M .exactly x .1 p))),
   );
   many = length-map g (M .those) ∙ M .many;
 }
-  where
-    apart : (l : List A) → Distinct l → Distinct (map g l)
-    apart [] none = none
-    apart (x ∷ l) (more f d) = more (λ i. let (y, j, e) = map-in g l (g x) i in f (subst (λ z. In z l) (one y x e) j)) (apart l d)
 
 -- .. what they are may be said otherwise
 pub many-same : {A : Type 0} (P Q : A → Type 0) (n : ℕ) → ((x : A) → P x ↔ Q x) → Many P n → Many Q n
@@ -268,3 +257,36 @@ many-at t p = go (eqb (p .0) (p .1)) refl
 -- of different pairs of classes
 pub many-over : (t : Tables) (ps : List Two) → Distinct ps → Many (λ x. In (x .pair) ps × SkippedPlace t x) (sum (map (skippedAt t) ps))
 many-over t ps d = many-sum (λ x. x .pair) (skippedAt t) (SkippedPlace t) ps d (λ p i. many-at t p)
+
+-- ---- (02, Paper 13) turned round
+-- no more things are P than Q, where f takes each to another
+few : {A : Type 0} (P Q : A → Type 0) (f : A → A) → ((x y : A) → f x ≡ f y → x ≡ y) → ((x : A) → P x → Q (f x)) → (n m : ℕ) → Many P n → Many Q m → n ≤ m
+few P Q f one to n m M N =
+    omega (
+      arith,
+      M .many,
+      N .many,
+      length-map f (M .those),
+      pigeon (map f (M .those)) (N .those) (distinct-map f one (M .those) (M .once))
+          (λ y i. let (x, j, e) = map-in f (M .those) y i in rw (← e) (N .exactly (f x) .1 (to x (M .exactly x .0 j)))),
+    )
+
+abbrev turnPlace : Place → Place
+turnPlace x = record { pair = flip (x .pair); act = turnTransport (x .act) }
+
+turn-skipped : (t : Tables) (x : Place) → SkippedPlace t x → SkippedPlace t (turnPlace x)
+turn-skipped t x (J, (e, i, h)) = (
+  record {
+    different = λ z. J .different (sym z);
+    operation = subst (λ l. In (x .act .op) l) (ops-turn t (x .pair .0) (x .pair .1)) (J .operation);
+    sides = pairs-turn t (x .pair .0) (x .pair .1) (x .act .op) (x .act .sides) (J .sides);
+  },
+  (e, elim (in-append (x .act .sides .rows) i) [ inl j ↦ in-right (x .act .sides .cols) j | inr j ↦ in-left (x .act .sides .rows) j ], h),
+)
+
+-- of the pairs reachable from (left, right) and from (right, left) as many are skipped
+pub many-turned : (t : Tables) (p : Two) (n m : ℕ) → Many (λ x. Reachable t p (x .pair) × SkippedPlace t x) n → Many (λ x. Reachable t (flip p) (x .pair) × SkippedPlace t x) m → n ≡ m
+many-turned t p n m M N = omega (arith, one-way p n m M N, one-way (flip p) m n N M)
+  where
+    one-way : (q : Two) (j k : ℕ) → Many (λ x. Reachable t q (x .pair) × SkippedPlace t x) j → Many (λ x. Reachable t (flip q) (x .pair) × SkippedPlace t x) k → j ≤ k
+    one-way q j k = few (λ x. Reachable t q (x .pair) × SkippedPlace t x) (λ x. Reachable t (flip q) (x .pair) × SkippedPlace t x) turnPlace (λ x y e. ap turnPlace e) (λ x z. (reach-flip (pairs t) (fleets t) q (x .pair) (z .0), turn-skipped t x (z .1))) j k

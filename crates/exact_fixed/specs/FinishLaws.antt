@@ -18,6 +18,7 @@ use Rattle.pools.specs.Pool.{empty-valid}
 use Rattle.pools.specs.PoolIntern.{extends-refl}
 use Rattle.pools.specs.PoolLimits.{starting-within}
 use Rattle.readings.specs.Starting.{pair-begins}
+use Rattle.steps.specs.Graph.{build-whole, build-passed}
 use Rattle.steps.specs.RunFrom.{run-no-root, run-no-graph, run-cut-building}
 use Rattle.budget.specs.Budget.{budgetOf}
 use Rattle.budget.specs.declared.Budget.{Budget}
@@ -39,7 +40,7 @@ use Rattle.rounds.specs.Graphs.{Graphs}
 use Rattle.exact_fixed.specs.GraphLaws.{graphs-built}
 use Rattle.exact_fixed.specs.Starting.{StartsAll}
 use Rattle.starting.specs.Report.{startedIn}
-use Rattle.exact_fixed.specs.RunLaws.{ran-started, starts-full, starts-cut, starts-holds, starts-within, starts-stands, starts-rounds}
+use Rattle.exact_fixed.specs.RunLaws.{ran-started, starts-full, starts-cut, starts-holds, starts-within, starts-stands, starts-rounds, starts-left}
 use Rattle.exact_fixed.specs.Following.{ToRounds}
 use Rattle.exact_fixed.specs.declared.Started.{Started}
 use Rattle.exact_fixed.specs.declared.Started.the-variants as S
@@ -100,11 +101,11 @@ module _ (lim : Limits) (t : Tables) (p : Two) (budget w : ℕ) (graph ts us : L
     rooted : (a : Interned) → startingTerm lim t [] p ≡ ok a → poolOf ts us ≡ a .pool → countIn ts ≤ lim .terms
     rooted a e q = omega (arith, starting-within lim t [] p a (omega arith) e, ap length q, pool-length ts us)
 
-    pub finish-cut : 2 * lim .terms ≤ length graph → (root j : ℕ) (b : Begun) → b ≡ N.Cut root j → Ready lim t p budget w b graph ts us → (o : Outcome) → o ≡ startedIn t p 1 root → RanTo (runOf lim t p budget) graph ts us (R.Done o)
+    pub finish-cut : 2 * lim .terms ≤ length graph → (root j : ℕ) (b : Begun) → b ≡ N.Cut root j → Ready lim t p budget w b graph ts us → (o : Outcome) → o ≡ startedIn t p 1 root budget → RanTo (runOf lim t p budget) graph ts us (R.Done o)
     finish-cut room root j b s X o q =
         let (a, e, f, g) = cut-says passes (startingTerm lim t [] p) (build lim t p budget) root j (sym s ∙ X .answer) in
         let W = pair-begins lim t v .start [] p a i empty-valid e in
-        let z = ran-started t p (runOf lim t p budget) a 1 graph ts us (run-cut-building (P.pairs t) (P.making lim t) p budget a e g) (W .valid) (W .within) (X .holds a e) (rw (X .pool a e) (extends-refl (a .pool))) (omega (arith, rooted a e (X .pool a e))) in
+        let z = ran-started t budget p (runOf lim t p budget) a 1 graph ts us (run-cut-building (P.pairs t) (P.making lim t) p budget a e g) (W .valid) (W .within) (X .holds a e) (rw (X .pool a e) (extends-refl (a .pool))) (omega (arith, rooted a e (X .pool a e))) in
         rw q (rw f at z)
 
     module _ (root n : ℕ) (b : Budget) (j : ℕ) (B : Begun) (s : B ≡ N.All root n b j) (X : Ready lim t p budget w B graph ts us) where
@@ -120,8 +121,14 @@ module _ (lim : Limits) (t : Tables) (p : Two) (budget w : ℕ) (graph ts us : L
       pub all-within : countIn ts ≤ lim .terms
       all-within = let (a, ps, c, e, f, g, h, k) = all-says passes (startingTerm lim t [] p) (build lim t p budget) root n b j (sym s ∙ X .answer) in rooted a e (X .pool a e)
 
+      -- the checks of building
+      all-left : b .left ≤ budget
+      all-left =
+          let (a, ps, c, e, f, g, h, k) = all-says passes (startingTerm lim t [] p) (build lim t p budget) root n b j (sym s ∙ X .answer) in
+          omega (arith, k, build-passed (P.pairs t) (lim .pairs) p (length ps) (ps, build-whole (P.pairs t) (lim .pairs) p budget c ps g, refl) budget c ps g .1)
+
       -- the run is what follows building
-      run-after : (a : Interned) (g : Checked (List Two)) → startingTerm lim t [] p ≡ ok a → build lim t p budget ≡ ok g → runOf lim t p budget ≡ afterBuilding lim t p a g
+      run-after : (a : Interned) (g : Checked (List Two)) → startingTerm lim t [] p ≡ ok a → build lim t p budget ≡ ok g → runOf lim t p budget ≡ afterBuilding lim t budget p a g
       unfolding system.runOf
       run-after a g e f = rw (e, f) refl
 
@@ -140,31 +147,32 @@ module _ (lim : Limits) (t : Tables) (p : Two) (budget w : ℕ) (graph ts us : L
             let G : Graphs lim t w ps (length ps) graph = rw (sym (laid a ps c e g)) at (graphs-built lim t v p i budget c ps g w many (length graph) wide) in
             graphs-as lim t w ps (pairsIn w graph n) (length ps) n graph (sym q) h G
 
-        all-runs : runOf lim t p budget ≡ afterBuilding lim t p (interned (poolOf ts us) root) (passed (pairsIn w graph n) (b .left))
+        all-runs : runOf lim t p budget ≡ afterBuilding lim t budget p (interned (poolOf ts us) root) (passed (pairsIn w graph n) (b .left))
         all-runs =
             let (a, ps, c, e, f, g, h, k) = all-says passes (startingTerm lim t [] p) (build lim t p budget) root n b j (sym s ∙ X .answer) in
             let q : ps ≡ pairsIn w graph n = sym (pairs-are a ps c e g) ∙ ap (λ (z : ℕ). pairsIn w graph z) h in
             let r : a ≡ interned (poolOf ts us) root = λ y. record { pool = sym (X .pool a e) y; term = f y } in
-            run-after a (passed ps c) e g ∙ ap₂ (λ (y : Interned) (z : Checked (List Two)). afterBuilding lim t p y z) r (ap₂ (λ (y : List Two) (z : ℕ). passed y z) q (sym k))
+            run-after a (passed ps c) e g ∙ ap₂ (λ (y : Interned) (z : Checked (List Two)). afterBuilding lim t budget p y z) r (ap₂ (λ (y : List Two) (z : ℕ). passed y z) q (sym k))
 
         -- by what starting terms answer
         module _ (pairs′ terms′ runs′ : List ℕ) (x : Started) (Y : StartsAll lim t (pairsIn w graph n) (startingTerms lim t (pairsIn w graph n) (b .left) (poolOf ts us)) (poolOf ts us) pairs′ terms′ runs′ x) where
-          as-run : (y : Ran) → RanTo (afterBuilding lim t p (interned (poolOf ts us) root) (passed (pairsIn w graph n) (b .left))) graph terms′ runs′ y → RanTo (runOf lim t p budget) graph terms′ runs′ y
+          as-run : (y : Ran) → RanTo (afterBuilding lim t budget p (interned (poolOf ts us) root) (passed (pairsIn w graph n) (b .left))) graph terms′ runs′ y → RanTo (runOf lim t p budget) graph terms′ runs′ y
           as-run y Z = rw all-runs Z
 
           pub all-full : x ≡ S.Full → RanTo (runOf lim t p budget) graph terms′ runs′ (R.Stopped 13)
-          all-full q = as-run (R.Stopped 13) (starts-full lim t p (pairsIn w graph n) n (all-graphs .many) (b .left) (poolOf ts us) root pairs′ terms′ runs′ x Y graph q)
+          all-full q = as-run (R.Stopped 13) (starts-full lim t budget p (pairsIn w graph n) n (all-graphs .many) (b .left) (poolOf ts us) root pairs′ terms′ runs′ x Y graph q)
 
-          pub all-cut : 2 * lim .terms ≤ length graph → x ≡ S.Cut → (o : Outcome) → o ≡ startedIn t p n root → RanTo (runOf lim t p budget) graph terms′ runs′ (R.Done o)
-          all-cut room q o e = as-run (R.Done o) (starts-cut lim t p (pairsIn w graph n) n (all-graphs .many) (b .left) (poolOf ts us) root pairs′ terms′ runs′ x Y graph room (all-holds .valid) (omega (arith, all-root, pool-length ts us)) q o e)
+          pub all-cut : 2 * lim .terms ≤ length graph → x ≡ S.Cut → (o : Outcome) → o ≡ startedIn t p n root budget → RanTo (runOf lim t p budget) graph terms′ runs′ (R.Done o)
+          all-cut room q o e = as-run (R.Done o) (starts-cut lim t budget p (pairsIn w graph n) n (all-graphs .many) (b .left) (poolOf ts us) root pairs′ terms′ runs′ x Y graph room (all-holds .valid) (omega (arith, all-root, pool-length ts us)) q o e)
 
-          pub all-rounds : (c : Budget) → x ≡ S.All c → ToRounds lim t (runOf lim t p budget) w n graph pairs′ terms′ runs′ (c .left)
+          pub all-rounds : (c : Budget) → x ≡ S.All c → ToRounds lim t (runOf lim t p budget) budget w n graph pairs′ terms′ runs′ (c .left)
           all-rounds c q =
               let G = all-graphs in
               record {
                 graphs = G;
-                holds = starts-holds lim t p (pairsIn w graph n) n (G .many) (b .left) (poolOf ts us) root pairs′ terms′ runs′ x Y c q;
-                within = starts-within lim t p (pairsIn w graph n) n (G .many) (b .left) (poolOf ts us) root pairs′ terms′ runs′ x Y c q;
-                stands = starts-stands lim t p (pairsIn w graph n) n (G .many) (b .left) (poolOf ts us) root pairs′ terms′ runs′ x Y c q v (G .pairs);
-                is = all-runs ∙ starts-rounds lim t p (pairsIn w graph n) n (G .many) (b .left) (poolOf ts us) root pairs′ terms′ runs′ x Y c q;
+                holds = starts-holds lim t budget p (pairsIn w graph n) n (G .many) (b .left) (poolOf ts us) root pairs′ terms′ runs′ x Y c q;
+                within = starts-within lim t budget p (pairsIn w graph n) n (G .many) (b .left) (poolOf ts us) root pairs′ terms′ runs′ x Y c q;
+                stands = starts-stands lim t budget p (pairsIn w graph n) n (G .many) (b .left) (poolOf ts us) root pairs′ terms′ runs′ x Y c q v (G .pairs);
+                left = omega (arith, all-left, starts-left lim t budget p (pairsIn w graph n) n (G .many) (b .left) (poolOf ts us) root pairs′ terms′ runs′ x Y c q);
+                is = all-runs ∙ starts-rounds lim t budget p (pairsIn w graph n) n (G .many) (b .left) (poolOf ts us) root pairs′ terms′ runs′ x Y c q;
               }

@@ -132,7 +132,7 @@ fn start(
     runs: &mut [u64],
 ) -> Next
     requires { ⌜ Loaded (now s) im × Valid (tablesOf (now s)) × (q .left < im .classes) × (q .right < im .classes) × (im .classes * im .classes + lim .pairs ≤ length (now graph)) × (2 * lim .terms ≤ length (now graph)) × (lim .pairs ≤ 4096) × (6 * lim .pairs ≤ length (now pairs)) × Rooms (limitsOf lim) (now terms) (now runs) × Ready (limitsOf lim) (tablesOf (now s)) (askedOf q) (q .budget) (im .classes) b (now graph) (now terms) (now runs) ⌝ }
-    ensures { λ x. ⌜ Follows (limitsOf lim) (tablesOf (now (s .entry))) (runOf (limitsOf lim) (tablesOf (now (s .entry))) (askedOf q) (q .budget)) (im .classes) (now (graph .entry)) (now (pairs .exit)) (now (terms .exit)) (now (runs .exit)) x ⌝ }
+    ensures { λ x. ⌜ Follows (limitsOf lim) (tablesOf (now (s .entry))) (runOf (limitsOf lim) (tablesOf (now (s .entry))) (askedOf q) (q .budget)) (q .budget) (im .classes) (now (graph .entry)) (now (pairs .exit)) (now (terms .exit)) (now (runs .exit)) x ⌝ }
 {
     match b {
         Begun::Stopped(k) => {
@@ -199,6 +199,7 @@ pub fn finish(
                 runs,
                 out,
                 c,
+                q.budget,
                 k,
             );
         }

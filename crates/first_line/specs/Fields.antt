@@ -8,7 +8,7 @@ use Rattle.first_line.specs.declared.Report.{Report}
 
 -- the outcome that a report is about
 abbrev pub outcomeOf : Report → Pool → ℕ → Outcome
-outcomeOf f pool root = record { complete = f .complete; nodes = f .pairs; rounds = f .rounds; quality = (f .size, f .mass); pool = pool; root = root }
+outcomeOf f pool root = record { complete = f .complete; nodes = f .pairs; rounds = f .rounds; quality = (f .size, f .mass); pool = pool; root = root; checks = f .checks }
 
 -- pool and root are not reported
 unfoldable pub fieldsOf : Report → List Field

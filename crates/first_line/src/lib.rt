@@ -15,6 +15,7 @@ pub struct Report {
     pub size: u64,
     pub mass: u64,
     pub skipped: u64,
+    pub checks: u64,
 }
 
 // no first line is longer
@@ -41,5 +42,6 @@ pub fn write_first(line: &mut [u8], f: Report) -> usize
     at = labelled(line, at, b" size ", f.size);
     at = labelled(line, at, b" mass ", f.mass);
     at = labelled(line, at, b" skipped ", f.skipped);
+    at = labelled(line, at, b" checks ", f.checks);
     text(line, at, b"\n")
 }

@@ -53,6 +53,15 @@ filter-in f {x} (y ∷ l) i = go (f y) refl (λ j. filter-in f l j)
     go false p ih = let (j, e) = ih (rw (p, filter) at i) in (there j, e)
     go true p ih = elim (in-cons (rw (p, filter) at i)) [ inl e ↦ (rw e here, ap f e ∙ p) | inr j ↦ (there (ih j .0), ih j .1) ]
 
+pub in-filter : {A : Type 0} (f : A → Bool) {x : A} (l : List A) → In x l → f x ≡ true → In x (filter f l)
+unfolding filter
+in-filter f (y ∷ l) here e = rw (e, filter) here
+in-filter f {x} (y ∷ l) (there i) e = go (f y) (in-filter f l i e)
+  where
+    go : (b : Bool) → In x (filter f l) → In x (elim b [ true ↦ y ∷ filter f l | false ↦ filter f l ])
+    go true k = there k
+    go false k = k
+
 -- ---- permutations
 pub data Perm {A : Type 0} : List A → List A → Type 0 where
   nil : Perm [] []

@@ -19,3 +19,4 @@ pub mod BestMembers
 pub mod Results
 pub mod Repeats
 pub mod Doubled
+pub mod Grids

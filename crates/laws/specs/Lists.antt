@@ -1,5 +1,5 @@
 -- Lists: entries, lists without repeats, what is looked up in a list.
-use mathlib.Core.Path.{_≡_, refl, sym, ap, _∙_}
+use mathlib.Core.Path.{_≡_, refl, sym, ap, _∙_, subst}
 use mathlib.Core.Logic.{_⊎_, inl, inr}
 use mathlib.Core.Bool.{Bool, true, false}
 use mathlib.Core.List.{List, [], _∷_, _++_, map}
@@ -117,6 +117,10 @@ distinct-last (y ∷ l) x (more g d) f = more (λ i. new (in-append l i)) (disti
     new : In y l ⊎ In y (x ∷ []) → ⊥
     new (inl i) = g i
     new (inr i) = elim (in-cons i) [ inl e ↦ f (rw e here) | inr j ↦ in-nil j ]
+
+pub distinct-map : {A B : Type 0} (f : A → B) → ((x y : A) → f x ≡ f y → x ≡ y) → (l : List A) → Distinct l → Distinct (map f l)
+distinct-map f one [] none = none
+distinct-map f one (x ∷ l) (more g d) = more (λ i. let (y, j, e) = map-in f l (f x) i in g (subst (λ z. In z l) (one y x e) j)) (distinct-map f one l d)
 
 -- l without its first x
 data Without {A : Type 0} (x : A) (l : List A) : Type 0 where

@@ -1,18 +1,17 @@
 -- "Row and column sums of the plan equal the margins": written out, the cells of a plan have the rows as their left classes and the columns as their right ones.
 use mathlib.Core.Path.{_≡_, refl, sym, ap, ap₂, _∙_}
-use mathlib.Core.List.{List, [], _∷_, _++_, map}
+use mathlib.Core.List.{List, [], _∷_, map}
 use Prim.Native.Nat.{ℕ, zero, suc, _+_, _*_, _<_}
-use native.Mathlib.Nat.{not-suc-le-zero}
 use native.Mathlib.Omega.{arith}
 use lib.Dec.{eqb}
-use lib.ListN.{length, getD, replicate, length-append, length-map}
-use Rattle.spec.specs.Bytes.{pick, sumTo, each, Two}
+use lib.ListN.{length, getD, replicate, length-map}
+use Rattle.spec.specs.Bytes.{pick, sumTo, Two}
 use Rattle.spec.specs.Monomial.{MonomialPair, classes, counts}
 use Rattle.spec.specs.Transport.{rowsOf, colsOf, rowFlow, colFlow}
 use Rattle.spec.specs.Action.{TransportAction, cellPairs}
 use Rattle.spec.specs.Round.{problemOver}
 use Rattle.spec.specs.Meaning.{Plan, occurs, countIn}
-use Rattle.laws.specs.Lists.{get-append, get-map}
+use Rattle.laws.specs.Grids.{cells-length, cells-at}
 use Rattle.laws.specs.BagCount.{spread, occurs-append, occurs-replicate, times-pick}
 
 -- ---- sums over a range
@@ -58,29 +57,6 @@ unfolding sumTo
 sumTo-grid zero n c f e = let z : c ≡ 0 = omega arith in rw z refl
 sumTo-grid (suc m) n c f e = omega (arith, sumTo-split (m * n) n c f (omega arith), sumTo-grid m n (m * n) f refl)
 
--- ---- places of a flat list of cells
-getD-past : {A : Type 0} (l m : List A) (i k : ℕ) (d : A) → i ≡ length l + k → getD (l ++ m) i d ≡ getD m k d
-getD-past [] m i k d e = let z : i ≡ k = omega arith in ap (λ (j : ℕ). getD m j d) z
-getD-past (x ∷ l) m zero k d e = absurd (omega arith)
-getD-past (x ∷ l) m (suc i) k d e = getD-past l m i k d (omega arith)
-
-abbrev grid : List ℕ → List ℕ → List Two
-grid xs ys = each (λ a. map (λ b. (a, b)) ys) xs
-
-grid-length : (xs ys : List ℕ) → length (grid xs ys) ≡ length xs * length ys
-unfolding each
-grid-length [] ys = omega arith
-grid-length (x ∷ xs) ys = omega (arith, length-append (map (λ b. (x, b)) ys) (grid xs ys), length-map {B = Two} ys (λ b. (x, b)), grid-length xs ys)
-
-grid-at : (xs ys : List ℕ) (i j k : ℕ) → i < length xs → j < length ys → k ≡ i * length ys + j → getD (grid xs ys) k (0, 0) ≡ (getD xs i 0, getD ys j 0)
-unfolding each
-grid-at [] ys i j k h l e = absurd (not-suc-le-zero h)
-grid-at (x ∷ xs) ys zero j k h l e =
-    let z : k ≡ j = omega arith in
-    rw z (get-append (0, 0) (map (λ b. (x, b)) ys) (grid xs ys) j (omega (arith, length-map {B = Two} ys (λ b. (x, b)))) ∙ get-map (λ b. (x, b)) ys j 0 (0, 0) l)
-grid-at (x ∷ xs) ys (suc i) j k h l e =
-    getD-past (map (λ b. (x, b)) ys) (grid xs ys) k (i * length ys + j) (0, 0) (omega (arith, length-map {B = Two} ys (λ b. (x, b)))) ∙ grid-at xs ys i j (i * length ys + j) (omega arith) l refl
-
 -- ---- counting what is written out
 abbrev is : ℕ → ℕ → ℕ
 is k c = pick (eqb c k) 1 0
@@ -110,15 +86,10 @@ module _ (m : MonomialPair) (x : List ℕ) where
   cell i j = getD x (i * wide + j) 0
 
   cells : (k : ℕ) (f : Two → ℕ) → occurs k (spread (map f (cellPairs m)) x) ≡ sumTo (length (m .rows)) (λ i. sumTo wide (λ j. cell i j * is k (f (getD (classes (m .rows)) i 0, getD (classes (m .cols)) j 0))))
-  unfolding cellPairs
   cells k f =
-      let R = classes (m .rows) in let C = classes (m .cols) in
-      let lr : length R ≡ length (m .rows) = length-map (m .rows) (λ t. t .0) in
-      let lc : length C ≡ wide = length-map (m .cols) (λ t. t .0) in
-      let long : length (cellPairs m) ≡ length (m .rows) * wide = grid-length R C ∙ ap₂ (λ (a b : ℕ). a * b) lr lc in
       occurs-spread k f (cellPairs m) x
-      ∙ sumTo-grid (length (m .rows)) wide (length (cellPairs m)) (λ i. getD x i 0 * is k (f (getD (cellPairs m) i (0, 0)))) long
-      ∙ sumTo-cong (length (m .rows)) (λ i hi. sumTo-cong wide (λ j hj. ap (λ (z : Two). cell i j * is k (f z)) (grid-at R C i j (i * wide + j) (omega arith) (omega arith) (ap (λ (n : ℕ). i * n + j) (sym lc)))))
+      ∙ sumTo-grid (length (m .rows)) wide (length (cellPairs m)) (λ i. getD x i 0 * is k (f (getD (cellPairs m) i (0, 0)))) (cells-length m)
+      ∙ sumTo-cong (length (m .rows)) (λ i hi. sumTo-cong wide (λ j hj. ap (λ (z : Two). cell i j * is k (f z)) (cells-at m i j (i * wide + j) hi hj refl)))
 
   pub rows-count : ((i : ℕ) → i < length (m .rows) → sumTo wide (λ j. cell i j) ≡ getD (counts (m .rows)) i 0) → (k : ℕ) → occurs k (spread (map (λ p. p .0) (cellPairs m)) x) ≡ countIn k (m .rows)
   rows-count h k =

@@ -36,7 +36,7 @@ perm-total q l m (skip x {l = j} {m = k} d) = ap {B = Two} (λ (z : Two). (1 * q
 perm-total q l m (swap x y k) = two-eq (omega arith) (omega arith)
 perm-total q l m (both {m = k} d e) = perm-total q l k d ∙ perm-total q k m e
 
-repeat-worth : (t : Tables) (q : Two → Two) (a b : Action) → Repeats a b → worth (pairs t) q (ofAction a) ≡ worth (pairs t) q (ofAction b)
+pub repeat-worth : (t : Tables) (q : Two → Two) (a b : Action) → Repeats a b → worth (pairs t) q (ofAction a) ≡ worth (pairs t) q (ofAction b)
 repeat-worth t q a b r = ap {B = Two} (λ (z : Two). (1 + z .0, z .1)) (perm-total q (a .pairs) (b .pairs) (r .pairs))
 
 still : {A : Type 0} {z : A} {m : List A} → In z m ⊎ In z [] → In z m

@@ -45,6 +45,16 @@ module _ (P : Act → Type 0) (t : Tables) (q : Two → Two) (p : Two) (f : (a :
       go (inl j) = let (b, k, e) = map-in ofAction (structural t (p .0) (p .1)) a j in rw (← e) (f b k)
       go (inr j) = let (b, k, n) = each-in (solvedPlans q) (transports t (p .0) (p .1)) a j in by-plan b k (solved q b) refl n
 
+-- and each of these is offered
+module _ (t : Tables) (q : Two → Two) (p : Two) where
+  pub action-offered : (a : Action) → In a (structural t (p .0) (p .1)) → In (ofAction a) (offersOf t q p)
+  unfolding offersOf
+  action-offered a i = in-left (each (solvedPlans q) (transports t (p .0) (p .1))) (in-map ofAction i)
+
+  pub plan-offered : (a : TransportAction) → In a (transports t (p .0) (p .1)) → (x : List ℕ) → solved q a ≡ some x → In (ofPlan a x) (offersOf t q p)
+  unfolding offersOf solvedPlans
+  plan-offered a i x e = in-right (map ofAction (structural t (p .0) (p .1))) (in-each (solvedPlans q) (transports t (p .0) (p .1)) a (ofPlan a x) i (rw e here))
+
 -- ---- what an action joins, the pair joins
 module _ (t : Tables) (p : Two) where
   pub action-joins : (a : Action) → In a (structural t (p .0) (p .1)) → (c : Two) → In c (a .pairs) → In c (joins t p)
@@ -84,7 +94,6 @@ same-long l f g = length-map f l ∙ sym (length-map g l)
 -- ---- the laws of the pairs' actions
 module _ (t : Tables) where
   pub pair-moves : Moves (pairs t) (Move t)
-  unfolding offersOf solvedPlans
   pair-moves = record {
     sound = λ q p. each-offer (λ a. Move t p (a .places) (a .counts)) t q p (λ a i. aligned a i refl refl)
         (λ a i x e. planned a i refl (plan-over a (map (startingQuality t) (cellPairs (a .sides))) (cellQualities q a) x (same-long (cellPairs (a .sides)) (startingQuality t) q) (margins (problemOver a (cellQualities q a)) x e)));
@@ -94,7 +103,7 @@ module _ (t : Tables) where
   }
     where
       best : (q : Two → Two) (p : Two) (cs : List Two) (x : List ℕ) → Move t p cs x → (a : Act) × In a (offersOf t q p) × (qualityOver (a .counts) (map q (a .places)) ⊑ qualityOver x (map q cs))
-      best q p cs x (aligned a i e f) = (ofAction a, in-left (each (solvedPlans q) (transports t (p .0) (p .1))) (in-map ofAction i), rw (e, f) (⊑-refl (qualityOver (ones (a .pairs)) (map q (a .pairs)))))
+      best q p cs x (aligned a i e f) = (ofAction a, action-offered t q p a i, rw (e, f) (⊑-refl (qualityOver (ones (a .pairs)) (map q (a .pairs)))))
       best q p cs x (planned a i e n) = rw e (go (solved q a) refl)
         where
           m : Plan (problemOver a (cellQualities q a)) x
@@ -102,11 +111,7 @@ module _ (t : Tables) where
 
           go : (s : Option (List ℕ)) → solved q a ≡ s → (b : Act) × In b (offersOf t q p) × (qualityOver (b .counts) (map q (b .places)) ⊑ qualityOver x (cellQualities q a))
           go none k = absurd (refused-where (problemOver a (cellQualities q a)) k x m)
-          go (some y) k = (
-            ofPlan a y,
-            in-right (map ofAction (structural t (p .0) (p .1))) (in-each (solvedPlans q) (transports t (p .0) (p .1)) a (ofPlan a y) i (rw k here)),
-            suc-⊑ _ _ _ _ (least (problemOver a (cellQualities q a)) y k x m),
-          )
+          go (some y) k = (ofPlan a y, plan-offered t q p a i y k, suc-⊑ _ _ _ _ (least (problemOver a (cellQualities q a)) y k x m))
 
   pub pair-backs : Backs (pairs t)
   pair-backs = backs (pairs t) (λ x l. refl) (Move t) pair-moves

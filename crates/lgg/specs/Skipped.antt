@@ -58,8 +58,8 @@ module _ (lim : Limits) (t : Tables) (p : Two) where
   pub same-skipped : (b c : ℕ) (o : Outcome) → b ≤ c → runOf lim t p b ≡ ok o → o .complete ≡ true → skippedIn lim t p c ≡ skippedIn lim t p b
   same-skipped b c o h e full = go (run-ends (pairs t) (making lim t) p b o e)
     where
-      partial : (root : Interned) (n : ℕ) → o ≡ started (pairs t) p root n → skippedIn lim t p c ≡ skippedIn lim t p b
-      partial root n s = let (a, r, f, q) = started-says (pairs t) p root n o s in absurd (clash (sym full ∙ f))
+      partial : (root : Interned) (n : ℕ) → o ≡ started (pairs t) b p root n → skippedIn lim t p c ≡ skippedIn lim t p b
+      partial root n s = let (a, r, f, q) = started-says (pairs t) b p root n o s in absurd (clash (sym full ∙ f))
 
       go : Ends (pairs t) (making lim t) p b o → skippedIn lim t p c ≡ skippedIn lim t p b
       go (inBuilding root k s) = partial root 1 s

@@ -10,7 +10,7 @@ use native.Mathlib.Decide.{decLt}
 use native.Mathlib.Omega.{arith}
 use lib.Dec.{ltb, leb, eqb}
 use borrow.Author.Tests.{leb-true}
-use lib.ListN.{length, getD, drop, length-take, length-append, List·getD-eq-default}
+use lib.ListN.{length, getD, drop, length-take, List·getD-eq-default}
 use Rattle.spec.specs.Bytes.{pick, both, either, all, each, filter, upFrom, Two}
 use Rattle.spec.specs.Image.{Tables, Member, SPair, Lit, NO-IDENTITY, isAC, kindOf, identityOf, membersOf, childrenOf, theMember}
 use Rattle.spec.specs.Monomial.{Monomial, MonomialPair, insertAdd, addAll, monomial, classes, counts, itself, monomialsOf, padPair, bothItself, representationPairs, COUNT, narrow, narrowPairs}
@@ -27,6 +27,7 @@ use Rattle.flow.specs.Queue.{in-upFrom}
 use Rattle.flow.specs.Theorems.{margins}
 use Rattle.laws.specs.Lists.{in-nil, in-cons, in-append, map-in, length-map}
 use Rattle.laws.specs.Bag.{each-in, filter-in}
+use Rattle.laws.specs.Grids.{cells-length}
 use Rattle.laws.specs.BestMembers.{member-number}
 use Rattle.steps.specs.Turn as turn
 use Rattle.steps.specs.Turn.{turn-chosen}
@@ -182,14 +183,6 @@ module _ (t : Tables) (v : Valid t) where
           rw (← e) (record { operation = omega arith; fewRows = x; fewColumns = y; narrowRows = c; narrowColumns = d })
 
 -- ---- what a choice names
-cells-length : (m : MonomialPair) → length (cellPairs m) ≡ length (m .rows) * length (m .cols)
-unfolding cellPairs each
-cells-length m = go (classes (m .rows)) ∙ ap₂ (λ (a b : ℕ). a * b) (length-map (λ (c : Two). c .0) (m .rows)) (length-map (λ (c : Two). c .0) (m .cols))
-  where
-    go : (xs : List ℕ) → length (each (λ a. map {B = Two} (λ b. (a, b)) (classes (m .cols))) xs) ≡ length xs * length (classes (m .cols))
-    go [] = omega arith
-    go (x ∷ xs) = omega (arith, length-append (map {B = Two} (λ b. (x, b)) (classes (m .cols))) (each (λ a. map {B = Two} (λ b. (a, b)) (classes (m .cols))) xs), length-map {B = Two} (λ b. (x, b)) (classes (m .cols)), go xs)
-
 -- a place of a grid by its row and its column
 in-grid : (m n k : ℕ) → k < m * n → (i : ℕ) × (j : ℕ) × (i < m) × (j < n) × (k ≡ i * n + j)
 in-grid zero n k h = absurd (omega arith)

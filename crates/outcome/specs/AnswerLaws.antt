@@ -62,9 +62,9 @@ module _ (k : ℕ) (u : run.Outcome) (out out′ : List ℕ) where
       go false q e o = let s = listed-by k u (length out) false q in record { answer = sym s; output = rw s o; fits = λ m z. absurd (refused-listing z) }
 
 -- what `list` answers and leaves for the report f of an outcome o
-module _ (o : Outcome) (f : Report) (terms runs : List ℕ) (complete : f .complete ≡ o .complete) (pairs : f .pairs ≡ o .pairs) (rounds : f .rounds ≡ o .rounds) (size : f .size ≡ o .size) (mass : f .mass ≡ o .mass) where
+module _ (o : Outcome) (f : Report) (terms runs : List ℕ) (complete : f .complete ≡ o .complete) (pairs : f .pairs ≡ o .pairs) (rounds : f .rounds ≡ o .rounds) (size : f .size ≡ o .size) (mass : f .mass ≡ o .mass) (checks : f .checks ≡ o .checks) where
   reported : outcomeOf f (poolOf terms runs) (o .root) ≡ outcomeIn o terms runs
-  reported = λ i. record { complete = complete i; nodes = pairs i; rounds = rounds i; quality = (size i, mass i); pool = outcomeIn o terms runs .pool; root = o .root }
+  reported = λ i. record { complete = complete i; nodes = pairs i; rounds = rounds i; quality = (size i, mass i); pool = outcomeIn o terms runs .pool; root = o .root; checks = checks i }
 
   module _ (marks out marks′ out′ : List ℕ) (w : Written) (X : L.Lists terms runs (o .root) f marks out marks′ out′ w) (k : ℕ) (skipped : f .skipped ≡ k) where
     pub listed-bytes : (n : ℕ) → w ≡ W.Bytes n → Answers k (ok (outcomeIn o terms runs)) out out′ (A.Listing n)

@@ -18,7 +18,7 @@ use Rattle.outcome.specs.declared.Answer.the-variants as A
 
 -- the outcome of a run whose pool the buffers hold
 abbrev pub outcomeIn : Outcome → List ℕ → List ℕ → run.Outcome
-outcomeIn o terms runs = record { complete = o .complete; nodes = o .pairs; rounds = o .rounds; quality = (o .size, o .mass); pool = poolOf terms runs; root = o .root }
+outcomeIn o terms runs = record { complete = o .complete; nodes = o .pairs; rounds = o .rounds; quality = (o .size, o .mass); pool = poolOf terms runs; root = o .root; checks = o .checks }
 
 -- what a run came to
 abbrev pub ranIn : Ran → List ℕ → List ℕ → Res run.Outcome

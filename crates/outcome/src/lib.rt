@@ -20,6 +20,7 @@ pub struct Outcome {
     pub size: u32,
     pub mass: u32,
     pub root: usize,
+    pub checks: u32,
 }
 
 // an outcome; or a refusal
@@ -53,6 +54,7 @@ fn list_outcome(
         size: long_u32(o.size),
         mass: long_u32(o.mass),
         skipped: skipped,
+        checks: long_u32(o.checks),
     };
     let root = o.root;
     let w = listing::list(terms, runs, marks, out, root, f);

@@ -152,8 +152,12 @@ listing-anywhere k o u v w e S =
     let i = visit-same (o .pool) (u .pool) v w (suc (o .root)) (suc (u .root)) (o .root) (u .root) [] [] (omega arith) (omega arith) S nothing in
     ap₂ (λ (c d : List ℕ). c ++ d) e (lines-same (o .pool) (u .pool) v w (subterms (o .pool) (o .root)) (subterms (u .pool) (u .root)) i (subterms (o .pool) (o .root)) (subterms (u .pool) (u .root)) i)
 
+-- the outcome over another pool
+abbrev pub overPool : Outcome → Pool → Outcome
+overPool o q = record { complete = o .complete; nodes = o .nodes; rounds = o .rounds; quality = o .quality; pool = q; root = o .root; checks = o .checks }
+
 -- A larger pool gives the same listing.
 pub listing-larger : (k : ℕ) (o : Outcome) (q : Pool) → PoolValid (o .pool) → PoolValid q → Extends (o .pool) q → o .root < length (o .pool)
-    → listingOf k o ≡ listingOf k (record { complete = o .complete; nodes = o .nodes; rounds = o .rounds; quality = o .quality; pool = q; root = o .root })
+    → listingOf k o ≡ listingOf k (overPool o q)
 unfolding firstLine reported
-listing-larger k o q v w g h = listing-anywhere k o (record { complete = o .complete; nodes = o .nodes; rounds = o .rounds; quality = o .quality; pool = q; root = o .root }) v w refl (same-extends g (o .root) h)
+listing-larger k o q v w g h = listing-anywhere k o (overPool o q) v w refl (same-extends g (o .root) h)

@@ -1,7 +1,7 @@
 -- What the arrays of a built graph hold, and the state between two rounds that they stand for.
 use mathlib.Core.Path.{_≡_, sym, ap, ap₂, _∙_}
 use mathlib.Core.List.{List}
-use Prim.Native.Nat.{ℕ, _+_, _*_, _≤_, _<_}
+use Prim.Native.Nat.{ℕ, _+_, _*_, _-_, _≤_, _<_}
 use native.Mathlib.Omega.{arith}
 use lib.ListN.{length, getD}
 use Rattle.spec.specs.Bytes.{Limits, place, Two, sameTwo}
@@ -25,9 +25,9 @@ use Rattle.arrays.specs.ArrayLaws.{quality-at, term-at, unkeyed-length, unkeyed
 use Rattle.terms.specs.Buffers.{countIn, poolOf}
 use Rattle.terms.specs.PoolLaws.{pool-length}
 
--- the state between two rounds that the arrays stand for
-abbrev pub stateIn : List ℕ → List ℕ → List ℕ → ℕ → ℕ → ℕ → State
-stateIn pairs terms runs n rounds budget = record { pool = poolOf terms runs; qualities = qualitiesIn pairs 0 n; terms = termsIn pairs 0 n; rounds = rounds; budget = budget }
+-- the state between two rounds that the arrays stand for, with so many checks left of the run's budget
+abbrev pub stateIn : List ℕ → List ℕ → List ℕ → ℕ → ℕ → ℕ → ℕ → State
+stateIn pairs terms runs n rounds left budget = record { pool = poolOf terms runs; qualities = qualitiesIn pairs 0 n; terms = termsIn pairs 0 n; rounds = rounds; budget = left; spent = budget - left }
 
 -- every pair is one of classes of the image
 abbrev pub InRange : Tables → List Two → Type 0

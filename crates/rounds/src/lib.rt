@@ -55,10 +55,10 @@ fn relax_all(
     runs: &mut [u64],
     b: Budget,
 ) -> Round
-    requires { ⌜ Loaded (now s) im × Valid (tablesOf (now s)) × Graphs (limitsOf lim) (tablesOf (now s)) (im .classes) (pairsIn (im .classes) (now graph) n) n (now graph) × (6 * n ≤ length (now pairs)) × Scratch (limitsOf lim) (now work) (now flow) × Holds (now terms) (now runs) × Rooms (limitsOf lim) (now terms) (now runs) × (countIn (now terms) ≤ lim .terms) × Standing Fits (pairsIn (im .classes) (now graph) n) (stateIn (now pairs) (now terms) (now runs) n 0 0)
+    requires { ⌜ Loaded (now s) im × Valid (tablesOf (now s)) × Graphs (limitsOf lim) (tablesOf (now s)) (im .classes) (pairsIn (im .classes) (now graph) n) n (now graph) × (6 * n ≤ length (now pairs)) × Scratch (limitsOf lim) (now work) (now flow) × Holds (now terms) (now runs) × Rooms (limitsOf lim) (now terms) (now runs) × (countIn (now terms) ≤ lim .terms) × Standing Fits (pairsIn (im .classes) (now graph) n) (stateIn (now pairs) (now terms) (now runs) n 0 0 0)
         × Quiet (tablesOf (now s)) (pairsIn (im .classes) (now graph) n) (qualitiesIn (now pairs) 0 n) (now llive) (now rlive)
         × Idles (pairsIn (im .classes) (now graph) n) (now pairs) (now llive) (now rlive) 0 ⌝ }
-    ensures { λ x. ⌜ Relaxes (limitsOf lim) (tablesOf (now (s .entry))) (pairsIn (im .classes) (now (graph .entry)) n) (stateIn (now (pairs .entry)) (now (terms .entry)) (now (runs .entry)) n 0 0) (roundAt (limitsOf lim) (tablesOf (now (s .entry))) (pairsIn (im .classes) (now (graph .entry)) n) (stateIn (now (pairs .entry)) (now (terms .entry)) (now (runs .entry)) n 0 0) (b .left)) (now (pairs .exit)) (now (terms .exit)) (now (runs .exit)) x ⌝ }
+    ensures { λ x. ⌜ Relaxes (limitsOf lim) (tablesOf (now (s .entry))) (pairsIn (im .classes) (now (graph .entry)) n) (stateIn (now (pairs .entry)) (now (terms .entry)) (now (runs .entry)) n 0 0 0) (roundAt (limitsOf lim) (tablesOf (now (s .entry))) (pairsIn (im .classes) (now (graph .entry)) n) (stateIn (now (pairs .entry)) (now (terms .entry)) (now (runs .entry)) n 0 0 0) (b .left)) (now (pairs .exit)) (now (terms .exit)) (now (runs .exit)) x ⌝ }
 {
     let w = im.classes;
     let mut changed = false;
@@ -92,7 +92,7 @@ fn relax_all(
 }
 
 // ---- the rounds
-// "The rounds reported are the finished ones that changed a quality."
+// "The rounds reported are the finished ones that changed a quality." `budget` is the run's, of which b is left.
 fn relax(
     lim: Limits,
     s: &[u8],
@@ -105,9 +105,10 @@ fn relax(
     terms: &mut [u32],
     runs: &mut [u64],
     b: Budget,
+    budget: u32,
 ) -> Ran
-    requires { ⌜ Loaded (now s) im × Valid (tablesOf (now s)) × Graphs (limitsOf lim) (tablesOf (now s)) (im .classes) (pairsIn (im .classes) (now graph) n) n (now graph) × (6 * lim .pairs ≤ length (now pairs)) × (2 * lim .terms ≤ length (now graph)) × Scratch (limitsOf lim) (now work) (now flow) × Holds (now terms) (now runs) × Rooms (limitsOf lim) (now terms) (now runs) × (countIn (now terms) ≤ lim .terms) × Standing Fits (pairsIn (im .classes) (now graph) n) (stateIn (now pairs) (now terms) (now runs) n 0 (b .left)) ⌝ }
-    ensures { λ x. ⌜ RanTo (roundsOf (limitsOf lim) (tablesOf (now (s .entry))) (pairsIn (im .classes) (now (graph .entry)) n) (stateIn (now (pairs .entry)) (now (terms .entry)) (now (runs .entry)) n 0 (b .left))) (now (graph .entry)) (now (terms .exit)) (now (runs .exit)) x ⌝ }
+    requires { ⌜ Loaded (now s) im × Valid (tablesOf (now s)) × Graphs (limitsOf lim) (tablesOf (now s)) (im .classes) (pairsIn (im .classes) (now graph) n) n (now graph) × (6 * lim .pairs ≤ length (now pairs)) × (2 * lim .terms ≤ length (now graph)) × Scratch (limitsOf lim) (now work) (now flow) × Holds (now terms) (now runs) × Rooms (limitsOf lim) (now terms) (now runs) × (countIn (now terms) ≤ lim .terms) × Standing Fits (pairsIn (im .classes) (now graph) n) (stateIn (now pairs) (now terms) (now runs) n 0 (b .left) budget) × (b .left ≤ budget) ⌝ }
+    ensures { λ x. ⌜ RanTo (roundsOf (limitsOf lim) (tablesOf (now (s .entry))) (pairsIn (im .classes) (now (graph .entry)) n) (stateIn (now (pairs .entry)) (now (terms .entry)) (now (runs .entry)) n 0 (b .left) budget)) (now (graph .entry)) (now (terms .exit)) (now (runs .exit)) x ⌝ }
 {
     let mut llive = [1u8; 256];
     let mut rlive = [1u8; 256];
@@ -117,7 +118,7 @@ fn relax(
         let sp = bud.spend();
         let rest = sp.budget;
         if !sp.passed {
-            return Ran::Done(round_outcome::reported(pairs, false, n, rounds));
+            return Ran::Done(round_outcome::reported(pairs, false, n, rounds, budget));
         }
         let x = relax_all(
             lim,
@@ -134,7 +135,7 @@ fn relax(
             runs,
             rest,
         );
-        let y = round_outcome::after_round(x, pairs, n, rounds);
+        let y = round_outcome::after_round(x, pairs, n, rounds, budget);
         match y {
             After::Ended(z) => {
                 return z;
@@ -148,7 +149,7 @@ fn relax(
     }
 }
 
-// The rounds over a built graph of n pairs, each with its starting term; then the answer, which lists the number of monomial pairs passed over, and every work buffer cleared.
+// The rounds over a built graph of n pairs, each with its starting term, with b left of the run's budget; then the answer, which lists the number of monomial pairs passed over, and every work buffer cleared.
 pub fn run_rounds(
     lim: Limits,
     s: &[u8],
@@ -162,12 +163,26 @@ pub fn run_rounds(
     runs: &mut [u64],
     out: &mut [u8],
     b: Budget,
+    budget: u32,
     skipped: u64,
 ) -> Answer
-    requires { ⌜ Loaded (now s) im × Valid (tablesOf (now s)) × Graphs (limitsOf lim) (tablesOf (now s)) (im .classes) (pairsIn (im .classes) (now graph) n) n (now graph) × (6 * lim .pairs ≤ length (now pairs)) × (2 * lim .terms ≤ length (now graph)) × Scratch (limitsOf lim) (now work) (now flow) × Holds (now terms) (now runs) × Rooms (limitsOf lim) (now terms) (now runs) × (countIn (now terms) ≤ lim .terms) × Standing Fits (pairsIn (im .classes) (now graph) n) (stateIn (now pairs) (now terms) (now runs) n 0 (b .left)) ⌝ }
-    ensures { λ r. ⌜ Answers skipped (roundsOf (limitsOf lim) (tablesOf (now (s .entry))) (pairsIn (im .classes) (now (graph .entry)) n) (stateIn (now (pairs .entry)) (now (terms .entry)) (now (runs .entry)) n 0 (b .left))) (now (out .entry)) (now (out .exit)) r
+    requires { ⌜ Loaded (now s) im × Valid (tablesOf (now s)) × Graphs (limitsOf lim) (tablesOf (now s)) (im .classes) (pairsIn (im .classes) (now graph) n) n (now graph) × (6 * lim .pairs ≤ length (now pairs)) × (2 * lim .terms ≤ length (now graph)) × Scratch (limitsOf lim) (now work) (now flow) × Holds (now terms) (now runs) × Rooms (limitsOf lim) (now terms) (now runs) × (countIn (now terms) ≤ lim .terms) × Standing Fits (pairsIn (im .classes) (now graph) n) (stateIn (now pairs) (now terms) (now runs) n 0 (b .left) budget) × (b .left ≤ budget) ⌝ }
+    ensures { λ r. ⌜ Answers skipped (roundsOf (limitsOf lim) (tablesOf (now (s .entry))) (pairsIn (im .classes) (now (graph .entry)) n) (stateIn (now (pairs .entry)) (now (terms .entry)) (now (runs .entry)) n 0 (b .left) budget)) (now (out .entry)) (now (out .exit)) r
         × Cleared (now (graph .entry)) (now (pairs .entry)) (now (work .entry)) (now (flow .entry)) (now (terms .entry)) (now (runs .entry)) (now (graph .exit)) (now (pairs .exit)) (now (work .exit)) (now (flow .exit)) (now (terms .exit)) (now (runs .exit)) ⌝ }
 {
-    let x = relax(lim, s, im, n, graph, pairs, work, flow, terms, runs, b);
+    let x = relax(
+        lim,
+        s,
+        im,
+        n,
+        graph,
+        pairs,
+        work,
+        flow,
+        terms,
+        runs,
+        b,
+        budget,
+    );
     outcome::conclude(x, skipped, graph, pairs, work, flow, terms, runs, out)
 }

@@ -56,15 +56,15 @@ above = "0 lit 0 0\n1 op 2 0:1\n2 lit 0 1\n3 op 2 2:1\n4 variants 1:1 3:1\n"
 abbrev top : String
 top = "0 lit 0 0\n1 op 2 0:1\n2 op 2 1:1\n3 lit 0 1\n4 op 2 3:1\n5 op 2 4:1\n6 variants 2:1 5:1\n"
 
-page-255-pairs : mergeFor Page true image 0 1 256 65536 ≡ ok (text "partial pairs 255 rounds 0 size 2 mass 2 skipped 0\n" ++ text below)
+page-255-pairs : mergeFor Page true image 0 1 256 65536 ≡ ok (text "partial pairs 255 rounds 0 size 2 mass 2 skipped 0 checks 256\n" ++ text below)
 unfolding image mergeFor text
 page-255-pairs = refl
 
-page-256-pairs : mergeFor Page true image 18 19 256 65536 ≡ ok (text "partial pairs 256 rounds 0 size 4 mass 4 skipped 0\n" ++ text above)
+page-256-pairs : mergeFor Page true image 18 19 256 65536 ≡ ok (text "partial pairs 256 rounds 0 size 4 mass 4 skipped 0 checks 256\n" ++ text above)
 unfolding image mergeFor text
 page-256-pairs = refl
 
-desk-256-pairs : mergeFor Desk true image 18 19 256 65536 ≡ ok (text "partial pairs 256 rounds 0 size 4 mass 4 skipped 0\n" ++ text above)
+desk-256-pairs : mergeFor Desk true image 18 19 256 65536 ≡ ok (text "partial pairs 256 rounds 0 size 4 mass 4 skipped 0 checks 256\n" ++ text above)
 unfolding image mergeFor text
 desk-256-pairs = refl
 
@@ -73,12 +73,12 @@ page-257-pairs : mergeFor Page true image 20 21 3 0 ≡ refused 12
 unfolding image mergeFor
 page-257-pairs = refl
 
-desk-257-pairs : mergeFor Desk true image 20 21 257 65536 ≡ ok (text "partial pairs 257 rounds 0 size 6 mass 6 skipped 0\n" ++ text top)
+desk-257-pairs : mergeFor Desk true image 20 21 257 65536 ≡ ok (text "partial pairs 257 rounds 0 size 6 mass 6 skipped 0 checks 257\n" ++ text top)
 unfolding image mergeFor text
 desk-257-pairs = refl
 
 -- "12 and 13 as met": one check less, and it is not met
-page-cut-before-12 : mergeFor Page true image 20 21 2 65536 ≡ ok (text "partial pairs 1 rounds 0 size 6 mass 6 skipped 0\n" ++ text top)
+page-cut-before-12 : mergeFor Page true image 20 21 2 65536 ≡ ok (text "partial pairs 1 rounds 0 size 6 mass 6 skipped 0 checks 2\n" ++ text top)
 unfolding image mergeFor text
 page-cut-before-12 = refl
 

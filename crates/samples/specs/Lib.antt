@@ -5,3 +5,4 @@ pub mod Bounds
 pub mod Refusals
 pub mod Limits
 pub mod Callers
+pub mod Checks

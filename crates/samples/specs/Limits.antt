@@ -17,15 +17,15 @@ unfoldable imageE : List ℕ
 unfolding hex
 imageE = hex "000000790100020004000400040900ffff0200ffff0000000100000000000100010001000100000001000200010002000000030003000100030000000300000000000500000000000000000007000000000001000000000000000200010000000000020002000000000001000100000001000000000001000000000001"
 
--- ---- 14: image E's listing has 104 bytes
+-- ---- 14: image E's listing has 114 bytes
 abbrev listingE : List ℕ
-listingE = text "complete pairs 3 rounds 1 size 4 mass 2 skipped 0\n0 lit 0 5\n1 lit 0 7\n2 variants 1:1 0:1\n3 op 1 0:1 2:1\n"
+listingE = text "complete pairs 3 rounds 1 size 4 mass 2 skipped 0 checks 14\n0 lit 0 5\n1 lit 0 7\n2 variants 1:1 0:1\n3 op 1 0:1 2:1\n"
 
-exactly-fits : mergeOf true imageE 2 3 14 104 ≡ ok listingE
+exactly-fits : mergeOf true imageE 2 3 14 114 ≡ ok listingE
 unfolding imageE mergeOf text
 exactly-fits = refl
 
-refused-14 : mergeOf true imageE 2 3 14 103 ≡ refused 14
+refused-14 : mergeOf true imageE 2 3 14 113 ≡ refused 14
 unfolding imageE mergeOf
 refused-14 = refl
 
@@ -91,33 +91,33 @@ of-the-document : (fit : Bool) (image : List ℕ) (left right budget room : ℕ)
 unfolding mergeOf
 of-the-document fit image left right budget room = refl
 
-enough : mergeUnder (limits 3 7 9) true imageE 2 3 14 104 ≡ ok listingE
+enough : mergeUnder (limits 3 7 9) true imageE 2 3 14 114 ≡ ok listingE
 unfolding imageE mergeUnder text
 enough = refl
 
-a-pair-beyond : mergeUnder (limits 2 7 9) true imageE 2 3 14 104 ≡ refused 12
+a-pair-beyond : mergeUnder (limits 2 7 9) true imageE 2 3 14 114 ≡ refused 12
 unfolding imageE mergeUnder
 a-pair-beyond = refl
 
-a-term-beyond : mergeUnder (limits 3 6 9) true imageE 2 3 14 104 ≡ refused 13
+a-term-beyond : mergeUnder (limits 3 6 9) true imageE 2 3 14 114 ≡ refused 13
 unfolding imageE mergeUnder
 a-term-beyond = refl
 
-a-run-beyond : mergeUnder (limits 3 7 8) true imageE 2 3 14 104 ≡ refused 13
+a-run-beyond : mergeUnder (limits 3 7 8) true imageE 2 3 14 114 ≡ refused 13
 unfolding imageE mergeUnder
 a-run-beyond = refl
 
 -- the queried pair itself is entered; its starting term before it
-no-pair : mergeUnder (limits 0 5 5) true imageE 2 3 0 104 ≡ refused 12
+no-pair : mergeUnder (limits 0 5 5) true imageE 2 3 0 114 ≡ refused 12
 unfolding imageE mergeUnder
 no-pair = refl
 
-one-pair : mergeUnder (limits 1 5 5) true imageE 2 3 0 200 ≡ ok (text "partial pairs 1 rounds 0 size 6 mass 6 skipped 0\n0 lit 0 5\n1 lit 0 7\n2 op 1 0:1 1:1\n3 op 1 0:2\n4 variants 2:1 3:1\n")
+one-pair : mergeUnder (limits 1 5 5) true imageE 2 3 0 200 ≡ ok (text "partial pairs 1 rounds 0 size 6 mass 6 skipped 0 checks 0\n0 lit 0 5\n1 lit 0 7\n2 op 1 0:1 1:1\n3 op 1 0:2\n4 variants 2:1 3:1\n")
 unfolding imageE mergeUnder text
 one-pair = refl
 
 -- five terms are too few for the third starting term, and a run cut short before it does not enter it
-cut-before-a-term : mergeUnder (limits 3 5 5) true imageE 2 3 5 200 ≡ ok (text "partial pairs 3 rounds 0 size 6 mass 6 skipped 0\n0 lit 0 5\n1 lit 0 7\n2 op 1 0:1 1:1\n3 op 1 0:2\n4 variants 2:1 3:1\n")
+cut-before-a-term : mergeUnder (limits 3 5 5) true imageE 2 3 5 200 ≡ ok (text "partial pairs 3 rounds 0 size 6 mass 6 skipped 0 checks 5\n0 lit 0 5\n1 lit 0 7\n2 op 1 0:1 1:1\n3 op 1 0:2\n4 variants 2:1 3:1\n")
 unfolding imageE mergeUnder text
 cut-before-a-term = refl
 
@@ -126,11 +126,11 @@ unfolding imageE mergeUnder
 a-term-after-its-check = refl
 
 -- a class not in the image is met before any limit
-class-before-limits : mergeUnder (limits 0 0 0) true imageE 4 3 14 104 ≡ refused 11
+class-before-limits : mergeUnder (limits 0 0 0) true imageE 4 3 14 114 ≡ refused 11
 unfolding imageE mergeUnder
 class-before-limits = refl
 
-root-before-pairs : mergeUnder (limits 0 4 5) true imageE 2 3 0 104 ≡ refused 13
+root-before-pairs : mergeUnder (limits 0 4 5) true imageE 2 3 0 114 ≡ refused 13
 unfolding imageE mergeUnder
 root-before-pairs = refl
 

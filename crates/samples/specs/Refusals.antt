@@ -16,11 +16,11 @@ unfoldable accepted : List Asked
 unfolding hex put sound
 accepted =
     -- sound: the image that the next ones damage
-    asked (sound) "complete pairs 8 rounds 1 size 4 mass 2 skipped 0\n0 lit 0 0\n1 lit 0 7\n2 variants 1:1 0:1\n3 op 1 0:1 2:1\n"
+    asked (sound) "complete pairs 8 rounds 1 size 4 mass 2 skipped 0 checks 34\n0 lit 0 0\n1 lit 0 7\n2 variants 1:1 0:1\n3 op 1 0:1 2:1\n"
     -- sound: the other member of class 3, size 8
-    ∷ asked (put ((64, 5) ∷ (68, 8) ∷ []) sound) "complete pairs 8 rounds 1 size 4 mass 2 skipped 0\n0 lit 0 0\n1 lit 0 7\n2 variants 1:1 0:1\n3 op 1 0:1 2:1\n"
+    ∷ asked (put ((64, 5) ∷ (68, 8) ∷ []) sound) "complete pairs 8 rounds 1 size 4 mass 2 skipped 0 checks 34\n0 lit 0 0\n1 lit 0 7\n2 variants 1:1 0:1\n3 op 1 0:1 2:1\n"
     -- sound: literal 7 twice in class 1
-    ∷ asked (put ((104, 7) ∷ []) sound) "complete pairs 8 rounds 1 size 4 mass 2 skipped 0\n0 lit 0 0\n1 lit 0 7\n2 variants 1:1 0:1\n3 op 1 0:1 2:1\n"
+    ∷ asked (put ((104, 7) ∷ []) sound) "complete pairs 8 rounds 1 size 4 mass 2 skipped 0 checks 34\n0 lit 0 0\n1 lit 0 7\n2 variants 1:1 0:1\n3 op 1 0:1 2:1\n"
     ∷ []
 
 accepted-holds : answers accepted ≡ expected accepted

@@ -1,4 +1,4 @@
--- Small queries for each feature, and budgets that cut in each phase: answers of the listed Rust (oracle/sample/small.txt).
+-- Small queries for each feature, and budgets that cut in each phase: answers of the listed Rust with its own count of checks (oracle/sample/small.txt).
 use mathlib.Core.Path.{_≡_, refl}
 use mathlib.Core.List.{List, [], _∷_}
 use Prim.Native.Nat.{ℕ}
@@ -14,17 +14,17 @@ image-e-image = "000000790100020004000400040900ffff0200ffff000000010000000000010
 unfoldable image-e : List Asked
 unfolding hex
 image-e =
-    asked (frame image-e-image 2 3 14) "complete pairs 3 rounds 1 size 4 mass 2 skipped 0\n0 lit 0 5\n1 lit 0 7\n2 variants 1:1 0:1\n3 op 1 0:1 2:1\n"
-    ∷ asked (frame image-e-image 2 3 13) "partial pairs 3 rounds 1 size 4 mass 2 skipped 0\n0 lit 0 5\n1 lit 0 7\n2 variants 1:1 0:1\n3 op 1 0:1 2:1\n"
-    ∷ asked (frame image-e-image 2 3 10) "partial pairs 3 rounds 1 size 4 mass 2 skipped 0\n0 lit 0 5\n1 lit 0 7\n2 variants 1:1 0:1\n3 op 1 0:1 2:1\n"
-    ∷ asked (frame image-e-image 2 3 9) "partial pairs 3 rounds 0 size 6 mass 6 skipped 0\n0 lit 0 5\n1 lit 0 7\n2 op 1 0:1 1:1\n3 op 1 0:2\n4 variants 2:1 3:1\n"
-    ∷ asked (frame image-e-image 2 3 3) "partial pairs 3 rounds 0 size 6 mass 6 skipped 0\n0 lit 0 5\n1 lit 0 7\n2 op 1 0:1 1:1\n3 op 1 0:2\n4 variants 2:1 3:1\n"
-    ∷ asked (frame image-e-image 2 3 2) "partial pairs 1 rounds 0 size 6 mass 6 skipped 0\n0 lit 0 5\n1 lit 0 7\n2 op 1 0:1 1:1\n3 op 1 0:2\n4 variants 2:1 3:1\n"
-    ∷ asked (frame image-e-image 2 3 0) "partial pairs 1 rounds 0 size 6 mass 6 skipped 0\n0 lit 0 5\n1 lit 0 7\n2 op 1 0:1 1:1\n3 op 1 0:2\n4 variants 2:1 3:1\n"
-    ∷ asked (frame image-e-image 2 2 4) "complete pairs 1 rounds 0 size 3 mass 0 skipped 0\n0 lit 0 5\n1 lit 0 7\n2 op 1 0:1 1:1\n"
-    ∷ asked (frame image-e-image 2 2 3) "partial pairs 1 rounds 0 size 3 mass 0 skipped 0\n0 lit 0 5\n1 lit 0 7\n2 op 1 0:1 1:1\n"
-    ∷ asked (frame image-e-image 2 2 1) "partial pairs 1 rounds 0 size 3 mass 0 skipped 0\n0 lit 0 5\n1 lit 0 7\n2 op 1 0:1 1:1\n"
-    ∷ asked (frame image-e-image 0 1 4294967295) "complete pairs 1 rounds 0 size 2 mass 2 skipped 0\n0 lit 0 5\n1 lit 0 7\n2 variants 0:1 1:1\n"
+    asked (frame image-e-image 2 3 14) "complete pairs 3 rounds 1 size 4 mass 2 skipped 0 checks 14\n0 lit 0 5\n1 lit 0 7\n2 variants 1:1 0:1\n3 op 1 0:1 2:1\n"
+    ∷ asked (frame image-e-image 2 3 13) "partial pairs 3 rounds 1 size 4 mass 2 skipped 0 checks 13\n0 lit 0 5\n1 lit 0 7\n2 variants 1:1 0:1\n3 op 1 0:1 2:1\n"
+    ∷ asked (frame image-e-image 2 3 10) "partial pairs 3 rounds 1 size 4 mass 2 skipped 0 checks 10\n0 lit 0 5\n1 lit 0 7\n2 variants 1:1 0:1\n3 op 1 0:1 2:1\n"
+    ∷ asked (frame image-e-image 2 3 9) "partial pairs 3 rounds 0 size 6 mass 6 skipped 0 checks 9\n0 lit 0 5\n1 lit 0 7\n2 op 1 0:1 1:1\n3 op 1 0:2\n4 variants 2:1 3:1\n"
+    ∷ asked (frame image-e-image 2 3 3) "partial pairs 3 rounds 0 size 6 mass 6 skipped 0 checks 3\n0 lit 0 5\n1 lit 0 7\n2 op 1 0:1 1:1\n3 op 1 0:2\n4 variants 2:1 3:1\n"
+    ∷ asked (frame image-e-image 2 3 2) "partial pairs 1 rounds 0 size 6 mass 6 skipped 0 checks 2\n0 lit 0 5\n1 lit 0 7\n2 op 1 0:1 1:1\n3 op 1 0:2\n4 variants 2:1 3:1\n"
+    ∷ asked (frame image-e-image 2 3 0) "partial pairs 1 rounds 0 size 6 mass 6 skipped 0 checks 0\n0 lit 0 5\n1 lit 0 7\n2 op 1 0:1 1:1\n3 op 1 0:2\n4 variants 2:1 3:1\n"
+    ∷ asked (frame image-e-image 2 2 4) "complete pairs 1 rounds 0 size 3 mass 0 skipped 0 checks 4\n0 lit 0 5\n1 lit 0 7\n2 op 1 0:1 1:1\n"
+    ∷ asked (frame image-e-image 2 2 3) "partial pairs 1 rounds 0 size 3 mass 0 skipped 0 checks 3\n0 lit 0 5\n1 lit 0 7\n2 op 1 0:1 1:1\n"
+    ∷ asked (frame image-e-image 2 2 1) "partial pairs 1 rounds 0 size 3 mass 0 skipped 0 checks 1\n0 lit 0 5\n1 lit 0 7\n2 op 1 0:1 1:1\n"
+    ∷ asked (frame image-e-image 0 1 4294967295) "complete pairs 1 rounds 0 size 2 mass 2 skipped 0 checks 4\n0 lit 0 5\n1 lit 0 7\n2 variants 0:1 1:1\n"
     ∷ []
 
 image-e-holds : answers image-e ≡ expected image-e
@@ -38,9 +38,9 @@ shared-best-term-two-plain0-classes-image = "000000350100010002000200000000ffff0
 unfoldable shared-best-term-two-plain0-classes : List Asked
 unfolding hex
 shared-best-term-two-plain0-classes =
-    asked (frame shared-best-term-two-plain0-classes-image 0 1 20) "complete pairs 1 rounds 1 size 1 mass 0 skipped 0\n0 op 0\n"
-    ∷ asked (frame shared-best-term-two-plain0-classes-image 0 1 3) "partial pairs 1 rounds 0 size 2 mass 2 skipped 0\n0 op 0\n1 variants 0:2\n"
-    ∷ asked (frame shared-best-term-two-plain0-classes-image 0 1 2) "partial pairs 1 rounds 0 size 2 mass 2 skipped 0\n0 op 0\n1 variants 0:2\n"
+    asked (frame shared-best-term-two-plain0-classes-image 0 1 20) "complete pairs 1 rounds 1 size 1 mass 0 skipped 0 checks 6\n0 op 0\n"
+    ∷ asked (frame shared-best-term-two-plain0-classes-image 0 1 3) "partial pairs 1 rounds 0 size 2 mass 2 skipped 0 checks 3\n0 op 0\n1 variants 0:2\n"
+    ∷ asked (frame shared-best-term-two-plain0-classes-image 0 1 2) "partial pairs 1 rounds 0 size 2 mass 2 skipped 0 checks 2\n0 op 0\n1 variants 0:2\n"
     ∷ []
 
 shared-best-term-two-plain0-classes-holds : answers shared-best-term-two-plain0-classes ≡ expected shared-best-term-two-plain0-classes
@@ -54,9 +54,9 @@ variants-of-one-shared-best-term-image = "000000a30100030005000500070900ffff0100
 unfoldable variants-of-one-shared-best-term : List Asked
 unfolding hex
 variants-of-one-shared-best-term =
-    asked (frame variants-of-one-shared-best-term-image 3 4 20) "complete pairs 1 rounds 0 size 12 mass 12 skipped 0\n0 lit 0 0\n1 op 1 0:1\n2 op 2 1:3\n3 op 2 1:2\n4 variants 2:1 3:1\n"
-    ∷ asked (frame variants-of-one-shared-best-term-image 3 4 2) "partial pairs 1 rounds 0 size 12 mass 12 skipped 0\n0 lit 0 0\n1 op 1 0:1\n2 op 2 1:3\n3 op 2 1:2\n4 variants 2:1 3:1\n"
-    ∷ asked (frame variants-of-one-shared-best-term-image 1 2 9) "partial pairs 2 rounds 1 size 2 mass 0 skipped 0\n0 lit 0 0\n1 op 1 0:1\n"
+    asked (frame variants-of-one-shared-best-term-image 3 4 20) "complete pairs 1 rounds 0 size 12 mass 12 skipped 0 checks 4\n0 lit 0 0\n1 op 1 0:1\n2 op 2 1:3\n3 op 2 1:2\n4 variants 2:1 3:1\n"
+    ∷ asked (frame variants-of-one-shared-best-term-image 3 4 2) "partial pairs 1 rounds 0 size 12 mass 12 skipped 0 checks 2\n0 lit 0 0\n1 op 1 0:1\n2 op 2 1:3\n3 op 2 1:2\n4 variants 2:1 3:1\n"
+    ∷ asked (frame variants-of-one-shared-best-term-image 1 2 9) "partial pairs 2 rounds 1 size 2 mass 0 skipped 0 checks 9\n0 lit 0 0\n1 op 1 0:1\n"
     ∷ []
 
 variants-of-one-shared-best-term-holds : answers variants-of-one-shared-best-term ≡ expected variants-of-one-shared-best-term
@@ -70,9 +70,9 @@ variants-0-2-the-best-terms-are-image = "000000730100020004000400030000ffff0600f
 unfoldable variants-0-2-the-best-terms-are : List Asked
 unfolding hex
 variants-0-2-the-best-terms-are =
-    asked (frame variants-0-2-the-best-terms-are-image 2 3 1) "partial pairs 1 rounds 0 size 5 mass 5 skipped 0\n0 op 0\n1 op 1 0:2\n2 op 1 0:1\n3 variants 1:1 2:1\n"
-    ∷ asked (frame variants-0-2-the-best-terms-are-image 0 1 1) "partial pairs 1 rounds 0 size 2 mass 2 skipped 0\n0 op 0\n1 variants 0:2\n"
-    ∷ asked (frame variants-0-2-the-best-terms-are-image 2 3 9) "complete pairs 1 rounds 0 size 5 mass 5 skipped 0\n0 op 0\n1 op 1 0:2\n2 op 1 0:1\n3 variants 1:1 2:1\n"
+    asked (frame variants-0-2-the-best-terms-are-image 2 3 1) "partial pairs 1 rounds 0 size 5 mass 5 skipped 0 checks 1\n0 op 0\n1 op 1 0:2\n2 op 1 0:1\n3 variants 1:1 2:1\n"
+    ∷ asked (frame variants-0-2-the-best-terms-are-image 0 1 1) "partial pairs 1 rounds 0 size 2 mass 2 skipped 0 checks 1\n0 op 0\n1 variants 0:2\n"
+    ∷ asked (frame variants-0-2-the-best-terms-are-image 2 3 9) "complete pairs 1 rounds 0 size 5 mass 5 skipped 0 checks 4\n0 op 0\n1 op 1 0:2\n2 op 1 0:1\n3 variants 1:1 2:1\n"
     ∷ []
 
 variants-0-2-the-best-terms-are-holds : answers variants-0-2-the-best-terms-are ≡ expected variants-0-2-the-best-terms-are
@@ -86,8 +86,8 @@ literals-use-all-32-bits-and-are-image = "0000008d0100020005000500040900ffff0801
 unfoldable literals-use-all-32-bits-and-are : List Asked
 unfolding hex
 literals-use-all-32-bits-and-are =
-    asked (frame literals-use-all-32-bits-and-are-image 3 4 100) "complete pairs 5 rounds 1 size 4 mass 2 skipped 0\n0 lit 0 1\n1 lit 0 4294967295\n2 lit 0 2147483648\n3 variants 1:1 2:1\n4 op 1 0:1 3:1\n"
-    ∷ asked (frame literals-use-all-32-bits-and-are-image 0 2 7) "complete pairs 1 rounds 0 size 2 mass 2 skipped 0\n0 lit 0 4294967295\n1 lit 0 2147483648\n2 variants 0:1 1:1\n"
+    asked (frame literals-use-all-32-bits-and-are-image 3 4 100) "complete pairs 5 rounds 1 size 4 mass 2 skipped 0 checks 22\n0 lit 0 1\n1 lit 0 4294967295\n2 lit 0 2147483648\n3 variants 1:1 2:1\n4 op 1 0:1 3:1\n"
+    ∷ asked (frame literals-use-all-32-bits-and-are-image 0 2 7) "complete pairs 1 rounds 0 size 2 mass 2 skipped 0 checks 4\n0 lit 0 4294967295\n1 lit 0 2147483648\n2 variants 0:1 1:1\n"
     ∷ []
 
 literals-use-all-32-bits-and-are-holds : answers literals-use-all-32-bits-and-are ≡ expected literals-use-all-32-bits-and-are
@@ -101,9 +101,9 @@ spair-crossed-is-better-image = "0000008d0100020005000500040900ffff0501ffff00000
 unfoldable spair-crossed-is-better : List Asked
 unfolding hex
 spair-crossed-is-better =
-    asked (frame spair-crossed-is-better-image 3 4 100) "complete pairs 5 rounds 1 size 4 mass 2 skipped 0\n0 lit 0 1\n1 lit 0 2\n2 lit 0 3\n3 variants 1:1 2:1\n4 op 1 0:1 3:1\n"
-    ∷ asked (frame spair-crossed-is-better-image 3 4 12) "partial pairs 5 rounds 0 size 6 mass 6 skipped 0\n0 lit 0 1\n1 lit 0 2\n2 op 1 0:1 1:1\n3 lit 0 3\n4 op 1 3:1 0:1\n5 variants 2:1 4:1\n"
-    ∷ asked (frame spair-crossed-is-better-image 3 4 5) "partial pairs 5 rounds 0 size 6 mass 6 skipped 0\n0 lit 0 1\n1 lit 0 2\n2 op 1 0:1 1:1\n3 lit 0 3\n4 op 1 3:1 0:1\n5 variants 2:1 4:1\n"
+    asked (frame spair-crossed-is-better-image 3 4 100) "complete pairs 5 rounds 1 size 4 mass 2 skipped 0 checks 22\n0 lit 0 1\n1 lit 0 2\n2 lit 0 3\n3 variants 1:1 2:1\n4 op 1 0:1 3:1\n"
+    ∷ asked (frame spair-crossed-is-better-image 3 4 12) "partial pairs 5 rounds 0 size 6 mass 6 skipped 0 checks 12\n0 lit 0 1\n1 lit 0 2\n2 op 1 0:1 1:1\n3 lit 0 3\n4 op 1 3:1 0:1\n5 variants 2:1 4:1\n"
+    ∷ asked (frame spair-crossed-is-better-image 3 4 5) "partial pairs 5 rounds 0 size 6 mass 6 skipped 0 checks 5\n0 lit 0 1\n1 lit 0 2\n2 op 1 0:1 1:1\n3 lit 0 3\n4 op 1 3:1 0:1\n5 variants 2:1 4:1\n"
     ∷ []
 
 spair-crossed-is-better-holds : answers spair-crossed-is-better ≡ expected spair-crossed-is-better
@@ -117,9 +117,9 @@ spair-a-tie-straight-first-image = "000000c10100020007000700060900ffff0501ffff00
 unfoldable spair-a-tie-straight-first : List Asked
 unfolding hex
 spair-a-tie-straight-first =
-    asked (frame spair-a-tie-straight-first-image 4 5 100) "complete pairs 5 rounds 1 size 5 mass 4 skipped 0\n0 lit 0 1\n1 lit 0 3\n2 variants 0:1 1:1\n3 lit 0 2\n4 lit 0 4\n5 variants 3:1 4:1\n6 op 1 2:1 5:1\n"
-    ∷ asked (frame spair-a-tie-straight-first-image 6 5 100) "complete pairs 3 rounds 1 size 5 mass 4 skipped 0\n0 lit 0 1\n1 lit 0 3\n2 variants 0:1 1:1\n3 lit 0 4\n4 variants 0:1 3:1\n5 op 1 2:1 4:1\n"
-    ∷ asked (frame spair-a-tie-straight-first-image 5 6 100) "complete pairs 3 rounds 1 size 5 mass 4 skipped 0\n0 lit 0 3\n1 lit 0 1\n2 variants 0:1 1:1\n3 lit 0 4\n4 variants 3:1 1:1\n5 op 1 2:1 4:1\n"
+    asked (frame spair-a-tie-straight-first-image 4 5 100) "complete pairs 5 rounds 1 size 5 mass 4 skipped 0 checks 22\n0 lit 0 1\n1 lit 0 3\n2 variants 0:1 1:1\n3 lit 0 2\n4 lit 0 4\n5 variants 3:1 4:1\n6 op 1 2:1 5:1\n"
+    ∷ asked (frame spair-a-tie-straight-first-image 6 5 100) "complete pairs 3 rounds 1 size 5 mass 4 skipped 0 checks 14\n0 lit 0 1\n1 lit 0 3\n2 variants 0:1 1:1\n3 lit 0 4\n4 variants 0:1 3:1\n5 op 1 2:1 4:1\n"
+    ∷ asked (frame spair-a-tie-straight-first-image 5 6 100) "complete pairs 3 rounds 1 size 5 mass 4 skipped 0 checks 14\n0 lit 0 3\n1 lit 0 1\n2 variants 0:1 1:1\n3 lit 0 4\n4 variants 3:1 1:1\n5 op 1 2:1 4:1\n"
     ∷ []
 
 spair-a-tie-straight-first-holds : answers spair-a-tie-straight-first ≡ expected spair-a-tie-straight-first
@@ -133,9 +133,9 @@ seq-and-plainn-equal-and-unequal-image = "000000bd0100030005000700080900ffff0600
 unfoldable seq-and-plainn-equal-and-unequal : List Asked
 unfolding hex
 seq-and-plainn-equal-and-unequal =
-    asked (frame seq-and-plainn-equal-and-unequal-image 2 3 100) "complete pairs 4 rounds 1 size 1 mass 0 skipped 0\n0 op 1\n"
-    ∷ asked (frame seq-and-plainn-equal-and-unequal-image 2 4 100) "complete pairs 1 rounds 0 size 4 mass 4 skipped 0\n0 op 1\n1 lit 0 1\n2 lit 0 2\n3 op 2 1:1 2:1\n4 variants 0:1 3:1\n"
-    ∷ asked (frame seq-and-plainn-equal-and-unequal-image 3 4 100) "complete pairs 1 rounds 0 size 4 mass 4 skipped 0\n0 op 1\n1 lit 0 1\n2 lit 0 2\n3 op 2 1:1 2:1\n4 variants 0:1 3:1\n"
+    asked (frame seq-and-plainn-equal-and-unequal-image 2 3 100) "complete pairs 4 rounds 1 size 1 mass 0 skipped 0 checks 18\n0 op 1\n"
+    ∷ asked (frame seq-and-plainn-equal-and-unequal-image 2 4 100) "complete pairs 1 rounds 0 size 4 mass 4 skipped 0 checks 4\n0 op 1\n1 lit 0 1\n2 lit 0 2\n3 op 2 1:1 2:1\n4 variants 0:1 3:1\n"
+    ∷ asked (frame seq-and-plainn-equal-and-unequal-image 3 4 100) "complete pairs 1 rounds 0 size 4 mass 4 skipped 0 checks 4\n0 op 1\n1 lit 0 1\n2 lit 0 2\n3 op 2 1:1 2:1\n4 variants 0:1 3:1\n"
     ∷ []
 
 seq-and-plainn-equal-and-unequal-holds : answers seq-and-plainn-equal-and-unequal ≡ expected seq-and-plainn-equal-and-unequal
@@ -149,12 +149,12 @@ plain3-positions-kept-image = "000000bd0100030006000600080900ffff0300ffff0100fff
 unfoldable plain3-positions-kept : List Asked
 unfolding hex
 plain3-positions-kept =
-    asked (frame plain3-positions-kept-image 2 3 100) "complete pairs 4 rounds 1 size 5 mass 2 skipped 0\n0 lit 0 8\n1 lit 0 9\n2 variants 0:1 1:1\n3 op 1 2:1 1:1 0:1\n"
-    ∷ asked (frame plain3-positions-kept-image 4 5 100) "complete pairs 5 rounds 2 size 6 mass 2 skipped 0\n0 lit 0 8\n1 lit 0 9\n2 variants 0:1 1:1\n3 op 1 2:1 1:1 0:1\n4 op 2 3:1\n"
-    ∷ asked (frame plain3-positions-kept-image 4 5 21) "partial pairs 5 rounds 1 size 9 mass 8 skipped 0\n0 lit 0 8\n1 lit 0 9\n2 op 1 0:1 1:1 0:1\n3 op 1 1:2 0:1\n4 variants 2:1 3:1\n5 op 2 4:1\n"
-    ∷ asked (frame plain3-positions-kept-image 4 5 20) "partial pairs 5 rounds 1 size 9 mass 8 skipped 0\n0 lit 0 8\n1 lit 0 9\n2 op 1 0:1 1:1 0:1\n3 op 1 1:2 0:1\n4 variants 2:1 3:1\n5 op 2 4:1\n"
-    ∷ asked (frame plain3-positions-kept-image 4 5 11) "partial pairs 5 rounds 0 size 10 mass 10 skipped 0\n0 lit 0 8\n1 lit 0 9\n2 op 1 0:1 1:1 0:1\n3 op 2 2:1\n4 op 1 1:2 0:1\n5 op 2 4:1\n6 variants 3:1 5:1\n"
-    ∷ asked (frame plain3-positions-kept-image 4 5 10) "partial pairs 5 rounds 0 size 10 mass 10 skipped 0\n0 lit 0 8\n1 lit 0 9\n2 op 1 0:1 1:1 0:1\n3 op 2 2:1\n4 op 1 1:2 0:1\n5 op 2 4:1\n6 variants 3:1 5:1\n"
+    asked (frame plain3-positions-kept-image 2 3 100) "complete pairs 4 rounds 1 size 5 mass 2 skipped 0 checks 18\n0 lit 0 8\n1 lit 0 9\n2 variants 0:1 1:1\n3 op 1 2:1 1:1 0:1\n"
+    ∷ asked (frame plain3-positions-kept-image 4 5 100) "complete pairs 5 rounds 2 size 6 mass 2 skipped 0 checks 28\n0 lit 0 8\n1 lit 0 9\n2 variants 0:1 1:1\n3 op 1 2:1 1:1 0:1\n4 op 2 3:1\n"
+    ∷ asked (frame plain3-positions-kept-image 4 5 21) "partial pairs 5 rounds 1 size 9 mass 8 skipped 0 checks 21\n0 lit 0 8\n1 lit 0 9\n2 op 1 0:1 1:1 0:1\n3 op 1 1:2 0:1\n4 variants 2:1 3:1\n5 op 2 4:1\n"
+    ∷ asked (frame plain3-positions-kept-image 4 5 20) "partial pairs 5 rounds 1 size 9 mass 8 skipped 0 checks 20\n0 lit 0 8\n1 lit 0 9\n2 op 1 0:1 1:1 0:1\n3 op 1 1:2 0:1\n4 variants 2:1 3:1\n5 op 2 4:1\n"
+    ∷ asked (frame plain3-positions-kept-image 4 5 11) "partial pairs 5 rounds 0 size 10 mass 10 skipped 0 checks 11\n0 lit 0 8\n1 lit 0 9\n2 op 1 0:1 1:1 0:1\n3 op 2 2:1\n4 op 1 1:2 0:1\n5 op 2 4:1\n6 variants 3:1 5:1\n"
+    ∷ asked (frame plain3-positions-kept-image 4 5 10) "partial pairs 5 rounds 0 size 10 mass 10 skipped 0 checks 10\n0 lit 0 8\n1 lit 0 9\n2 op 1 0:1 1:1 0:1\n3 op 2 2:1\n4 op 1 1:2 0:1\n5 op 2 4:1\n6 variants 3:1 5:1\n"
     ∷ []
 
 plain3-positions-kept-holds : answers plain3-positions-kept ≡ expected plain3-positions-kept
@@ -168,9 +168,9 @@ mset-with-counts-no-identity-image = "000000a70100020006000600050900ffff0701ffff
 unfoldable mset-with-counts-no-identity : List Asked
 unfolding hex
 mset-with-counts-no-identity =
-    asked (frame mset-with-counts-no-identity-image 3 4 100) "complete pairs 5 rounds 1 size 6 mass 4 skipped 0\n0 lit 0 1\n1 lit 0 3\n2 variants 0:1 1:1\n3 lit 0 2\n4 variants 3:1 1:1\n5 op 1 0:1 2:1 4:1\n"
-    ∷ asked (frame mset-with-counts-no-identity-image 3 5 100) "complete pairs 1 rounds 0 size 7 mass 7 skipped 0\n0 lit 0 1\n1 lit 0 2\n2 op 1 0:2 1:1\n3 lit 0 3\n4 op 1 3:2\n5 variants 2:1 4:1\n"
-    ∷ asked (frame mset-with-counts-no-identity-image 4 3 100) "complete pairs 5 rounds 1 size 6 mass 4 skipped 0\n0 lit 0 1\n1 lit 0 3\n2 variants 1:1 0:1\n3 lit 0 2\n4 variants 1:1 3:1\n5 op 1 0:1 2:1 4:1\n"
+    asked (frame mset-with-counts-no-identity-image 3 4 100) "complete pairs 5 rounds 1 size 6 mass 4 skipped 0 checks 22\n0 lit 0 1\n1 lit 0 3\n2 variants 0:1 1:1\n3 lit 0 2\n4 variants 3:1 1:1\n5 op 1 0:1 2:1 4:1\n"
+    ∷ asked (frame mset-with-counts-no-identity-image 3 5 100) "complete pairs 1 rounds 0 size 7 mass 7 skipped 0 checks 4\n0 lit 0 1\n1 lit 0 2\n2 op 1 0:2 1:1\n3 lit 0 3\n4 op 1 3:2\n5 variants 2:1 4:1\n"
+    ∷ asked (frame mset-with-counts-no-identity-image 4 3 100) "complete pairs 5 rounds 1 size 6 mass 4 skipped 0 checks 22\n0 lit 0 1\n1 lit 0 3\n2 variants 1:1 0:1\n3 lit 0 2\n4 variants 1:1 3:1\n5 op 1 0:1 2:1 4:1\n"
     ∷ []
 
 mset-with-counts-no-identity-holds : answers mset-with-counts-no-identity ≡ expected mset-with-counts-no-identity
@@ -184,13 +184,13 @@ mset-with-identity-padding-itself-image = "0000009b0100020006000600030900ffff070
 unfoldable mset-with-identity-padding-itself : List Asked
 unfolding hex
 mset-with-identity-padding-itself =
-    asked (frame mset-with-identity-padding-itself-image 3 4 200) "complete pairs 9 rounds 1 size 7 mass 4 skipped 0\n0 lit 0 10\n1 lit 0 0\n2 variants 0:1 1:1\n3 lit 0 20\n4 variants 3:1 1:1\n5 op 1 0:2 2:1 4:1\n"
-    ∷ asked (frame mset-with-identity-padding-itself-image 4 3 200) "complete pairs 9 rounds 1 size 7 mass 4 skipped 0\n0 lit 0 10\n1 lit 0 0\n2 variants 1:1 0:1\n3 lit 0 20\n4 variants 1:1 3:1\n5 op 1 0:2 2:1 4:1\n"
-    ∷ asked (frame mset-with-identity-padding-itself-image 3 5 200) "complete pairs 5 rounds 0 size 6 mass 6 skipped 0\n0 lit 0 10\n1 lit 0 20\n2 op 1 0:3 1:1\n3 lit 0 30\n4 variants 2:1 3:1\n"
-    ∷ asked (frame mset-with-identity-padding-itself-image 5 3 200) "complete pairs 5 rounds 0 size 6 mass 6 skipped 0\n0 lit 0 30\n1 lit 0 10\n2 lit 0 20\n3 op 1 1:3 2:1\n4 variants 0:1 3:1\n"
-    ∷ asked (frame mset-with-identity-padding-itself-image 1 5 200) "complete pairs 1 rounds 0 size 2 mass 2 skipped 0\n0 lit 0 10\n1 lit 0 30\n2 variants 0:1 1:1\n"
-    ∷ asked (frame mset-with-identity-padding-itself-image 3 0 200) "complete pairs 3 rounds 0 size 6 mass 6 skipped 0\n0 lit 0 10\n1 lit 0 20\n2 op 1 0:3 1:1\n3 lit 0 0\n4 variants 2:1 3:1\n"
-    ∷ asked (frame mset-with-identity-padding-itself-image 3 1 200) "complete pairs 5 rounds 0 size 6 mass 6 skipped 0\n0 lit 0 10\n1 lit 0 20\n2 op 1 0:3 1:1\n3 variants 2:1 0:1\n"
+    asked (frame mset-with-identity-padding-itself-image 3 4 200) "complete pairs 9 rounds 1 size 7 mass 4 skipped 0 checks 38\n0 lit 0 10\n1 lit 0 0\n2 variants 0:1 1:1\n3 lit 0 20\n4 variants 3:1 1:1\n5 op 1 0:2 2:1 4:1\n"
+    ∷ asked (frame mset-with-identity-padding-itself-image 4 3 200) "complete pairs 9 rounds 1 size 7 mass 4 skipped 0 checks 38\n0 lit 0 10\n1 lit 0 0\n2 variants 1:1 0:1\n3 lit 0 20\n4 variants 1:1 3:1\n5 op 1 0:2 2:1 4:1\n"
+    ∷ asked (frame mset-with-identity-padding-itself-image 3 5 200) "complete pairs 5 rounds 0 size 6 mass 6 skipped 0 checks 16\n0 lit 0 10\n1 lit 0 20\n2 op 1 0:3 1:1\n3 lit 0 30\n4 variants 2:1 3:1\n"
+    ∷ asked (frame mset-with-identity-padding-itself-image 5 3 200) "complete pairs 5 rounds 0 size 6 mass 6 skipped 0 checks 16\n0 lit 0 30\n1 lit 0 10\n2 lit 0 20\n3 op 1 1:3 2:1\n4 variants 0:1 3:1\n"
+    ∷ asked (frame mset-with-identity-padding-itself-image 1 5 200) "complete pairs 1 rounds 0 size 2 mass 2 skipped 0 checks 4\n0 lit 0 10\n1 lit 0 30\n2 variants 0:1 1:1\n"
+    ∷ asked (frame mset-with-identity-padding-itself-image 3 0 200) "complete pairs 3 rounds 0 size 6 mass 6 skipped 0 checks 10\n0 lit 0 10\n1 lit 0 20\n2 op 1 0:3 1:1\n3 lit 0 0\n4 variants 2:1 3:1\n"
+    ∷ asked (frame mset-with-identity-padding-itself-image 3 1 200) "complete pairs 5 rounds 0 size 6 mass 6 skipped 0 checks 16\n0 lit 0 10\n1 lit 0 20\n2 op 1 0:3 1:1\n3 variants 2:1 0:1\n"
     ∷ []
 
 mset-with-identity-padding-itself-holds : answers mset-with-identity-padding-itself ≡ expected mset-with-identity-padding-itself
@@ -204,8 +204,8 @@ document-01-s-padding-left-4-1-right-image = "000000870100020005000500030900ffff
 unfoldable document-01-s-padding-left-4-1-right : List Asked
 unfolding hex
 document-01-s-padding-left-4-1-right =
-    asked (frame document-01-s-padding-left-4-1-right-image 3 4 200) "complete pairs 6 rounds 1 size 6 mass 4 skipped 0\n0 lit 0 0\n1 lit 0 7\n2 variants 0:1 1:1\n3 op 1 0:1 2:2\n"
-    ∷ asked (frame document-01-s-padding-left-4-1-right-image 4 3 200) "complete pairs 6 rounds 1 size 6 mass 4 skipped 0\n0 lit 0 0\n1 lit 0 7\n2 variants 1:1 0:1\n3 op 1 0:1 2:2\n"
+    asked (frame document-01-s-padding-left-4-1-right-image 3 4 200) "complete pairs 6 rounds 1 size 6 mass 4 skipped 0 checks 26\n0 lit 0 0\n1 lit 0 7\n2 variants 0:1 1:1\n3 op 1 0:1 2:2\n"
+    ∷ asked (frame document-01-s-padding-left-4-1-right-image 4 3 200) "complete pairs 6 rounds 1 size 6 mass 4 skipped 0 checks 26\n0 lit 0 0\n1 lit 0 7\n2 variants 1:1 0:1\n3 op 1 0:1 2:2\n"
     ∷ []
 
 document-01-s-padding-left-4-1-right-holds : answers document-01-s-padding-left-4-1-right ≡ expected document-01-s-padding-left-4-1-right
@@ -219,9 +219,9 @@ children-4-1-2-3-4-2-one-class-twice-image = "000000790100020004000400040900ffff
 unfoldable children-4-1-2-3-4-2-one-class-twice : List Asked
 unfolding hex
 children-4-1-2-3-4-2-one-class-twice =
-    asked (frame children-4-1-2-3-4-2-one-class-twice-image 2 3 200) "complete pairs 3 rounds 1 size 10 mass 6 skipped 0\n0 lit 0 1\n1 lit 0 2\n2 variants 1:1 0:1\n3 op 1 0:3 2:3\n"
-    ∷ asked (frame children-4-1-2-3-4-2-one-class-twice-image 2 3 1) "partial pairs 1 rounds 0 size 14 mass 14 skipped 0\n0 lit 0 2\n1 lit 0 1\n2 op 1 0:1 1:3 0:2\n3 op 1 1:6\n4 variants 2:1 3:1\n"
-    ∷ asked (frame children-4-1-2-3-4-2-one-class-twice-image 2 2 9) "complete pairs 1 rounds 0 size 7 mass 0 skipped 0\n0 lit 0 2\n1 lit 0 1\n2 op 1 0:1 1:3 0:2\n"
+    asked (frame children-4-1-2-3-4-2-one-class-twice-image 2 3 200) "complete pairs 3 rounds 1 size 10 mass 6 skipped 0 checks 14\n0 lit 0 1\n1 lit 0 2\n2 variants 1:1 0:1\n3 op 1 0:3 2:3\n"
+    ∷ asked (frame children-4-1-2-3-4-2-one-class-twice-image 2 3 1) "partial pairs 1 rounds 0 size 14 mass 14 skipped 0 checks 1\n0 lit 0 2\n1 lit 0 1\n2 op 1 0:1 1:3 0:2\n3 op 1 1:6\n4 variants 2:1 3:1\n"
+    ∷ asked (frame children-4-1-2-3-4-2-one-class-twice-image 2 2 9) "complete pairs 1 rounds 0 size 7 mass 0 skipped 0 checks 4\n0 lit 0 2\n1 lit 0 1\n2 op 1 0:1 1:3 0:2\n"
     ∷ []
 
 children-4-1-2-3-4-2-one-class-twice-holds : answers children-4-1-2-3-4-2-one-class-twice ≡ expected children-4-1-2-3-4-2-one-class-twice
@@ -235,9 +235,9 @@ set-identity-a-class-twice-counts-2-image = "000000b30100020006000600070900ffff0
 unfoldable set-identity-a-class-twice-counts-2 : List Asked
 unfolding hex
 set-identity-a-class-twice-counts-2 =
-    asked (frame set-identity-a-class-twice-counts-2-image 3 4 200) "complete pairs 9 rounds 1 size 4 mass 2 skipped 0\n0 lit 0 1\n1 lit 0 2\n2 variants 0:1 1:1\n3 op 1 0:1 2:1\n"
-    ∷ asked (frame set-identity-a-class-twice-counts-2-image 4 5 200) "complete pairs 15 rounds 1 size 4 mass 0 skipped 0\n0 lit 0 0\n1 lit 0 1\n2 lit 0 2\n3 op 1 0:1 1:1 2:1\n"
-    ∷ asked (frame set-identity-a-class-twice-counts-2-image 3 5 200) "complete pairs 11 rounds 1 size 5 mass 2 skipped 0\n0 lit 0 0\n1 lit 0 1\n2 lit 0 2\n3 variants 1:1 2:1\n4 op 1 0:1 1:1 3:1\n"
+    asked (frame set-identity-a-class-twice-counts-2-image 3 4 200) "complete pairs 9 rounds 1 size 4 mass 2 skipped 0 checks 38\n0 lit 0 1\n1 lit 0 2\n2 variants 0:1 1:1\n3 op 1 0:1 2:1\n"
+    ∷ asked (frame set-identity-a-class-twice-counts-2-image 4 5 200) "complete pairs 15 rounds 1 size 4 mass 0 skipped 0 checks 62\n0 lit 0 0\n1 lit 0 1\n2 lit 0 2\n3 op 1 0:1 1:1 2:1\n"
+    ∷ asked (frame set-identity-a-class-twice-counts-2-image 3 5 200) "complete pairs 11 rounds 1 size 5 mass 2 skipped 0 checks 46\n0 lit 0 0\n1 lit 0 1\n2 lit 0 2\n3 variants 1:1 2:1\n4 op 1 0:1 1:1 3:1\n"
     ∷ []
 
 set-identity-a-class-twice-counts-2-holds : answers set-identity-a-class-twice-counts-2 ≡ expected set-identity-a-class-twice-counts-2
@@ -251,7 +251,7 @@ set-without-identity-unequal-totals-image = "000000730100020004000400030900ffff0
 unfoldable set-without-identity-unequal-totals : List Asked
 unfolding hex
 set-without-identity-unequal-totals =
-    asked (frame set-without-identity-unequal-totals-image 2 3 50) "complete pairs 1 rounds 0 size 5 mass 5 skipped 0\n0 lit 0 1\n1 lit 0 2\n2 op 1 0:1 1:1\n3 op 1 0:1\n4 variants 2:1 3:1\n"
+    asked (frame set-without-identity-unequal-totals-image 2 3 50) "complete pairs 1 rounds 0 size 5 mass 5 skipped 0 checks 4\n0 lit 0 1\n1 lit 0 2\n2 op 1 0:1 1:1\n3 op 1 0:1\n4 variants 2:1 3:1\n"
     ∷ []
 
 set-without-identity-unequal-totals-holds : answers set-without-identity-unequal-totals ≡ expected set-without-identity-unequal-totals
@@ -265,10 +265,10 @@ empty-mset-member-with-identity-image = "000000710100020004000500010900ffff07010
 unfoldable empty-mset-member-with-identity : List Asked
 unfolding hex
 empty-mset-member-with-identity =
-    asked (frame empty-mset-member-with-identity-image 2 3 300) "complete pairs 4 rounds 0 size 4 mass 4 skipped 0\n0 lit 0 1\n1 op 1 0:2\n2 op 1\n3 variants 1:1 2:1\n"
-    ∷ asked (frame empty-mset-member-with-identity-image 0 2 300) "complete pairs 2 rounds 0 size 4 mass 4 skipped 0\n0 lit 0 0\n1 lit 0 1\n2 op 1 1:2\n3 variants 0:1 2:1\n"
-    ∷ asked (frame empty-mset-member-with-identity-image 0 3 300) "complete pairs 2 rounds 1 size 2 mass 0 skipped 0\n0 lit 0 0\n1 op 1 0:1\n"
-    ∷ asked (frame empty-mset-member-with-identity-image 3 1 300) "complete pairs 2 rounds 0 size 2 mass 2 skipped 0\n0 op 1\n1 lit 0 1\n2 variants 0:1 1:1\n"
+    asked (frame empty-mset-member-with-identity-image 2 3 300) "complete pairs 4 rounds 0 size 4 mass 4 skipped 0 checks 13\n0 lit 0 1\n1 op 1 0:2\n2 op 1\n3 variants 1:1 2:1\n"
+    ∷ asked (frame empty-mset-member-with-identity-image 0 2 300) "complete pairs 2 rounds 0 size 4 mass 4 skipped 0 checks 7\n0 lit 0 0\n1 lit 0 1\n2 op 1 1:2\n3 variants 0:1 2:1\n"
+    ∷ asked (frame empty-mset-member-with-identity-image 0 3 300) "complete pairs 2 rounds 1 size 2 mass 0 skipped 0 checks 10\n0 lit 0 0\n1 op 1 0:1\n"
+    ∷ asked (frame empty-mset-member-with-identity-image 3 1 300) "complete pairs 2 rounds 0 size 2 mass 2 skipped 0 checks 7\n0 op 1\n1 lit 0 1\n2 variants 0:1 1:1\n"
     ∷ []
 
 empty-mset-member-with-identity-holds : answers empty-mset-member-with-identity ≡ expected empty-mset-member-with-identity
@@ -282,7 +282,7 @@ empty-mset-members-no-identity-a-image = "000000390100020002000200000000ffff0701
 unfoldable empty-mset-members-no-identity-a : List Asked
 unfolding hex
 empty-mset-members-no-identity-a =
-    asked (frame empty-mset-members-no-identity-a-image 0 1 30) "complete pairs 1 rounds 0 size 2 mass 2 skipped 0\n0 op 1\n1 variants 0:2\n"
+    asked (frame empty-mset-members-no-identity-a-image 0 1 30) "complete pairs 1 rounds 0 size 2 mass 2 skipped 0 checks 4\n0 op 1\n1 variants 0:2\n"
     ∷ []
 
 empty-mset-members-no-identity-a-holds : answers empty-mset-members-no-identity-a ≡ expected empty-mset-members-no-identity-a
@@ -296,8 +296,8 @@ a-cycle-a-list-class-that-holds-image = "0000008d0100020004000600040900ffff0200f
 unfoldable a-cycle-a-list-class-that-holds : List Asked
 unfolding hex
 a-cycle-a-list-class-that-holds =
-    asked (frame a-cycle-a-list-class-that-holds-image 2 3 100) "complete pairs 2 rounds 0 size 2 mass 2 skipped 0\n0 lit 0 9\n1 lit 0 8\n2 variants 0:1 1:1\n"
-    ∷ asked (frame a-cycle-a-list-class-that-holds-image 2 3 8) "complete pairs 2 rounds 0 size 2 mass 2 skipped 0\n0 lit 0 9\n1 lit 0 8\n2 variants 0:1 1:1\n"
+    asked (frame a-cycle-a-list-class-that-holds-image 2 3 100) "complete pairs 2 rounds 0 size 2 mass 2 skipped 0 checks 7\n0 lit 0 9\n1 lit 0 8\n2 variants 0:1 1:1\n"
+    ∷ asked (frame a-cycle-a-list-class-that-holds-image 2 3 8) "complete pairs 2 rounds 0 size 2 mass 2 skipped 0 checks 7\n0 lit 0 9\n1 lit 0 8\n2 variants 0:1 1:1\n"
     ∷ []
 
 a-cycle-a-list-class-that-holds-holds : answers a-cycle-a-list-class-that-holds ≡ expected a-cycle-a-list-class-that-holds
@@ -311,9 +311,9 @@ a-cycle-through-a-plain1-member-succ-image = "000000690100020003000400030900ffff
 unfoldable a-cycle-through-a-plain1-member-succ : List Asked
 unfolding hex
 a-cycle-through-a-plain1-member-succ =
-    asked (frame a-cycle-through-a-plain1-member-succ-image 0 2 100) "complete pairs 1 rounds 0 size 4 mass 4 skipped 0\n0 lit 0 0\n1 op 1 0:1\n2 op 1 1:1\n3 variants 0:1 2:1\n"
-    ∷ asked (frame a-cycle-through-a-plain1-member-succ-image 1 2 100) "complete pairs 4 rounds 1 size 4 mass 3 skipped 0\n0 lit 0 0\n1 op 1 0:1\n2 variants 0:1 1:1\n3 op 1 2:1\n"
-    ∷ asked (frame a-cycle-through-a-plain1-member-succ-image 1 2 30) "complete pairs 4 rounds 1 size 4 mass 3 skipped 0\n0 lit 0 0\n1 op 1 0:1\n2 variants 0:1 1:1\n3 op 1 2:1\n"
+    asked (frame a-cycle-through-a-plain1-member-succ-image 0 2 100) "complete pairs 1 rounds 0 size 4 mass 4 skipped 0 checks 4\n0 lit 0 0\n1 op 1 0:1\n2 op 1 1:1\n3 variants 0:1 2:1\n"
+    ∷ asked (frame a-cycle-through-a-plain1-member-succ-image 1 2 100) "complete pairs 4 rounds 1 size 4 mass 3 skipped 0 checks 18\n0 lit 0 0\n1 op 1 0:1\n2 variants 0:1 1:1\n3 op 1 2:1\n"
+    ∷ asked (frame a-cycle-through-a-plain1-member-succ-image 1 2 30) "complete pairs 4 rounds 1 size 4 mass 3 skipped 0 checks 18\n0 lit 0 0\n1 op 1 0:1\n2 variants 0:1 1:1\n3 op 1 2:1\n"
     ∷ []
 
 a-cycle-through-a-plain1-member-succ-holds : answers a-cycle-through-a-plain1-member-succ ≡ expected a-cycle-through-a-plain1-member-succ
@@ -327,8 +327,8 @@ itself-as-a-real-member-mset-over-image = "0000008d0100020003000700040900ffff070
 unfoldable itself-as-a-real-member-mset-over : List Asked
 unfolding hex
 itself-as-a-real-member-mset-over =
-    asked (frame itself-as-a-real-member-mset-over-image 0 1 60) "complete pairs 1 rounds 0 size 2 mass 2 skipped 0\n0 lit 0 0\n1 lit 0 1\n2 variants 0:1 1:1\n"
-    ∷ asked (frame itself-as-a-real-member-mset-over-image 0 2 60) "complete pairs 2 rounds 1 size 2 mass 0 skipped 0\n0 lit 0 0\n1 op 1 0:1\n"
+    asked (frame itself-as-a-real-member-mset-over-image 0 1 60) "complete pairs 1 rounds 0 size 2 mass 2 skipped 0 checks 4\n0 lit 0 0\n1 lit 0 1\n2 variants 0:1 1:1\n"
+    ∷ asked (frame itself-as-a-real-member-mset-over-image 0 2 60) "complete pairs 2 rounds 1 size 2 mass 0 skipped 0 checks 10\n0 lit 0 0\n1 op 1 0:1\n"
     ∷ []
 
 itself-as-a-real-member-mset-over-holds : answers itself-as-a-real-member-mset-over ≡ expected itself-as-a-real-member-mset-over
@@ -342,8 +342,8 @@ both-sides-with-several-members-ties-image = "000000b90100020005000700080900ffff
 unfoldable both-sides-with-several-members-ties : List Asked
 unfolding hex
 both-sides-with-several-members-ties =
-    asked (frame both-sides-with-several-members-ties-image 3 4 100) "complete pairs 5 rounds 1 size 4 mass 2 skipped 0\n0 lit 0 0\n1 lit 0 1\n2 lit 0 2\n3 variants 1:1 2:1\n4 op 1 0:1 3:1\n"
-    ∷ asked (frame both-sides-with-several-members-ties-image 4 3 100) "complete pairs 5 rounds 1 size 4 mass 2 skipped 0\n0 lit 0 0\n1 lit 0 2\n2 lit 0 1\n3 variants 1:1 2:1\n4 op 1 0:1 3:1\n"
+    asked (frame both-sides-with-several-members-ties-image 3 4 100) "complete pairs 5 rounds 1 size 4 mass 2 skipped 0 checks 22\n0 lit 0 0\n1 lit 0 1\n2 lit 0 2\n3 variants 1:1 2:1\n4 op 1 0:1 3:1\n"
+    ∷ asked (frame both-sides-with-several-members-ties-image 4 3 100) "complete pairs 5 rounds 1 size 4 mass 2 skipped 0 checks 22\n0 lit 0 0\n1 lit 0 2\n2 lit 0 1\n3 variants 1:1 2:1\n4 op 1 0:1 3:1\n"
     ∷ []
 
 both-sides-with-several-members-ties-holds : answers both-sides-with-several-members-ties ≡ expected both-sides-with-several-members-ties
@@ -357,8 +357,8 @@ two-operations-tie-the-lower-number-image = "0000012d0100040007000b00100900ffff0
 unfoldable two-operations-tie-the-lower-number : List Asked
 unfolding hex
 two-operations-tie-the-lower-number =
-    asked (frame two-operations-tie-the-lower-number-image 3 4 100) "complete pairs 5 rounds 1 size 4 mass 2 skipped 0\n0 lit 0 0\n1 lit 0 1\n2 lit 0 2\n3 variants 1:1 2:1\n4 op 3 0:1 3:1\n"
-    ∷ asked (frame two-operations-tie-the-lower-number-image 5 6 100) "complete pairs 3 rounds 1 size 4 mass 2 skipped 0\n0 lit 0 0\n1 lit 0 1\n2 lit 0 2\n3 variants 1:1 2:1\n4 op 1 0:1 3:1\n"
+    asked (frame two-operations-tie-the-lower-number-image 3 4 100) "complete pairs 5 rounds 1 size 4 mass 2 skipped 0 checks 22\n0 lit 0 0\n1 lit 0 1\n2 lit 0 2\n3 variants 1:1 2:1\n4 op 3 0:1 3:1\n"
+    ∷ asked (frame two-operations-tie-the-lower-number-image 5 6 100) "complete pairs 3 rounds 1 size 4 mass 2 skipped 0 checks 14\n0 lit 0 0\n1 lit 0 1\n2 lit 0 2\n3 variants 1:1 2:1\n4 op 1 0:1 3:1\n"
     ∷ []
 
 two-operations-tie-the-lower-number-holds : answers two-operations-tie-the-lower-number ≡ expected two-operations-tie-the-lower-number
@@ -372,14 +372,14 @@ three-rounds-every-cut-image = "000000f50100020008000a00080900ffff0100ffff000000
 unfoldable three-rounds-every-cut : List Asked
 unfolding hex
 three-rounds-every-cut =
-    asked (frame three-rounds-every-cut-image 6 7 100) "complete pairs 4 rounds 3 size 5 mass 2 skipped 0\n0 lit 0 0\n1 lit 0 1\n2 variants 0:1 1:1\n3 op 1 2:1\n4 op 1 3:1\n5 op 1 4:1\n"
-    ∷ asked (frame three-rounds-every-cut-image 6 7 8) "partial pairs 4 rounds 0 size 8 mass 8 skipped 0\n0 lit 0 0\n1 op 1 0:1\n2 op 1 1:1\n3 op 1 2:1\n4 lit 0 1\n5 op 1 4:1\n6 op 1 5:1\n7 op 1 6:1\n8 variants 3:1 7:1\n"
-    ∷ asked (frame three-rounds-every-cut-image 6 7 13) "partial pairs 4 rounds 1 size 7 mass 6 skipped 0\n0 lit 0 0\n1 op 1 0:1\n2 op 1 1:1\n3 lit 0 1\n4 op 1 3:1\n5 op 1 4:1\n6 variants 2:1 5:1\n7 op 1 6:1\n"
-    ∷ asked (frame three-rounds-every-cut-image 6 7 18) "partial pairs 4 rounds 2 size 6 mass 4 skipped 0\n0 lit 0 0\n1 op 1 0:1\n2 lit 0 1\n3 op 1 2:1\n4 variants 1:1 3:1\n5 op 1 4:1\n6 op 1 5:1\n"
-    ∷ asked (frame three-rounds-every-cut-image 6 7 23) "partial pairs 4 rounds 3 size 5 mass 2 skipped 0\n0 lit 0 0\n1 lit 0 1\n2 variants 0:1 1:1\n3 op 1 2:1\n4 op 1 3:1\n5 op 1 4:1\n"
-    ∷ asked (frame three-rounds-every-cut-image 6 7 7) "partial pairs 4 rounds 0 size 8 mass 8 skipped 0\n0 lit 0 0\n1 op 1 0:1\n2 op 1 1:1\n3 op 1 2:1\n4 lit 0 1\n5 op 1 4:1\n6 op 1 5:1\n7 op 1 6:1\n8 variants 3:1 7:1\n"
-    ∷ asked (frame three-rounds-every-cut-image 6 7 3) "partial pairs 1 rounds 0 size 8 mass 8 skipped 0\n0 lit 0 0\n1 op 1 0:1\n2 op 1 1:1\n3 op 1 2:1\n4 lit 0 1\n5 op 1 4:1\n6 op 1 5:1\n7 op 1 6:1\n8 variants 3:1 7:1\n"
-    ∷ asked (frame three-rounds-every-cut-image 6 7 24) "partial pairs 4 rounds 3 size 5 mass 2 skipped 0\n0 lit 0 0\n1 lit 0 1\n2 variants 0:1 1:1\n3 op 1 2:1\n4 op 1 3:1\n5 op 1 4:1\n"
+    asked (frame three-rounds-every-cut-image 6 7 100) "complete pairs 4 rounds 3 size 5 mass 2 skipped 0 checks 28\n0 lit 0 0\n1 lit 0 1\n2 variants 0:1 1:1\n3 op 1 2:1\n4 op 1 3:1\n5 op 1 4:1\n"
+    ∷ asked (frame three-rounds-every-cut-image 6 7 8) "partial pairs 4 rounds 0 size 8 mass 8 skipped 0 checks 8\n0 lit 0 0\n1 op 1 0:1\n2 op 1 1:1\n3 op 1 2:1\n4 lit 0 1\n5 op 1 4:1\n6 op 1 5:1\n7 op 1 6:1\n8 variants 3:1 7:1\n"
+    ∷ asked (frame three-rounds-every-cut-image 6 7 13) "partial pairs 4 rounds 1 size 7 mass 6 skipped 0 checks 13\n0 lit 0 0\n1 op 1 0:1\n2 op 1 1:1\n3 lit 0 1\n4 op 1 3:1\n5 op 1 4:1\n6 variants 2:1 5:1\n7 op 1 6:1\n"
+    ∷ asked (frame three-rounds-every-cut-image 6 7 18) "partial pairs 4 rounds 2 size 6 mass 4 skipped 0 checks 18\n0 lit 0 0\n1 op 1 0:1\n2 lit 0 1\n3 op 1 2:1\n4 variants 1:1 3:1\n5 op 1 4:1\n6 op 1 5:1\n"
+    ∷ asked (frame three-rounds-every-cut-image 6 7 23) "partial pairs 4 rounds 3 size 5 mass 2 skipped 0 checks 23\n0 lit 0 0\n1 lit 0 1\n2 variants 0:1 1:1\n3 op 1 2:1\n4 op 1 3:1\n5 op 1 4:1\n"
+    ∷ asked (frame three-rounds-every-cut-image 6 7 7) "partial pairs 4 rounds 0 size 8 mass 8 skipped 0 checks 7\n0 lit 0 0\n1 op 1 0:1\n2 op 1 1:1\n3 op 1 2:1\n4 lit 0 1\n5 op 1 4:1\n6 op 1 5:1\n7 op 1 6:1\n8 variants 3:1 7:1\n"
+    ∷ asked (frame three-rounds-every-cut-image 6 7 3) "partial pairs 1 rounds 0 size 8 mass 8 skipped 0 checks 3\n0 lit 0 0\n1 op 1 0:1\n2 op 1 1:1\n3 op 1 2:1\n4 lit 0 1\n5 op 1 4:1\n6 op 1 5:1\n7 op 1 6:1\n8 variants 3:1 7:1\n"
+    ∷ asked (frame three-rounds-every-cut-image 6 7 24) "partial pairs 4 rounds 3 size 5 mass 2 skipped 0 checks 24\n0 lit 0 0\n1 lit 0 1\n2 variants 0:1 1:1\n3 op 1 2:1\n4 op 1 3:1\n5 op 1 4:1\n"
     ∷ []
 
 three-rounds-every-cut-holds : answers three-rounds-every-cut ≡ expected three-rounds-every-cut
@@ -393,9 +393,9 @@ the-best-member-need-not-be-the-image = "000000610100030003000400010900ffff0100f
 unfoldable the-best-member-need-not-be-the : List Asked
 unfolding hex
 the-best-member-need-not-be-the =
-    asked (frame the-best-member-need-not-be-the-image 0 2 30) "complete pairs 1 rounds 0 size 3 mass 3 skipped 0\n0 op 2\n1 op 1 0:1\n2 lit 0 4\n3 variants 1:1 2:1\n"
-    ∷ asked (frame the-best-member-need-not-be-the-image 0 1 30) "complete pairs 1 rounds 0 size 3 mass 3 skipped 0\n0 op 2\n1 op 1 0:1\n2 variants 1:1 0:1\n"
-    ∷ asked (frame the-best-member-need-not-be-the-image 2 0 0) "partial pairs 1 rounds 0 size 3 mass 3 skipped 0\n0 lit 0 4\n1 op 2\n2 op 1 1:1\n3 variants 0:1 2:1\n"
+    asked (frame the-best-member-need-not-be-the-image 0 2 30) "complete pairs 1 rounds 0 size 3 mass 3 skipped 0 checks 4\n0 op 2\n1 op 1 0:1\n2 lit 0 4\n3 variants 1:1 2:1\n"
+    ∷ asked (frame the-best-member-need-not-be-the-image 0 1 30) "complete pairs 1 rounds 0 size 3 mass 3 skipped 0 checks 4\n0 op 2\n1 op 1 0:1\n2 variants 1:1 0:1\n"
+    ∷ asked (frame the-best-member-need-not-be-the-image 2 0 0) "partial pairs 1 rounds 0 size 3 mass 3 skipped 0 checks 0\n0 lit 0 4\n1 op 2\n2 op 1 1:1\n3 variants 0:1 2:1\n"
     ∷ []
 
 the-best-member-need-not-be-the-holds : answers the-best-member-need-not-be-the ≡ expected the-best-member-need-not-be-the
@@ -409,8 +409,8 @@ skipped-one-class-above-4-294-967-image = "0000008b0100030004000600030900ffff070
 unfoldable skipped-one-class-above-4-294-967 : List Asked
 unfolding hex
 skipped-one-class-above-4-294-967 =
-    asked (frame skipped-one-class-above-4-294-967-image 2 3 60) "complete pairs 2 rounds 0 size 2 mass 2 skipped 3\n0 lit 0 2\n1 lit 0 3\n2 variants 0:1 1:1\n"
-    ∷ asked (frame skipped-one-class-above-4-294-967-image 3 2 60) "complete pairs 2 rounds 0 size 2 mass 2 skipped 3\n0 lit 0 3\n1 lit 0 2\n2 variants 0:1 1:1\n"
+    asked (frame skipped-one-class-above-4-294-967-image 2 3 60) "complete pairs 2 rounds 0 size 2 mass 2 skipped 3 checks 7\n0 lit 0 2\n1 lit 0 3\n2 variants 0:1 1:1\n"
+    ∷ asked (frame skipped-one-class-above-4-294-967-image 3 2 60) "complete pairs 2 rounds 0 size 2 mass 2 skipped 3 checks 7\n0 lit 0 3\n1 lit 0 2\n2 variants 0:1 1:1\n"
     ∷ []
 
 skipped-one-class-above-4-294-967-holds : answers skipped-one-class-above-4-294-967 ≡ expected skipped-one-class-above-4-294-967
@@ -424,8 +424,8 @@ one-count-of-4-294-967-295-is-kept-image = "000000810100020004000600020900ffff07
 unfoldable one-count-of-4-294-967-295-is-kept : List Asked
 unfolding hex
 one-count-of-4-294-967-295-is-kept =
-    asked (frame one-count-of-4-294-967-295-is-kept-image 2 3 60) "complete pairs 4 rounds 0 size 2 mass 2 skipped 0\n0 lit 0 2\n1 lit 0 3\n2 variants 0:1 1:1\n"
-    ∷ asked (frame one-count-of-4-294-967-295-is-kept-image 3 2 60) "complete pairs 4 rounds 0 size 2 mass 2 skipped 0\n0 lit 0 3\n1 lit 0 2\n2 variants 0:1 1:1\n"
+    asked (frame one-count-of-4-294-967-295-is-kept-image 2 3 60) "complete pairs 4 rounds 0 size 2 mass 2 skipped 0 checks 13\n0 lit 0 2\n1 lit 0 3\n2 variants 0:1 1:1\n"
+    ∷ asked (frame one-count-of-4-294-967-295-is-kept-image 3 2 60) "complete pairs 4 rounds 0 size 2 mass 2 skipped 0 checks 13\n0 lit 0 3\n1 lit 0 2\n2 variants 0:1 1:1\n"
     ∷ []
 
 one-count-of-4-294-967-295-is-kept-holds : answers one-count-of-4-294-967-295-is-kept ≡ expected one-count-of-4-294-967-295-is-kept
@@ -439,8 +439,8 @@ lengths-decide-the-order-of-children-image = "000000d70100030007000700090900ffff
 unfoldable lengths-decide-the-order-of-children : List Asked
 unfolding hex
 lengths-decide-the-order-of-children =
-    asked (frame lengths-decide-the-order-of-children-image 5 6 300) "complete pairs 10 rounds 1 size 13 mass 2 skipped 0\n0 lit 0 2\n1 lit 0 1\n2 op 1 0:1 1:2\n3 op 1 1:5\n4 lit 0 6\n5 variants 4:1 1:1\n6 op 2 2:1 3:1 5:1\n"
-    ∷ asked (frame lengths-decide-the-order-of-children-image 5 5 9) "complete pairs 1 rounds 0 size 12 mass 0 skipped 0\n0 lit 0 1\n1 op 1 0:5\n2 lit 0 2\n3 op 1 2:1 0:2\n4 lit 0 6\n5 op 2 1:1 3:1 4:1\n"
+    asked (frame lengths-decide-the-order-of-children-image 5 6 300) "complete pairs 10 rounds 1 size 13 mass 2 skipped 0 checks 42\n0 lit 0 2\n1 lit 0 1\n2 op 1 0:1 1:2\n3 op 1 1:5\n4 lit 0 6\n5 variants 4:1 1:1\n6 op 2 2:1 3:1 5:1\n"
+    ∷ asked (frame lengths-decide-the-order-of-children-image 5 5 9) "complete pairs 1 rounds 0 size 12 mass 0 skipped 0 checks 4\n0 lit 0 1\n1 op 1 0:5\n2 lit 0 2\n3 op 1 2:1 0:2\n4 lit 0 6\n5 op 2 1:1 3:1 4:1\n"
     ∷ []
 
 lengths-decide-the-order-of-children-holds : answers lengths-decide-the-order-of-children ≡ expected lengths-decide-the-order-of-children
@@ -454,8 +454,8 @@ mass-decides-where-sizes-tie-image = "000000b50100020006000800040900ffff0100ffff
 unfoldable mass-decides-where-sizes-tie : List Asked
 unfolding hex
 mass-decides-where-sizes-tie =
-    asked (frame mass-decides-where-sizes-tie-image 4 5 80) "complete pairs 3 rounds 1 size 2 mass 2 skipped 0\n0 lit 0 7\n1 lit 0 8\n2 variants 0:1 1:1\n"
-    ∷ asked (frame mass-decides-where-sizes-tie-image 2 3 80) "complete pairs 2 rounds 1 size 3 mass 2 skipped 0\n0 lit 0 1\n1 lit 0 2\n2 variants 0:1 1:1\n3 op 1 2:1\n"
+    asked (frame mass-decides-where-sizes-tie-image 4 5 80) "complete pairs 3 rounds 1 size 2 mass 2 skipped 0 checks 14\n0 lit 0 7\n1 lit 0 8\n2 variants 0:1 1:1\n"
+    ∷ asked (frame mass-decides-where-sizes-tie-image 2 3 80) "complete pairs 2 rounds 1 size 3 mass 2 skipped 0 checks 10\n0 lit 0 1\n1 lit 0 2\n2 variants 0:1 1:1\n3 op 1 2:1\n"
     ∷ []
 
 mass-decides-where-sizes-tie-holds : answers mass-decides-where-sizes-tie ≡ expected mass-decides-where-sizes-tie
@@ -469,7 +469,7 @@ transport-the-queue-s-order-picks-image = "000000a10100020006000600040900ffff070
 unfoldable transport-the-queue-s-order-picks : List Asked
 unfolding hex
 transport-the-queue-s-order-picks =
-    asked (frame transport-the-queue-s-order-picks-image 4 5 100) "complete pairs 5 rounds 1 size 5 mass 4 skipped 0\n0 lit 0 1\n1 lit 0 3\n2 variants 0:1 1:1\n3 lit 0 2\n4 lit 0 4\n5 variants 3:1 4:1\n6 op 1 2:1 5:1\n"
+    asked (frame transport-the-queue-s-order-picks-image 4 5 100) "complete pairs 5 rounds 1 size 5 mass 4 skipped 0 checks 22\n0 lit 0 1\n1 lit 0 3\n2 variants 0:1 1:1\n3 lit 0 2\n4 lit 0 4\n5 variants 3:1 4:1\n6 op 1 2:1 5:1\n"
     ∷ []
 
 transport-the-queue-s-order-picks-holds : answers transport-the-queue-s-order-picks ≡ expected transport-the-queue-s-order-picks
@@ -483,8 +483,8 @@ size-x-w-mass-picks-another-plan-image = "000000b10100030006000600060900ffff0701
 unfoldable size-x-w-mass-picks-another-plan : List Asked
 unfolding hex
 size-x-w-mass-picks-another-plan =
-    asked (frame size-x-w-mass-picks-another-plan-image 4 5 200) "complete pairs 5 rounds 2 size 9 mass 7 skipped 0\n0 lit 0 1\n1 lit 0 2\n2 variants 0:1 1:1\n3 op 2 2:1\n4 op 2 1:1\n5 variants 0:1 4:1\n6 op 1 3:1 5:1 2:1\n"
-    ∷ asked (frame size-x-w-mass-picks-another-plan-image 5 4 200) "complete pairs 5 rounds 2 size 9 mass 7 skipped 0\n0 lit 0 2\n1 lit 0 1\n2 variants 0:1 1:1\n3 op 2 2:1\n4 op 2 0:1\n5 variants 4:1 1:1\n6 op 1 3:1 5:1 2:1\n"
+    asked (frame size-x-w-mass-picks-another-plan-image 4 5 200) "complete pairs 5 rounds 2 size 9 mass 7 skipped 0 checks 28\n0 lit 0 1\n1 lit 0 2\n2 variants 0:1 1:1\n3 op 2 2:1\n4 op 2 1:1\n5 variants 0:1 4:1\n6 op 1 3:1 5:1 2:1\n"
+    ∷ asked (frame size-x-w-mass-picks-another-plan-image 5 4 200) "complete pairs 5 rounds 2 size 9 mass 7 skipped 0 checks 28\n0 lit 0 2\n1 lit 0 1\n2 variants 0:1 1:1\n3 op 2 2:1\n4 op 2 0:1\n5 variants 4:1 1:1\n6 op 1 3:1 5:1 2:1\n"
     ∷ []
 
 size-x-w-mass-picks-another-plan-holds : answers size-x-w-mass-picks-another-plan ≡ expected size-x-w-mass-picks-another-plan
@@ -498,9 +498,9 @@ transport-operations-tie-each-in-one-image = "000000dd01000300060008000a0900ffff
 unfoldable transport-operations-tie-each-in-one : List Asked
 unfolding hex
 transport-operations-tie-each-in-one =
-    asked (frame transport-operations-tie-each-in-one-image 3 2 200) "complete pairs 9 rounds 2 size 5 mass 0 skipped 0\n0 lit 0 0\n1 lit 0 1\n2 op 2 0:1 1:1\n3 op 1 2:1 0:1\n"
-    ∷ asked (frame transport-operations-tie-each-in-one-image 2 3 200) "complete pairs 9 rounds 2 size 5 mass 0 skipped 0\n0 lit 0 0\n1 lit 0 1\n2 op 2 0:1 1:1\n3 op 1 2:1 0:1\n"
-    ∷ asked (frame transport-operations-tie-each-in-one-image 4 5 200) "complete pairs 16 rounds 3 size 6 mass 0 skipped 0\n0 lit 0 0\n1 lit 0 1\n2 op 1 0:1 1:1\n3 op 2 2:1 0:1\n4 op 1 3:1\n"
+    asked (frame transport-operations-tie-each-in-one-image 3 2 200) "complete pairs 9 rounds 2 size 5 mass 0 skipped 0 checks 48\n0 lit 0 0\n1 lit 0 1\n2 op 2 0:1 1:1\n3 op 1 2:1 0:1\n"
+    ∷ asked (frame transport-operations-tie-each-in-one-image 2 3 200) "complete pairs 9 rounds 2 size 5 mass 0 skipped 0 checks 48\n0 lit 0 0\n1 lit 0 1\n2 op 2 0:1 1:1\n3 op 1 2:1 0:1\n"
+    ∷ asked (frame transport-operations-tie-each-in-one-image 4 5 200) "complete pairs 16 rounds 3 size 6 mass 0 skipped 0 checks 100\n0 lit 0 0\n1 lit 0 1\n2 op 1 0:1 1:1\n3 op 2 2:1 0:1\n4 op 1 3:1\n"
     ∷ []
 
 transport-operations-tie-each-in-one-holds : answers transport-operations-tie-each-in-one ≡ expected transport-operations-tie-each-in-one
@@ -514,8 +514,8 @@ skipped-by-the-padding-alone-4-294-image = "000000b10100020005000800050900ffff07
 unfoldable skipped-by-the-padding-alone-4-294 : List Asked
 unfolding hex
 skipped-by-the-padding-alone-4-294 =
-    asked (frame skipped-by-the-padding-alone-4-294-image 2 3 60) "complete pairs 2 rounds 0 size 2 mass 2 skipped 3\n0 lit 0 2\n1 lit 0 3\n2 variants 0:1 1:1\n"
-    ∷ asked (frame skipped-by-the-padding-alone-4-294-image 4 3 60) "complete pairs 6 rounds 1 size 2 mass 2 skipped 2\n0 lit 0 4\n1 lit 0 3\n2 variants 0:1 1:1\n"
+    asked (frame skipped-by-the-padding-alone-4-294-image 2 3 60) "complete pairs 2 rounds 0 size 2 mass 2 skipped 3 checks 7\n0 lit 0 2\n1 lit 0 3\n2 variants 0:1 1:1\n"
+    ∷ asked (frame skipped-by-the-padding-alone-4-294-image 4 3 60) "complete pairs 6 rounds 1 size 2 mass 2 skipped 2 checks 26\n0 lit 0 4\n1 lit 0 3\n2 variants 0:1 1:1\n"
     ∷ []
 
 skipped-by-the-padding-alone-4-294-holds : answers skipped-by-the-padding-alone-4-294 ≡ expected skipped-by-the-padding-alone-4-294
@@ -529,9 +529,9 @@ one-side-as-itself-the-other-a-sum-image = "000000790100020004000400040900ffff08
 unfoldable one-side-as-itself-the-other-a-sum : List Asked
 unfolding hex
 one-side-as-itself-the-other-a-sum =
-    asked (frame one-side-as-itself-the-other-a-sum-image 1 2 100) "complete pairs 5 rounds 1 size 3 mass 0 skipped 0\n0 lit 0 0\n1 lit 0 1\n2 op 1 0:1 1:1\n"
-    ∷ asked (frame one-side-as-itself-the-other-a-sum-image 3 1 100) "complete pairs 7 rounds 2 size 5 mass 0 skipped 0\n0 lit 0 0\n1 lit 0 1\n2 op 1 0:1 1:1\n3 op 1 2:1 0:1\n"
-    ∷ asked (frame one-side-as-itself-the-other-a-sum-image 3 2 100) "complete pairs 11 rounds 2 size 5 mass 0 skipped 0\n0 lit 0 1\n1 lit 0 0\n2 op 1 0:1 1:1\n3 op 1 2:1 1:1\n"
+    asked (frame one-side-as-itself-the-other-a-sum-image 1 2 100) "complete pairs 5 rounds 1 size 3 mass 0 skipped 0 checks 22\n0 lit 0 0\n1 lit 0 1\n2 op 1 0:1 1:1\n"
+    ∷ asked (frame one-side-as-itself-the-other-a-sum-image 3 1 100) "complete pairs 7 rounds 2 size 5 mass 0 skipped 0 checks 38\n0 lit 0 0\n1 lit 0 1\n2 op 1 0:1 1:1\n3 op 1 2:1 0:1\n"
+    ∷ asked (frame one-side-as-itself-the-other-a-sum-image 3 2 100) "complete pairs 11 rounds 2 size 5 mass 0 skipped 0 checks 58\n0 lit 0 1\n1 lit 0 0\n2 op 1 0:1 1:1\n3 op 1 2:1 1:1\n"
     ∷ []
 
 one-side-as-itself-the-other-a-sum-holds : answers one-side-as-itself-the-other-a-sum ≡ expected one-side-as-itself-the-other-a-sum

@@ -1,4 +1,4 @@
--- (02, Paper 7) Monomial pairs passed over: answers of the listed Rust, the number of skipped pairs from the model (oracle/sample/skipped.txt).
+-- (02, Paper 7) Monomial pairs passed over: answers of the listed Rust with its own count of checks, the number of skipped pairs from the model (oracle/sample/skipped.txt).
 use mathlib.Core.Path.{_≡_, refl}
 use mathlib.Core.List.{List, [], _∷_}
 use Prim.Native.Nat.{ℕ}
@@ -14,10 +14,10 @@ left-or-right-without-identity-4-294-image = "000000b70100020005000800060900ffff
 unfoldable left-or-right-without-identity-4-294 : List Asked
 unfolding hex
 left-or-right-without-identity-4-294 =
-    asked (frame left-or-right-without-identity-4-294-image 2 3 60) "complete pairs 1 rounds 0 size 2 mass 2 skipped 1\n0 lit 0 2\n1 lit 0 3\n2 variants 0:1 1:1\n"
-    ∷ asked (frame left-or-right-without-identity-4-294-image 3 2 60) "complete pairs 1 rounds 0 size 2 mass 2 skipped 1\n0 lit 0 3\n1 lit 0 2\n2 variants 0:1 1:1\n"
-    ∷ asked (frame left-or-right-without-identity-4-294-image 3 4 60) "complete pairs 5 rounds 0 size 2 mass 2 skipped 0\n0 lit 0 3\n1 lit 0 4\n2 variants 0:1 1:1\n"
-    ∷ asked (frame left-or-right-without-identity-4-294-image 2 2 60) "complete pairs 1 rounds 0 size 1 mass 0 skipped 0\n0 lit 0 2\n"
+    asked (frame left-or-right-without-identity-4-294-image 2 3 60) "complete pairs 1 rounds 0 size 2 mass 2 skipped 1 checks 4\n0 lit 0 2\n1 lit 0 3\n2 variants 0:1 1:1\n"
+    ∷ asked (frame left-or-right-without-identity-4-294-image 3 2 60) "complete pairs 1 rounds 0 size 2 mass 2 skipped 1 checks 4\n0 lit 0 3\n1 lit 0 2\n2 variants 0:1 1:1\n"
+    ∷ asked (frame left-or-right-without-identity-4-294-image 3 4 60) "complete pairs 5 rounds 0 size 2 mass 2 skipped 0 checks 16\n0 lit 0 3\n1 lit 0 4\n2 variants 0:1 1:1\n"
+    ∷ asked (frame left-or-right-without-identity-4-294-image 2 2 60) "complete pairs 1 rounds 0 size 1 mass 0 skipped 0 checks 4\n0 lit 0 2\n"
     ∷ []
 
 left-or-right-without-identity-4-294-holds : answers left-or-right-without-identity-4-294 ≡ expected left-or-right-without-identity-4-294
@@ -31,10 +31,10 @@ at-the-limit-and-one-above-it-with-image = "000000a10100020005000700040900ffff07
 unfoldable at-the-limit-and-one-above-it-with : List Asked
 unfolding hex
 at-the-limit-and-one-above-it-with =
-    asked (frame at-the-limit-and-one-above-it-with-image 2 4 60) "complete pairs 3 rounds 0 size 2 mass 2 skipped 0\n0 lit 0 2\n1 lit 0 4\n2 variants 0:1 1:1\n"
-    ∷ asked (frame at-the-limit-and-one-above-it-with-image 3 4 60) "complete pairs 1 rounds 0 size 2 mass 2 skipped 1\n0 lit 0 3\n1 lit 0 4\n2 variants 0:1 1:1\n"
-    ∷ asked (frame at-the-limit-and-one-above-it-with-image 4 3 60) "complete pairs 1 rounds 0 size 2 mass 2 skipped 1\n0 lit 0 4\n1 lit 0 3\n2 variants 0:1 1:1\n"
-    ∷ asked (frame at-the-limit-and-one-above-it-with-image 2 3 60) "complete pairs 3 rounds 0 size 2 mass 2 skipped 3\n0 lit 0 2\n1 lit 0 3\n2 variants 0:1 1:1\n"
+    asked (frame at-the-limit-and-one-above-it-with-image 2 4 60) "complete pairs 3 rounds 0 size 2 mass 2 skipped 0 checks 10\n0 lit 0 2\n1 lit 0 4\n2 variants 0:1 1:1\n"
+    ∷ asked (frame at-the-limit-and-one-above-it-with-image 3 4 60) "complete pairs 1 rounds 0 size 2 mass 2 skipped 1 checks 4\n0 lit 0 3\n1 lit 0 4\n2 variants 0:1 1:1\n"
+    ∷ asked (frame at-the-limit-and-one-above-it-with-image 4 3 60) "complete pairs 1 rounds 0 size 2 mass 2 skipped 1 checks 4\n0 lit 0 4\n1 lit 0 3\n2 variants 0:1 1:1\n"
+    ∷ asked (frame at-the-limit-and-one-above-it-with-image 2 3 60) "complete pairs 3 rounds 0 size 2 mass 2 skipped 3 checks 10\n0 lit 0 2\n1 lit 0 3\n2 variants 0:1 1:1\n"
     ∷ []
 
 at-the-limit-and-one-above-it-with-holds : answers at-the-limit-and-one-above-it-with ≡ expected at-the-limit-and-one-above-it-with
@@ -48,10 +48,10 @@ identities-added-4-294-967-295-are-image = "000000e90100020007000b00060900ffff07
 unfoldable identities-added-4-294-967-295-are : List Asked
 unfolding hex
 identities-added-4-294-967-295-are =
-    asked (frame identities-added-4-294-967-295-are-image 3 5 60) "complete pairs 8 rounds 1 size 2 mass 2 skipped 0\n0 lit 0 3\n1 lit 0 5\n2 variants 0:1 1:1\n"
-    ∷ asked (frame identities-added-4-294-967-295-are-image 4 5 60) "complete pairs 2 rounds 0 size 2 mass 2 skipped 3\n0 lit 0 4\n1 lit 0 5\n2 variants 0:1 1:1\n"
-    ∷ asked (frame identities-added-4-294-967-295-are-image 5 4 60) "complete pairs 2 rounds 0 size 2 mass 2 skipped 3\n0 lit 0 5\n1 lit 0 4\n2 variants 0:1 1:1\n"
-    ∷ asked (frame identities-added-4-294-967-295-are-image 3 6 60) "complete pairs 6 rounds 0 size 2 mass 2 skipped 2\n0 lit 0 3\n1 lit 0 6\n2 variants 0:1 1:1\n"
+    asked (frame identities-added-4-294-967-295-are-image 3 5 60) "complete pairs 8 rounds 1 size 2 mass 2 skipped 0 checks 34\n0 lit 0 3\n1 lit 0 5\n2 variants 0:1 1:1\n"
+    ∷ asked (frame identities-added-4-294-967-295-are-image 4 5 60) "complete pairs 2 rounds 0 size 2 mass 2 skipped 3 checks 7\n0 lit 0 4\n1 lit 0 5\n2 variants 0:1 1:1\n"
+    ∷ asked (frame identities-added-4-294-967-295-are-image 5 4 60) "complete pairs 2 rounds 0 size 2 mass 2 skipped 3 checks 7\n0 lit 0 5\n1 lit 0 4\n2 variants 0:1 1:1\n"
+    ∷ asked (frame identities-added-4-294-967-295-are-image 3 6 60) "complete pairs 6 rounds 0 size 2 mass 2 skipped 2 checks 19\n0 lit 0 3\n1 lit 0 6\n2 variants 0:1 1:1\n"
     ∷ []
 
 identities-added-4-294-967-295-are-holds : answers identities-added-4-294-967-295-are ≡ expected identities-added-4-294-967-295-are
@@ -65,8 +65,8 @@ once-each-two-members-are-the-same-image = "000000c501000200040008000a0900ffff07
 unfoldable once-each-two-members-are-the-same : List Asked
 unfolding hex
 once-each-two-members-are-the-same =
-    asked (frame once-each-two-members-are-the-same-image 2 3 60) "complete pairs 1 rounds 0 size 2 mass 2 skipped 5\n0 lit 0 2\n1 lit 0 3\n2 variants 0:1 1:1\n"
-    ∷ asked (frame once-each-two-members-are-the-same-image 3 2 60) "complete pairs 1 rounds 0 size 2 mass 2 skipped 5\n0 lit 0 3\n1 lit 0 2\n2 variants 0:1 1:1\n"
+    asked (frame once-each-two-members-are-the-same-image 2 3 60) "complete pairs 1 rounds 0 size 2 mass 2 skipped 5 checks 4\n0 lit 0 2\n1 lit 0 3\n2 variants 0:1 1:1\n"
+    ∷ asked (frame once-each-two-members-are-the-same-image 3 2 60) "complete pairs 1 rounds 0 size 2 mass 2 skipped 5 checks 4\n0 lit 0 3\n1 lit 0 2\n2 variants 0:1 1:1\n"
     ∷ []
 
 once-each-two-members-are-the-same-holds : answers once-each-two-members-are-the-same ≡ expected once-each-two-members-are-the-same
@@ -80,8 +80,8 @@ one-member-twice-in-another-order-image = "000000bf0100020004000800090900ffff070
 unfoldable one-member-twice-in-another-order : List Asked
 unfolding hex
 one-member-twice-in-another-order =
-    asked (frame one-member-twice-in-another-order-image 2 3 60) "complete pairs 1 rounds 0 size 2 mass 2 skipped 1\n0 lit 0 2\n1 lit 0 3\n2 variants 0:1 1:1\n"
-    ∷ asked (frame one-member-twice-in-another-order-image 3 2 60) "complete pairs 1 rounds 0 size 2 mass 2 skipped 1\n0 lit 0 3\n1 lit 0 2\n2 variants 0:1 1:1\n"
+    asked (frame one-member-twice-in-another-order-image 2 3 60) "complete pairs 1 rounds 0 size 2 mass 2 skipped 1 checks 4\n0 lit 0 2\n1 lit 0 3\n2 variants 0:1 1:1\n"
+    ∷ asked (frame one-member-twice-in-another-order-image 3 2 60) "complete pairs 1 rounds 0 size 2 mass 2 skipped 1 checks 4\n0 lit 0 3\n1 lit 0 2\n2 variants 0:1 1:1\n"
     ∷ []
 
 one-member-twice-in-another-order-holds : answers one-member-twice-in-another-order ≡ expected one-member-twice-in-another-order
@@ -95,8 +95,8 @@ equal-rows-beside-other-columns-are-image = "000000a30100020004000700060900ffff0
 unfoldable equal-rows-beside-other-columns-are : List Asked
 unfolding hex
 equal-rows-beside-other-columns-are =
-    asked (frame equal-rows-beside-other-columns-are-image 2 3 60) "complete pairs 1 rounds 0 size 2 mass 2 skipped 2\n0 lit 0 2\n1 lit 0 3\n2 variants 0:1 1:1\n"
-    ∷ asked (frame equal-rows-beside-other-columns-are-image 3 2 60) "complete pairs 1 rounds 0 size 2 mass 2 skipped 2\n0 lit 0 3\n1 lit 0 2\n2 variants 0:1 1:1\n"
+    asked (frame equal-rows-beside-other-columns-are-image 2 3 60) "complete pairs 1 rounds 0 size 2 mass 2 skipped 2 checks 4\n0 lit 0 2\n1 lit 0 3\n2 variants 0:1 1:1\n"
+    ∷ asked (frame equal-rows-beside-other-columns-are-image 3 2 60) "complete pairs 1 rounds 0 size 2 mass 2 skipped 2 checks 4\n0 lit 0 3\n1 lit 0 2\n2 variants 0:1 1:1\n"
     ∷ []
 
 equal-rows-beside-other-columns-are-holds : answers equal-rows-beside-other-columns-are ≡ expected equal-rows-beside-other-columns-are
@@ -110,12 +110,12 @@ once-for-each-pair-of-classes-and-image = "000000fb0100030007000a000a0900ffff070
 unfoldable once-for-each-pair-of-classes-and : List Asked
 unfolding hex
 once-for-each-pair-of-classes-and =
-    asked (frame once-for-each-pair-of-classes-and-image 5 6 60) "complete pairs 3 rounds 1 size 5 mass 4 skipped 2\n0 lit 0 2\n1 lit 0 3\n2 variants 0:1 1:1\n3 lit 0 4\n4 variants 0:1 3:1\n5 op 2 2:1 4:1\n"
-    ∷ asked (frame once-for-each-pair-of-classes-and-image 5 6 4) "partial pairs 3 rounds 0 size 6 mass 6 skipped 2\n0 lit 0 2\n1 op 2 0:2\n2 lit 0 3\n3 lit 0 4\n4 op 2 2:1 3:1\n5 variants 1:1 4:1\n"
-    ∷ asked (frame once-for-each-pair-of-classes-and-image 5 6 3) "partial pairs 3 rounds 0 size 6 mass 6 skipped 2\n0 lit 0 2\n1 op 2 0:2\n2 lit 0 3\n3 lit 0 4\n4 op 2 2:1 3:1\n5 variants 1:1 4:1\n"
-    ∷ asked (frame once-for-each-pair-of-classes-and-image 5 6 2) "partial pairs 1 rounds 0 size 6 mass 6 skipped 1\n0 lit 0 2\n1 op 2 0:2\n2 lit 0 3\n3 lit 0 4\n4 op 2 2:1 3:1\n5 variants 1:1 4:1\n"
-    ∷ asked (frame once-for-each-pair-of-classes-and-image 5 6 1) "partial pairs 1 rounds 0 size 6 mass 6 skipped 0\n0 lit 0 2\n1 op 2 0:2\n2 lit 0 3\n3 lit 0 4\n4 op 2 2:1 3:1\n5 variants 1:1 4:1\n"
-    ∷ asked (frame once-for-each-pair-of-classes-and-image 5 6 0) "partial pairs 1 rounds 0 size 6 mass 6 skipped 0\n0 lit 0 2\n1 op 2 0:2\n2 lit 0 3\n3 lit 0 4\n4 op 2 2:1 3:1\n5 variants 1:1 4:1\n"
+    asked (frame once-for-each-pair-of-classes-and-image 5 6 60) "complete pairs 3 rounds 1 size 5 mass 4 skipped 2 checks 14\n0 lit 0 2\n1 lit 0 3\n2 variants 0:1 1:1\n3 lit 0 4\n4 variants 0:1 3:1\n5 op 2 2:1 4:1\n"
+    ∷ asked (frame once-for-each-pair-of-classes-and-image 5 6 4) "partial pairs 3 rounds 0 size 6 mass 6 skipped 2 checks 4\n0 lit 0 2\n1 op 2 0:2\n2 lit 0 3\n3 lit 0 4\n4 op 2 2:1 3:1\n5 variants 1:1 4:1\n"
+    ∷ asked (frame once-for-each-pair-of-classes-and-image 5 6 3) "partial pairs 3 rounds 0 size 6 mass 6 skipped 2 checks 3\n0 lit 0 2\n1 op 2 0:2\n2 lit 0 3\n3 lit 0 4\n4 op 2 2:1 3:1\n5 variants 1:1 4:1\n"
+    ∷ asked (frame once-for-each-pair-of-classes-and-image 5 6 2) "partial pairs 1 rounds 0 size 6 mass 6 skipped 1 checks 2\n0 lit 0 2\n1 op 2 0:2\n2 lit 0 3\n3 lit 0 4\n4 op 2 2:1 3:1\n5 variants 1:1 4:1\n"
+    ∷ asked (frame once-for-each-pair-of-classes-and-image 5 6 1) "partial pairs 1 rounds 0 size 6 mass 6 skipped 0 checks 1\n0 lit 0 2\n1 op 2 0:2\n2 lit 0 3\n3 lit 0 4\n4 op 2 2:1 3:1\n5 variants 1:1 4:1\n"
+    ∷ asked (frame once-for-each-pair-of-classes-and-image 5 6 0) "partial pairs 1 rounds 0 size 6 mass 6 skipped 0 checks 0\n0 lit 0 2\n1 op 2 0:2\n2 lit 0 3\n3 lit 0 4\n4 op 2 2:1 3:1\n5 variants 1:1 4:1\n"
     ∷ []
 
 once-for-each-pair-of-classes-and-holds : answers once-for-each-pair-of-classes-and ≡ expected once-for-each-pair-of-classes-and
@@ -129,8 +129,8 @@ once-for-each-operation-one-with-an-image = "000000bd0100030004000800080900ffff0
 unfoldable once-for-each-operation-one-with-an : List Asked
 unfolding hex
 once-for-each-operation-one-with-an =
-    asked (frame once-for-each-operation-one-with-an-image 2 3 60) "complete pairs 1 rounds 0 size 2 mass 2 skipped 4\n0 lit 0 2\n1 lit 0 3\n2 variants 0:1 1:1\n"
-    ∷ asked (frame once-for-each-operation-one-with-an-image 3 2 60) "complete pairs 1 rounds 0 size 2 mass 2 skipped 4\n0 lit 0 3\n1 lit 0 2\n2 variants 0:1 1:1\n"
+    asked (frame once-for-each-operation-one-with-an-image 2 3 60) "complete pairs 1 rounds 0 size 2 mass 2 skipped 4 checks 4\n0 lit 0 2\n1 lit 0 3\n2 variants 0:1 1:1\n"
+    ∷ asked (frame once-for-each-operation-one-with-an-image 3 2 60) "complete pairs 1 rounds 0 size 2 mass 2 skipped 4 checks 4\n0 lit 0 3\n1 lit 0 2\n2 variants 0:1 1:1\n"
     ∷ []
 
 once-for-each-operation-one-with-an-holds : answers once-for-each-operation-one-with-an ≡ expected once-for-each-operation-one-with-an
@@ -144,10 +144,10 @@ cut-short-with-an-identity-the-pairs-image = "000000f70100030006000a000b0900ffff
 unfoldable cut-short-with-an-identity-the-pairs : List Asked
 unfolding hex
 cut-short-with-an-identity-the-pairs =
-    asked (frame cut-short-with-an-identity-the-pairs-image 4 5 90) "complete pairs 13 rounds 1 size 4 mass 2 skipped 15\n0 lit 0 3\n1 lit 0 2\n2 lit 0 0\n3 variants 1:1 2:1\n4 op 1 0:1 3:1\n"
-    ∷ asked (frame cut-short-with-an-identity-the-pairs-image 4 5 3) "partial pairs 1 rounds 0 size 5 mass 5 skipped 6\n0 lit 0 2\n1 lit 0 3\n2 op 1 0:1 1:1\n3 op 1 1:1\n4 variants 2:1 3:1\n"
-    ∷ asked (frame cut-short-with-an-identity-the-pairs-image 4 5 2) "partial pairs 1 rounds 0 size 5 mass 5 skipped 3\n0 lit 0 2\n1 lit 0 3\n2 op 1 0:1 1:1\n3 op 1 1:1\n4 variants 2:1 3:1\n"
-    ∷ asked (frame cut-short-with-an-identity-the-pairs-image 4 5 1) "partial pairs 1 rounds 0 size 5 mass 5 skipped 0\n0 lit 0 2\n1 lit 0 3\n2 op 1 0:1 1:1\n3 op 1 1:1\n4 variants 2:1 3:1\n"
+    asked (frame cut-short-with-an-identity-the-pairs-image 4 5 90) "complete pairs 13 rounds 1 size 4 mass 2 skipped 15 checks 54\n0 lit 0 3\n1 lit 0 2\n2 lit 0 0\n3 variants 1:1 2:1\n4 op 1 0:1 3:1\n"
+    ∷ asked (frame cut-short-with-an-identity-the-pairs-image 4 5 3) "partial pairs 1 rounds 0 size 5 mass 5 skipped 6 checks 3\n0 lit 0 2\n1 lit 0 3\n2 op 1 0:1 1:1\n3 op 1 1:1\n4 variants 2:1 3:1\n"
+    ∷ asked (frame cut-short-with-an-identity-the-pairs-image 4 5 2) "partial pairs 1 rounds 0 size 5 mass 5 skipped 3 checks 2\n0 lit 0 2\n1 lit 0 3\n2 op 1 0:1 1:1\n3 op 1 1:1\n4 variants 2:1 3:1\n"
+    ∷ asked (frame cut-short-with-an-identity-the-pairs-image 4 5 1) "partial pairs 1 rounds 0 size 5 mass 5 skipped 0 checks 1\n0 lit 0 2\n1 lit 0 3\n2 op 1 0:1 1:1\n3 op 1 1:1\n4 variants 2:1 3:1\n"
     ∷ []
 
 cut-short-with-an-identity-the-pairs-holds : answers cut-short-with-an-identity-the-pairs ≡ expected cut-short-with-an-identity-the-pairs
@@ -161,9 +161,9 @@ none-unequal-totals-without-identity-image = "000000af0100030005000800040900ffff
 unfoldable none-unequal-totals-without-identity : List Asked
 unfolding hex
 none-unequal-totals-without-identity =
-    asked (frame none-unequal-totals-without-identity-image 2 3 60) "complete pairs 1 rounds 0 size 2 mass 2 skipped 0\n0 lit 0 2\n1 lit 0 3\n2 variants 0:1 1:1\n"
-    ∷ asked (frame none-unequal-totals-without-identity-image 2 4 60) "complete pairs 2 rounds 0 size 2 mass 2 skipped 0\n0 lit 0 2\n1 lit 0 4\n2 variants 0:1 1:1\n"
-    ∷ asked (frame none-unequal-totals-without-identity-image 0 1 60) "complete pairs 1 rounds 0 size 2 mass 2 skipped 0\n0 lit 0 0\n1 lit 0 1\n2 variants 0:1 1:1\n"
+    asked (frame none-unequal-totals-without-identity-image 2 3 60) "complete pairs 1 rounds 0 size 2 mass 2 skipped 0 checks 4\n0 lit 0 2\n1 lit 0 3\n2 variants 0:1 1:1\n"
+    ∷ asked (frame none-unequal-totals-without-identity-image 2 4 60) "complete pairs 2 rounds 0 size 2 mass 2 skipped 0 checks 7\n0 lit 0 2\n1 lit 0 4\n2 variants 0:1 1:1\n"
+    ∷ asked (frame none-unequal-totals-without-identity-image 0 1 60) "complete pairs 1 rounds 0 size 2 mass 2 skipped 0 checks 4\n0 lit 0 0\n1 lit 0 1\n2 variants 0:1 1:1\n"
     ∷ []
 
 none-unequal-totals-without-identity-holds : answers none-unequal-totals-without-identity ≡ expected none-unequal-totals-without-identity
@@ -177,10 +177,10 @@ cut-short-which-class-stands-left-image = "000000f50100020007000b00080900ffff070
 unfoldable cut-short-which-class-stands-left : List Asked
 unfolding hex
 cut-short-which-class-stands-left =
-    asked (frame cut-short-which-class-stands-left-image 5 6 60) "complete pairs 5 rounds 0 size 2 mass 2 skipped 1\n0 lit 0 5\n1 lit 0 6\n2 variants 0:1 1:1\n"
-    ∷ asked (frame cut-short-which-class-stands-left-image 5 6 3) "partial pairs 1 rounds 0 size 2 mass 2 skipped 1\n0 lit 0 5\n1 lit 0 6\n2 variants 0:1 1:1\n"
-    ∷ asked (frame cut-short-which-class-stands-left-image 6 5 3) "partial pairs 1 rounds 0 size 2 mass 2 skipped 0\n0 lit 0 6\n1 lit 0 5\n2 variants 0:1 1:1\n"
-    ∷ asked (frame cut-short-which-class-stands-left-image 5 6 2) "partial pairs 1 rounds 0 size 2 mass 2 skipped 0\n0 lit 0 5\n1 lit 0 6\n2 variants 0:1 1:1\n"
+    asked (frame cut-short-which-class-stands-left-image 5 6 60) "complete pairs 5 rounds 0 size 2 mass 2 skipped 1 checks 16\n0 lit 0 5\n1 lit 0 6\n2 variants 0:1 1:1\n"
+    ∷ asked (frame cut-short-which-class-stands-left-image 5 6 3) "partial pairs 1 rounds 0 size 2 mass 2 skipped 1 checks 3\n0 lit 0 5\n1 lit 0 6\n2 variants 0:1 1:1\n"
+    ∷ asked (frame cut-short-which-class-stands-left-image 6 5 3) "partial pairs 1 rounds 0 size 2 mass 2 skipped 0 checks 3\n0 lit 0 6\n1 lit 0 5\n2 variants 0:1 1:1\n"
+    ∷ asked (frame cut-short-which-class-stands-left-image 5 6 2) "partial pairs 1 rounds 0 size 2 mass 2 skipped 0 checks 2\n0 lit 0 5\n1 lit 0 6\n2 variants 0:1 1:1\n"
     ∷ []
 
 cut-short-which-class-stands-left-holds : answers cut-short-which-class-stands-left ≡ expected cut-short-which-class-stands-left

@@ -1,4 +1,4 @@
--- Queries whose answer tells the rules from a porter's slip: answers of the listed Rust (oracle/sample/slips.txt).
+-- Queries whose answer tells the rules from a porter's slip: answers of the listed Rust with its own count of checks (oracle/sample/slips.txt).
 use mathlib.Core.Path.{_≡_, refl}
 use mathlib.Core.List.{List, [], _∷_}
 use Prim.Native.Nat.{ℕ}
@@ -14,7 +14,7 @@ slip-cmp-by-number-image = "000000690100030003000300040900ffff080100010701ffff00
 unfoldable slip-cmp-by-number : List Asked
 unfolding hex
 slip-cmp-by-number =
-    asked (frame slip-cmp-by-number-image 2 0 51) "complete pairs 6 rounds 2 size 6 mass 0 skipped 0\n0 lit 0 1\n1 op 1 0:1\n2 op 1 1:2 0:1\n"
+    asked (frame slip-cmp-by-number-image 2 0 51) "complete pairs 6 rounds 2 size 6 mass 0 skipped 0 checks 33\n0 lit 0 1\n1 op 1 0:1\n2 op 1 1:2 0:1\n"
     ∷ []
 
 slip-cmp-by-number-holds : answers slip-cmp-by-number ≡ expected slip-cmp-by-number
@@ -28,7 +28,7 @@ slip-cmp-run-count-not-length-image = "00000097010001000400050008070100030000000
 unfoldable slip-cmp-run-count-not-length : List Asked
 unfolding hex
 slip-cmp-run-count-not-length =
-    asked (frame slip-cmp-run-count-not-length-image 2 1 4294967295) "complete pairs 12 rounds 2 size 1606 mass 0 skipped 0\n0 op 0\n1 op 0 0:6\n2 op 0 1:1\n3 op 0 0:202 2:3 1:197\n"
+    asked (frame slip-cmp-run-count-not-length-image 2 1 4294967295) "complete pairs 12 rounds 2 size 1606 mass 0 skipped 0 checks 63\n0 op 0\n1 op 0 0:6\n2 op 0 1:1\n3 op 0 0:202 2:3 1:197\n"
     ∷ []
 
 slip-cmp-run-count-not-length-holds : answers slip-cmp-run-count-not-length ≡ expected slip-cmp-run-count-not-length
@@ -42,7 +42,7 @@ slip-crossed-first-image = "000001af01000a0007000f001b0900ffff0100ffff0200ffff07
 unfoldable slip-crossed-first : List Asked
 unfolding hex
 slip-crossed-first =
-    asked (frame slip-crossed-first-image 6 3 4294967295) "complete pairs 7 rounds 1 size 13 mass 12 skipped 0\n0 lit 0 20\n1 lit 0 32\n2 op 2 0:1 1:1\n3 lit 0 2\n4 op 9 2:1 1:2 3:1\n5 variants 2:1 4:1\n6 lit 0 12\n7 variants 1:1 6:1\n8 op 5 5:1 7:1\n"
+    asked (frame slip-crossed-first-image 6 3 4294967295) "complete pairs 7 rounds 1 size 13 mass 12 skipped 0 checks 30\n0 lit 0 20\n1 lit 0 32\n2 op 2 0:1 1:1\n3 lit 0 2\n4 op 9 2:1 1:2 3:1\n5 variants 2:1 4:1\n6 lit 0 12\n7 variants 1:1 6:1\n8 op 5 5:1 7:1\n"
     ∷ []
 
 slip-crossed-first-holds : answers slip-crossed-first ≡ expected slip-crossed-first
@@ -56,7 +56,7 @@ slip-equal-pair-not-checked-image = "0000004701000100020002000307010001000000010
 unfoldable slip-equal-pair-not-checked : List Asked
 unfolding hex
 slip-equal-pair-not-checked =
-    asked (frame slip-equal-pair-not-checked-image 1 0 3) "partial pairs 1 rounds 0 size 9 mass 9 skipped 0\n0 op 0\n1 op 0 0:7\n2 variants 1:1 0:1\n"
+    asked (frame slip-equal-pair-not-checked-image 1 0 3) "partial pairs 1 rounds 0 size 9 mass 9 skipped 0 checks 3\n0 op 0\n1 op 0 0:7\n2 variants 1:1 0:1\n"
     ∷ []
 
 slip-equal-pair-not-checked-holds : answers slip-equal-pair-not-checked ≡ expected slip-equal-pair-not-checked
@@ -70,7 +70,7 @@ slip-exclusion-of-either-image = "000000390100020002000200000900ffff070100010000
 unfoldable slip-exclusion-of-either : List Asked
 unfolding hex
 slip-exclusion-of-either =
-    asked (frame slip-exclusion-of-either-image 1 0 4294967295) "complete pairs 2 rounds 1 size 2 mass 0 skipped 0\n0 lit 0 5\n1 op 1 0:1\n"
+    asked (frame slip-exclusion-of-either-image 1 0 4294967295) "complete pairs 2 rounds 1 size 2 mass 0 skipped 0 checks 10\n0 lit 0 5\n1 op 1 0:1\n"
     ∷ []
 
 slip-exclusion-of-either-holds : answers slip-exclusion-of-either ≡ expected slip-exclusion-of-either
@@ -84,7 +84,7 @@ slip-last-tie-wins-image = "00000059010003000200030003080100000501ffff0701000100
 unfoldable slip-last-tie-wins : List Asked
 unfolding hex
 slip-last-tie-wins =
-    asked (frame slip-last-tie-wins-image 0 1 30) "complete pairs 4 rounds 1 size 2 mass 0 skipped 0\n0 op 2\n1 op 0 0:1\n"
+    asked (frame slip-last-tie-wins-image 0 1 30) "complete pairs 4 rounds 1 size 2 mass 0 skipped 0 checks 18\n0 op 2\n1 op 0 0:1\n"
     ∷ []
 
 slip-last-tie-wins-holds : answers slip-last-tie-wins ≡ expected slip-last-tie-wins
@@ -98,7 +98,7 @@ slip-only-common-ac-ops-image = "000000390100020002000200000900ffff0701000100000
 unfoldable slip-only-common-ac-ops : List Asked
 unfolding hex
 slip-only-common-ac-ops =
-    asked (frame slip-only-common-ac-ops-image 1 0 4294967295) "complete pairs 2 rounds 1 size 2 mass 0 skipped 0\n0 lit 0 5\n1 op 1 0:1\n"
+    asked (frame slip-only-common-ac-ops-image 1 0 4294967295) "complete pairs 2 rounds 1 size 2 mass 0 skipped 0 checks 10\n0 lit 0 5\n1 op 1 0:1\n"
     ∷ []
 
 slip-only-common-ac-ops-holds : answers slip-only-common-ac-ops ≡ expected slip-only-common-ac-ops
@@ -112,7 +112,7 @@ slip-pad-always-appended-last-image = "0000029b01000a000c001200350900ffff0100fff
 unfoldable slip-pad-always-appended-last : List Asked
 unfolding hex
 slip-pad-always-appended-last =
-    asked (frame slip-pad-always-appended-last-image 9 8 4294967295) "complete pairs 48 rounds 1 size 70 mass 64 skipped 0\n0 lit 0 1\n1 lit 0 12\n2 op 6 0:3 1:1\n3 op 2 0:1 2:1\n4 variants 0:1 3:1\n5 variants 0:1 2:1\n6 op 8\n7 variants 0:1 6:1\n8 op 6 2:2\n9 op 7 8:1 6:1 3:1 8:1\n10 variants 1:1 9:1\n11 op 4 2:1 4:3 5:1 7:1 10:1\n"
+    asked (frame slip-pad-always-appended-last-image 9 8 4294967295) "complete pairs 48 rounds 1 size 70 mass 64 skipped 0 checks 194\n0 lit 0 1\n1 lit 0 12\n2 op 6 0:3 1:1\n3 op 2 0:1 2:1\n4 variants 0:1 3:1\n5 variants 0:1 2:1\n6 op 8\n7 variants 0:1 6:1\n8 op 6 2:2\n9 op 7 8:1 6:1 3:1 8:1\n10 variants 1:1 9:1\n11 op 4 2:1 4:3 5:1 7:1 10:1\n"
     ∷ []
 
 slip-pad-always-appended-last-holds : answers slip-pad-always-appended-last ≡ expected slip-pad-always-appended-last
@@ -126,7 +126,7 @@ slip-reads-same-round-image = "0000007d01000100030004000707010001000000020000000
 unfoldable slip-reads-same-round : List Asked
 unfolding hex
 slip-reads-same-round =
-    asked (frame slip-reads-same-round-image 2 0 4294967295) "complete pairs 6 rounds 2 size 1207 mass 0 skipped 0\n0 op 0\n1 op 0 0:1205\n2 op 0 1:1\n"
+    asked (frame slip-reads-same-round-image 2 0 4294967295) "complete pairs 6 rounds 2 size 1207 mass 0 skipped 0 checks 33\n0 op 0\n1 op 0 0:1205\n2 op 0 1:1\n"
     ∷ []
 
 slip-reads-same-round-holds : answers slip-reads-same-round ≡ expected slip-reads-same-round
@@ -140,7 +140,7 @@ slip-right-outermost-structural-image = "000000a70100020003000900050900ffff0100f
 unfoldable slip-right-outermost-structural : List Asked
 unfolding hex
 slip-right-outermost-structural =
-    asked (frame slip-right-outermost-structural-image 0 2 4294967295) "complete pairs 8 rounds 1 size 2 mass 0 skipped 0\n0 lit 0 5\n1 op 1 0:1\n"
+    asked (frame slip-right-outermost-structural-image 0 2 4294967295) "complete pairs 8 rounds 1 size 2 mass 0 skipped 0 checks 34\n0 lit 0 5\n1 op 1 0:1\n"
     ∷ []
 
 slip-right-outermost-structural-holds : answers slip-right-outermost-structural ≡ expected slip-right-outermost-structural
@@ -154,7 +154,7 @@ slip-right-outermost-transport-image = "000001f101000b00070014001d0900ffff0100ff
 unfoldable slip-right-outermost-transport : List Asked
 unfolding hex
 slip-right-outermost-transport =
-    asked (frame slip-right-outermost-transport-image 6 5 4294967295) "complete pairs 31 rounds 2 size 5 mass 0 skipped 0\n0 lit 0 4\n1 op 4 0:3\n2 op 7 1:1\n"
+    asked (frame slip-right-outermost-transport-image 6 5 4294967295) "complete pairs 31 rounds 2 size 5 mass 0 skipped 0 checks 158\n0 lit 0 4\n1 op 4 0:3\n2 op 7 1:1\n"
     ∷ []
 
 slip-right-outermost-transport-holds : answers slip-right-outermost-transport ≡ expected slip-right-outermost-transport
@@ -168,7 +168,7 @@ slip-set-dedups-image = "0000004901000300020002000208010000080100010900ffff00000
 unfoldable slip-set-dedups : List Asked
 unfolding hex
 slip-set-dedups =
-    asked (frame slip-set-dedups-image 1 0 21) "complete pairs 3 rounds 0 size 4 mass 4 skipped 0\n0 lit 2 3\n1 op 0 0:2\n2 variants 0:1 1:1\n"
+    asked (frame slip-set-dedups-image 1 0 21) "complete pairs 3 rounds 0 size 4 mass 4 skipped 0 checks 10\n0 lit 2 3\n1 op 0 0:2\n2 variants 0:1 1:1\n"
     ∷ []
 
 slip-set-dedups-holds : answers slip-set-dedups ≡ expected slip-set-dedups
@@ -182,7 +182,7 @@ slip-singleton-first-image = "000000f901000500040009000f07010002080100030801ffff
 unfoldable slip-singleton-first : List Asked
 unfolding hex
 slip-singleton-first =
-    asked (frame slip-singleton-first-image 1 0 4294967295) "complete pairs 16 rounds 1 size 5 mass 4 skipped 0\n0 op 0\n1 op 3\n2 variants 0:1 1:1\n3 op 0 2:2\n"
+    asked (frame slip-singleton-first-image 1 0 4294967295) "complete pairs 16 rounds 1 size 5 mass 4 skipped 0 checks 66\n0 op 0\n1 op 3\n2 variants 0:1 1:1\n3 op 0 2:2\n"
     ∷ []
 
 slip-singleton-first-holds : answers slip-singleton-first ≡ expected slip-singleton-first
@@ -196,7 +196,7 @@ slip-singleton-only-without-member-image = "000000450100010002000300010801000100
 unfoldable slip-singleton-only-without-member : List Asked
 unfolding hex
 slip-singleton-only-without-member =
-    asked (frame slip-singleton-only-without-member-image 1 0 19) "complete pairs 4 rounds 1 size 2 mass 0 skipped 0\n0 op 0\n1 op 0 0:1\n"
+    asked (frame slip-singleton-only-without-member-image 1 0 19) "complete pairs 4 rounds 1 size 2 mass 0 skipped 0 checks 18\n0 op 0\n1 op 0 0:1\n"
     ∷ []
 
 slip-singleton-only-without-member-holds : answers slip-singleton-only-without-member ≡ expected slip-singleton-only-without-member
@@ -210,7 +210,7 @@ slip-skip-joins-cells-image = "000000c701000200040007000c0501ffff070100030000000
 unfoldable slip-skip-joins-cells : List Asked
 unfolding hex
 slip-skip-joins-cells =
-    asked (frame slip-skip-joins-cells-image 0 3 4294967295) "complete pairs 9 rounds 1 size 12 mass 12 skipped 6\n0 op 1\n1 op 0 0:2\n2 op 1 1:2\n3 op 0 0:1 1:1\n4 variants 2:1 3:1\n"
+    asked (frame slip-skip-joins-cells-image 0 3 4294967295) "complete pairs 9 rounds 1 size 12 mass 12 skipped 6 checks 38\n0 op 1\n1 op 0 0:2\n2 op 1 1:2\n3 op 0 0:1 1:1\n4 variants 2:1 3:1\n"
     ∷ []
 
 slip-skip-joins-cells-holds : answers slip-skip-joins-cells ≡ expected slip-skip-joins-cells
@@ -224,7 +224,7 @@ slip-spair-unsorted-image = "000000a90100030003000700080501ffff0900ffff080100010
 unfoldable slip-spair-unsorted : List Asked
 unfolding hex
 slip-spair-unsorted =
-    asked (frame slip-spair-unsorted-image 1 0 4294967295) "complete pairs 4 rounds 2 size 4 mass 0 skipped 0\n0 lit 1 1\n1 op 2 0:1\n2 lit 1 0\n3 op 0 1:1 2:1\n"
+    asked (frame slip-spair-unsorted-image 1 0 4294967295) "complete pairs 4 rounds 2 size 4 mass 0 skipped 0 checks 23\n0 lit 1 1\n1 op 2 0:1\n2 lit 1 0\n3 op 0 1:1 2:1\n"
     ∷ []
 
 slip-spair-unsorted-holds : answers slip-spair-unsorted ≡ expected slip-spair-unsorted
@@ -238,7 +238,7 @@ slip-stack-not-queue-image = "000001ef01000b0009001000200900ffff0100ffff0200ffff
 unfoldable slip-stack-not-queue : List Asked
 unfolding hex
 slip-stack-not-queue =
-    asked (frame slip-stack-not-queue-image 7 8 4294967295) "complete pairs 24 rounds 1 size 11 mass 10 skipped 0\n0 lit 0 7\n1 lit 0 4\n2 op 5 0:1 1:1\n3 op 2 2:1 0:1\n4 variants 3:1 0:1\n5 lit 0 1\n6 op 5 5:1 1:1\n7 variants 6:1 5:1\n8 op 9 4:1 7:1\n"
+    asked (frame slip-stack-not-queue-image 7 8 4294967295) "complete pairs 24 rounds 1 size 11 mass 10 skipped 0 checks 98\n0 lit 0 7\n1 lit 0 4\n2 op 5 0:1 1:1\n3 op 2 2:1 0:1\n4 variants 3:1 0:1\n5 lit 0 1\n6 op 5 5:1 1:1\n7 variants 6:1 5:1\n8 op 9 4:1 7:1\n"
     ∷ []
 
 slip-stack-not-queue-holds : answers slip-stack-not-queue ≡ expected slip-stack-not-queue
@@ -252,7 +252,7 @@ slip-unfinished-round-kept-image = "0000007f0100030003000400060501ffff0701000207
 unfoldable slip-unfinished-round-kept : List Asked
 unfolding hex
 slip-unfinished-round-kept =
-    asked (frame slip-unfinished-round-kept-image 0 2 10) "partial pairs 4 rounds 0 size 2 mass 2 skipped 0\n0 op 2\n1 variants 0:2\n"
+    asked (frame slip-unfinished-round-kept-image 0 2 10) "partial pairs 4 rounds 0 size 2 mass 2 skipped 0 checks 10\n0 op 2\n1 variants 0:2\n"
     ∷ []
 
 slip-unfinished-round-kept-holds : answers slip-unfinished-round-kept ≡ expected slip-unfinished-round-kept
@@ -266,7 +266,7 @@ slip-unsorted-action-children-image = "000000690100030003000300040900ffff0801000
 unfoldable slip-unsorted-action-children : List Asked
 unfolding hex
 slip-unsorted-action-children =
-    asked (frame slip-unsorted-action-children-image 2 0 51) "complete pairs 6 rounds 2 size 6 mass 0 skipped 0\n0 lit 0 1\n1 op 1 0:1\n2 op 1 1:2 0:1\n"
+    asked (frame slip-unsorted-action-children-image 2 0 51) "complete pairs 6 rounds 2 size 6 mass 0 skipped 0 checks 33\n0 lit 0 1\n1 op 1 0:1\n2 op 1 1:2 0:1\n"
     ∷ []
 
 slip-unsorted-action-children-holds : answers slip-unsorted-action-children ≡ expected slip-unsorted-action-children

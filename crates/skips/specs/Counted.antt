@@ -12,7 +12,7 @@ use lib.Dec.{ltb}
 use lib.ListN.{length, getD}
 use Rattle.spec.specs.Bytes.{pick, both, either, all, any, filter, place, Two, sameTwos, In, here, there}
 use Rattle.spec.specs.Monomial.{Monomial, MonomialPair, narrow, failsAt, widePairs, wide, samePair, countOnce, COUNT}
-use Rattle.laws.specs.Tests.{clash, is-false, either-false}
+use Rattle.laws.specs.Tests.{clash, is-false, either-false, either-swap}
 use Rattle.laws.specs.AcceptedLists.{any-in, any-of, any-cons, no-entry}
 use Rattle.laws.specs.AcceptedTurns.{any-append}
 use Rattle.skips.specs.Repeated.{same-is, same-same}
@@ -88,12 +88,6 @@ any-last : (q p : MonomialPair) (l : List MonomialPair) → any (samePair q) (l 
 unfolding any
 any-last q p l = any-append (samePair q) l (p ∷ []) ∙ ap (either (any (samePair q) l)) (any-cons (samePair q) p [] ∙ either-false (samePair q p))
 
-swap : (a b : Bool) → either a b ≡ either b a
-swap true true = refl
-swap true false = refl
-swap false true = refl
-swap false false = refl
-
 module _ (p : MonomialPair) (seen earlier : List MonomialPair) (g : Agree seen earlier) where
   agree-again : any (samePair p) seen ≡ true → Agree seen (earlier ++ (p ∷ []))
   agree-again a q w = go (samePair q p) refl
@@ -106,7 +100,7 @@ module _ (p : MonomialPair) (seen earlier : List MonomialPair) (g : Agree seen e
       go false e = g q w ∙ sym (any-last q p earlier ∙ rw e (either-false (any (samePair q) earlier)))
 
   agree-new : Agree (p ∷ seen) (earlier ++ (p ∷ []))
-  agree-new q w = any-cons (samePair q) p seen ∙ ap (either (samePair q p)) (g q w) ∙ swap (samePair q p) (any (samePair q) earlier) ∙ sym (any-last q p earlier)
+  agree-new q w = any-cons (samePair q) p seen ∙ ap (either (samePair q p)) (g q w) ∙ either-swap (samePair q p) (any (samePair q) earlier) ∙ sym (any-last q p earlier)
 
   agree-narrow : wide p ≡ false → Agree seen (earlier ++ (p ∷ []))
   agree-narrow n q w = go (samePair q p) refl

@@ -12,7 +12,7 @@ use lib.Dec.{leb}
 use Rattle.spec.specs.Bytes.{pick, both, all, sum, Two, In, here, there}
 use Rattle.spec.specs.Image.{NO-IDENTITY}
 use Rattle.spec.specs.Monomial.{Monomial, insertAdd, addAll, monomial, total, itself, narrow, COUNT}
-use Rattle.laws.specs.Tests.{clash, both-true}
+use Rattle.laws.specs.Tests.{clash, both-true, both-swap}
 use Rattle.laws.specs.AcceptedLists.{all-cons, no-entry}
 use Rattle.skips.specs.Facts.{levelTo, FULL, filled, countAt, most}
 use Rattle.skips.specs.Repeated.{level-full, level-total}
@@ -186,12 +186,6 @@ module _ (e n : ℕ) (x y : Monomial) (p : Positive x) (r : Positive y) (h : tot
 both-last : (a b c : Bool) → both a (both b c) ≡ both (both a b) c
 both-last true b c = refl
 both-last false b c = refl
-
-both-swap : (a b : Bool) → both a b ≡ both b a
-both-swap true true = refl
-both-swap true false = refl
-both-swap false true = refl
-both-swap false false = refl
 
 leb-same : (a b c d : ℕ) → (a ≤ b → c ≤ d) → (c ≤ d → a ≤ b) → leb a b ≡ leb c d
 leb-same a b c d f g = go (decLe a b)

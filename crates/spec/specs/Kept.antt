@@ -14,7 +14,7 @@ slip-sorted-best-terms-image = "0000005d0100030003000300020900ffff0501ffff0801ff
 unfoldable slip-sorted-best-terms : List Asked
 unfolding hex
 slip-sorted-best-terms =
-    asked (frame slip-sorted-best-terms-image 1 1 4294967295) "complete pairs 1 rounds 0 size 3 mass 0 skipped 0\n0 lit 0 7\n1 lit 0 3\n2 op 1 0:1 1:1\n"
+    asked (frame slip-sorted-best-terms-image 1 1 4294967295) "complete pairs 1 rounds 0 size 3 mass 0 skipped 0 checks 4\n0 lit 0 7\n1 lit 0 3\n2 op 1 0:1 1:1\n"
     ∷ []
 
 slip-sorted-best-terms-holds : answers slip-sorted-best-terms ≡ expected slip-sorted-best-terms
@@ -28,7 +28,7 @@ slip-transport-first-image = "0000018901000b0005000e00190900ffff0100ffff0200ffff
 unfoldable slip-transport-first : List Asked
 unfolding hex
 slip-transport-first =
-    asked (frame slip-transport-first-image 2 4 4294967295) "complete pairs 5 rounds 1 size 5 mass 4 skipped 0\n0 lit 0 1\n1 lit 0 4\n2 variants 0:1 1:1\n3 op 6 2:2\n"
+    asked (frame slip-transport-first-image 2 4 4294967295) "complete pairs 5 rounds 1 size 5 mass 4 skipped 0 checks 22\n0 lit 0 1\n1 lit 0 4\n2 variants 0:1 1:1\n3 op 6 2:2\n"
     ∷ []
 
 slip-transport-first-holds : answers slip-transport-first ≡ expected slip-transport-first

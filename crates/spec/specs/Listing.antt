@@ -26,7 +26,7 @@ line [] = 10 ∷ []
 line (f ∷ []) = f ++ (10 ∷ [])
 line (f ∷ g ∷ l) = f ++ (32 ∷ line (g ∷ l))
 
--- "The first line has the status (`complete` or `partial`), pairs, rounds, size, mass." (02, Paper 7) "The first line of the listing ends with `skipped` and the number"
+-- "The first line has the status (`complete` or `partial`), pairs, rounds, size, mass." (02, Paper 7) "The first line of the listing ends with `skipped` and the number" (Paper 13) "the listing's first line gets a final field `checks`, the checks that passed"
 -- What it reports behind the status: each number by its name. Width, writing and reading follow from this list.
 abbrev pub Field : Type 0
 Field = List ℕ × ℕ
@@ -39,6 +39,7 @@ reported skipped o =
     ∷ (text "size", o .quality .0)
     ∷ (text "mass", o .quality .1)
     ∷ (text "skipped", skipped)
+    ∷ (text "checks", o .checks)
     ∷ []
 
 -- a number behind its name

@@ -36,17 +36,17 @@ roundTerms lim t ps s ws b = system.roundTerms (pairs t) (making lim t) ps s ws 
 abbrev pub roundsFrom : Limits → ℕ → Tables → List Two → State → Res Outcome
 roundsFrom lim f t ps s = system.roundsFrom (pairs t) (making lim t) f ps s
 
-abbrev pub started : Tables → Two → Interned → ℕ → Outcome
-started t p root n = system.started (pairs t) p root n
+abbrev pub started : Tables → ℕ → Two → Interned → ℕ → Outcome
+started t budget p root n = system.started (pairs t) budget p root n
 
-abbrev pub startState : Tables → List Two → Terms → ℕ → State
-startState t ps r b = system.startState (pairs t) ps r b
+abbrev pub startState : Tables → ℕ → List Two → Terms → ℕ → State
+startState t budget ps r b = system.startState (pairs t) budget ps r b
 
-abbrev pub afterStarting : Limits → Tables → Two → Interned → List Two → Checked Terms → Res Outcome
-afterStarting lim t p root ps r = system.afterStarting (pairs t) (making lim t) p root ps r
+abbrev pub afterStarting : Limits → Tables → ℕ → Two → Interned → List Two → Checked Terms → Res Outcome
+afterStarting lim t budget p root ps r = system.afterStarting (pairs t) (making lim t) budget p root ps r
 
-abbrev pub afterBuilding : Limits → Tables → Two → Interned → Checked (List Two) → Res Outcome
-afterBuilding lim t p root g = system.afterBuilding (pairs t) (making lim t) p root g
+abbrev pub afterBuilding : Limits → Tables → ℕ → Two → Interned → Checked (List Two) → Res Outcome
+afterBuilding lim t budget p root g = system.afterBuilding (pairs t) (making lim t) budget p root g
 
 abbrev pub runOf : Limits → Tables → Two → ℕ → Res Outcome
 runOf lim t p b = system.runOf (pairs t) (making lim t) p b

@@ -3,7 +3,7 @@
 use mathlib.Core.Path.{_≡_}
 use mathlib.Core.Bool.{Bool, true, false}
 use mathlib.Core.List.{List, [], _∷_, _++_, map}
-use Prim.Native.Nat.{ℕ, zero, suc, _≤_}
+use Prim.Native.Nat.{ℕ, zero, suc, _+_, _-_, _≤_}
 use lib.Dec.{ltb, eqb}
 use lib.ListN.{length, getD}
 use Rattle.spec.specs.Bytes.{pick, both, either, any, In, Decides, place, Two, Res, ok, refused, _>>=_, Checked, passed, cutShort}
@@ -187,6 +187,8 @@ pub record Outcome : Type 0 where
   pub quality : Two
   pub pool : Pool
   pub root : ℕ
+  -- (02, Paper 13) "the checks that passed": all but the one that is expired
+  pub checks : ℕ
 
 -- the state between two rounds
 pub record State : Type 0 where
@@ -194,30 +196,33 @@ pub record State : Type 0 where
   pub qualities : List Two
   pub terms : List ℕ
   pub rounds : ℕ
+  -- the checks that still pass, and those that passed before
   pub budget : ℕ
+  pub spent : ℕ
 
-abbrev pub outcome : {N : Type 0} → Bool → List N → State → Outcome
-outcome complete ps s = record { complete = complete; nodes = length ps; rounds = s .rounds; quality = getD (s .qualities) 0 (0, 0); pool = s .pool; root = getD (s .terms) 0 0 }
+-- what a run reports that ends in the round after state s, with `left` checks
+abbrev pub outcome : {N : Type 0} → Bool → List N → State → ℕ → Outcome
+outcome complete ps s left = record { complete = complete; nodes = length ps; rounds = s .rounds; quality = getD (s .qualities) 0 (0, 0); pool = s .pool; root = getD (s .terms) 0 0; checks = s .spent + (s .budget - left) }
 
--- the state after a finished round
+-- the state after a finished round, with b checks left
 abbrev pub stateAfter : {N : Type 0} → State → List (Turn N) → Terms → ℕ → State
-stateAfter s ws r b = record { pool = r .pool; qualities = map (λ w. w .quality) ws; terms = r .terms; rounds = suc (s .rounds); budget = b }
+stateAfter s ws r b = record { pool = r .pool; qualities = map (λ w. w .quality) ws; terms = r .terms; rounds = suc (s .rounds); budget = b; spent = s .spent + (s .budget - b) }
 
 -- "The run is complete at the first finished round without change." "The rounds reported are the finished ones that changed a quality."
 -- `go` goes on from the state after the round.
 unfoldable pub afterRound : {N : Type 0} → (State → Res Outcome) → List N → State → List (Turn N) → Checked Terms → Res Outcome
 unfolding any
-afterRound go ps s ws cutShort = ok (outcome false ps s)
-afterRound go ps s ws (passed r b) = elim (any changes ws) [ false ↦ ok (outcome true ps s) | true ↦ go (stateAfter s ws r b) ]
+afterRound go ps s ws cutShort = ok (outcome false ps s 0)
+afterRound go ps s ws (passed r b) = elim (any changes ws) [ false ↦ ok (outcome true ps s b) | true ↦ go (stateAfter s ws r b) ]
 
 module _ {N : Type 0} (S : System N) where
-  -- "A run cut short in building reports 1 pair, any other run n." "one cut short leaves every quality as it was"
-  unfoldable pub started : N → Interned → ℕ → Outcome
-  started p root n = record { complete = false; nodes = n; rounds = 0; quality = S .startingQuality p; pool = root .pool; root = root .term }
+  -- "A run cut short in building reports 1 pair, any other run n." "one cut short leaves every quality as it was". All checks of its budget passed.
+  unfoldable pub started : ℕ → N → Interned → ℕ → Outcome
+  started budget p root n = record { complete = false; nodes = n; rounds = 0; quality = S .startingQuality p; pool = root .pool; root = root .term; checks = budget }
 
-  -- the state before the first round
-  abbrev pub startState : List N → Terms → ℕ → State
-  startState ps r b = record { pool = r .pool; qualities = map (S .startingQuality) ps; terms = r .terms; rounds = 0; budget = b }
+  -- the state before the first round, with b checks left of the run's budget
+  abbrev pub startState : ℕ → List N → Terms → ℕ → State
+  startState budget ps r b = record { pool = r .pool; qualities = map (S .startingQuality) ps; terms = r .terms; rounds = 0; budget = b; spent = budget - b }
 
 module _ {N : Type 0} (S : System N) (M : Making N) where
   -- A round: "one [check] at each round's start and one a pair in it"
@@ -229,23 +234,23 @@ module _ {N : Type 0} (S : System N) (M : Making N) where
   -- Fuel: the budget; every round takes a check.
   unfoldable pub roundsFrom : ℕ → List N → State → Res Outcome
   unfolding afterRound roundTerms turnsOf
-  roundsFrom zero ps s = ok (outcome false ps s)
+  roundsFrom zero ps s = ok (outcome false ps s 0)
   roundsFrom (suc f) ps s = do
     let ws = turnsOf S ps (s .qualities)
     r ← roundTerms ps s ws (s .budget)
     afterRound (λ u. roundsFrom f ps u) ps s ws r
 
-  unfoldable pub afterStarting : N → Interned → List N → Checked Terms → Res Outcome
+  unfoldable pub afterStarting : ℕ → N → Interned → List N → Checked Terms → Res Outcome
   unfolding roundsFrom started
-  afterStarting p root ps cutShort = ok (started S p root (length ps))
-  afterStarting p root ps (passed r b) = roundsFrom b ps (startState S ps r b)
+  afterStarting budget p root ps cutShort = ok (started S budget p root (length ps))
+  afterStarting budget p root ps (passed r b) = roundsFrom b ps (startState S budget ps r b)
 
-  unfoldable pub afterBuilding : N → Interned → Checked (List N) → Res Outcome
+  unfoldable pub afterBuilding : ℕ → N → Interned → Checked (List N) → Res Outcome
   unfolding afterStarting started startingTerms
-  afterBuilding p root cutShort = ok (started S p root 1)
-  afterBuilding p root (passed ps b) = do
+  afterBuilding budget p root cutShort = ok (started S budget p root 1)
+  afterBuilding budget p root (passed ps b) = do
     r ← startingTerms M ps b (root .pool)
-    afterStarting p root ps r
+    afterStarting budget p root ps r
 
   -- "The root's starting term is entered before building"
   unfoldable pub runOf : N → ℕ → Res Outcome
@@ -253,7 +258,7 @@ module _ {N : Type 0} (S : System N) (M : Making N) where
   runOf p b = do
     root ← M .startingTerm [] p
     g ← build S (M .limit) p b
-    afterBuilding p root g
+    afterBuilding b p root g
 
 -- ---- what it means, with no run in sight
 module _ {N : Type 0} (S : System N) where

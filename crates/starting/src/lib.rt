@@ -38,10 +38,10 @@ pub fn start_mass(s: &[u8], im: Image, l: usize, r: usize) -> u32
     short_u64(a + b)
 }
 
-// What a run that is cut short before its rounds reports.
+// What a run that is cut short before its rounds reports: all checks of its budget passed.
 pub fn report_started(s: &[u8], im: Image, q: Query, n: usize, root: usize) -> Outcome
     requires { ⌜ Loaded (now s) im × Valid (tablesOf (now s)) × (q .left < im .classes) × (q .right < im .classes) ⌝ }
-    ensures { λ o. ⌜ o ≡ startedIn (tablesOf (now (s .entry))) (askedOf q) n root ⌝ }
+    ensures { λ o. ⌜ o ≡ startedIn (tablesOf (now (s .entry))) (askedOf q) n root (q .budget) ⌝ }
 {
     let l = size_u16(q.left);
     let r = size_u16(q.right);
@@ -52,5 +52,6 @@ pub fn report_started(s: &[u8], im: Image, q: Query, n: usize, root: usize) -> O
         size: start_size(s, im, l, r),
         mass: start_mass(s, im, l, r),
         root: root,
+        checks: q.budget,
     }
 }

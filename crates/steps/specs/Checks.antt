@@ -8,13 +8,19 @@ use lib.ListN.{length}
 use Rattle.spec.specs.Bytes.{Res, ok, refused, _>>=_, Checked, passed, cutShort}
 use Rattle.spec.specs.Pool.{Pool, Interned}
 use Rattle.spec.specs.System.{System, Making, lookUp, Turn, choiceTerm, Terms, prepend, turnsTerms, startingTerms, State, roundTerms}
-use Rattle.laws.specs.Results.{Later}
+use Rattle.laws.specs.Results.{Later, refused-ok, ok-inj, passed-inj, cut-passed}
 
 -- what takes n checks, with a budget of b: cut short below n, and b - n left from there on
 pub data Spent {A : Type 0} (n b : ℕ) : Res (Checked A) → Type 0 where
   cut : b < n → Spent n b (ok cutShort)
   paid : {a : A} {c : ℕ} → b ≡ n + c → Spent n b (ok (passed a c))
   ended : {k : ℕ} → Spent n b (refused k)
+
+-- so many are left
+pub spent-left : {A : Type 0} (n b : ℕ) (x : Res (Checked A)) → Spent n b x → (a : A) (c : ℕ) → x ≡ ok (passed a c) → b ≡ n + c
+spent-left n b x (cut h) a c z = absurd (cut-passed (ok-inj z))
+spent-left n b x (paid h) a c z = omega (arith, passed-inj (ok-inj z) .1)
+spent-left n b x ended a c z = absurd (refused-ok z)
 
 spent-prepend : (a n b : ℕ) (r : Res (Checked Terms)) → Spent n b r → Spent (suc n) (suc b) (r >>= λ x. ok (prepend a x))
 spent-prepend a n b r (cut h) = cut (omega arith)
@@ -85,7 +91,7 @@ round-spends S M ps s ws (suc b) l = go (turnsTerms M (lookUp (S .same) 0 ps (s 
 
 -- the state with another budget
 abbrev pub withBudget : State → ℕ → State
-withBudget s b = record { pool = s .pool; qualities = s .qualities; terms = s .terms; rounds = s .rounds; budget = b }
+withBudget s b = record { pool = s .pool; qualities = s .qualities; terms = s .terms; rounds = s .rounds; budget = b; spent = s .spent }
 
 pub round-later : {N : Type 0} (S : System N) (M : Making N) (ps : List N) (s : State) (ws : List (Turn N)) (b c e d : ℕ) → c ≡ b + e → Later e (roundTerms S M ps s ws b) (roundTerms S M ps (withBudget s d) ws c)
 unfolding roundTerms

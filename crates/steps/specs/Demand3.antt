@@ -46,16 +46,16 @@ module _ {N : Type 0} (S : System N) (M : Making N) (Move : N → List N → Lis
   least-of-height b o e = go (run-ends S M p b o e)
     where
       go : Ends S M p b o → LeastOf S Move (o .rounds) p (o .quality)
-      go (inBuilding root k z) = started-least S Move p root 1 o z
-      go (inStarting root ps c k h z) = started-least S Move p root (length ps) o z
+      go (inBuilding root k z) = started-least S Move b p root 1 o z
+      go (inStarting root ps c k h z) = started-least S Move b p root (length ps) o z
       go (inRounds ps c d k h f) = rw (root-quality S (M .limit) p b c d ps o k f) (least-after-rounds b c ps k (o .rounds) p (root-in S (M .limit) p b c ps k))
 
   -- ---- a complete run is least among the derivations of every height
   pub least-of-every-height : (b : ℕ) (o : Outcome) → runOf S M p b ≡ ok o → o .complete ≡ true → (h : ℕ) (z : Two) → Derivation S Move h p z → o .quality ⊑ z
   least-of-every-height b o e full h z d = go (run-ends S M p b o e)
     where
-      partial : (root : Interned) (n : ℕ) → o ≡ started S p root n → o .quality ⊑ z
-      partial root n s = let (a, r, c, q) = started-says S p root n o s in absurd (clash (sym full ∙ c))
+      partial : (root : Interned) (n : ℕ) → o ≡ started S b p root n → o .quality ⊑ z
+      partial root n s = let (a, r, c, q) = started-says S b p root n o s in absurd (clash (sym full ∙ c))
 
       go : Ends S M p b o → o .quality ⊑ z
       go (inBuilding root k s) = partial root 1 s
@@ -89,8 +89,8 @@ module _ {N : Type 0} (S : System N) (M : Making N) (B : Backs S) (p : N) where
 pub quality-at : {N : Type 0} (S : System N) (M : Making N) (p : N) (B C : ℕ) (ps : List N) → build S (M .limit) p B ≡ ok (passed ps C) → (b : ℕ) (o : Outcome) → runOf S M p b ≡ ok o → o .quality ≡ qualityAfter S ps (o .rounds) p
 quality-at {N = N} S M p B C ps g b o e = go (run-ends S M p b o e)
   where
-    cut : (root : Interned) (n : ℕ) → o ≡ started S p root n → o .quality ≡ qualityAfter S ps (o .rounds) p
-    cut root n s = let (x, r, c, k) = started-says S p root n o s in rw (r, k) (sym (q-start S ps p (root-in S (M .limit) p B C ps g)))
+    cut : (root : Interned) (n : ℕ) → o ≡ started S b p root n → o .quality ≡ qualityAfter S ps (o .rounds) p
+    cut root n s = let (x, r, c, k) = started-says S b p root n o s in rw (r, k) (sym (q-start S ps p (root-in S (M .limit) p B C ps g)))
 
     go : Ends S M p b o → o .quality ≡ qualityAfter S ps (o .rounds) p
     go (inBuilding root k s) = cut root 1 s
@@ -102,8 +102,8 @@ start-at : {N : Type 0} (S : System N) (M : Making N) (p : N) (b : ℕ) (o : Out
 start-at {N = N} S M p b o e z = go (run-ends S M p b o e)
   where
     go : Ends S M p b o → o .quality ≡ S .startingQuality p
-    go (inBuilding root k s) = started-says S p root 1 o s .3
-    go (inStarting root qs d k h s) = started-says S p root (length qs) o s .3
+    go (inBuilding root k s) = started-says S b p root 1 o s .3
+    go (inStarting root qs d k h s) = started-says S b p root (length qs) o s .3
     go (inRounds qs d m k l f) = root-quality S (M .limit) p b d m qs o k f ∙ ap (λ (r : ℕ). qualityAfter S qs r p) z ∙ q-start S qs p (root-in S (M .limit) p b d qs k)
 
 -- The longer of two runs is never above the shorter.
@@ -117,8 +117,8 @@ never-above {N = N} S M p b c o u h e k = go (run-ends S M p c u k)
     none z = ⊑-of-eq (start-at S M p c u k z ∙ sym (start-at S M p b o e (omega (arith, grow))))
 
     go : Ends S M p c u → u .quality ⊑ o .quality
-    go (inBuilding root g s) = none (started-says S p root 1 u s .1)
-    go (inStarting root qs d g l s) = none (started-says S p root (length qs) u s .1)
+    go (inBuilding root g s) = none (started-says S c p root 1 u s .1)
+    go (inStarting root qs d g l s) = none (started-says S c p root (length qs) u s .1)
     go (inRounds qs d m g l f) = rw (quality-at S M p c d qs g c u k, quality-at S M p c d qs g b o e) (q-mono S qs (o .rounds) (u .rounds) p (root-in S (M .limit) p c d qs g) grow)
 
 -- Where the shorter is complete the longer is the same run: not refused, complete, and the same in all that it reports.
@@ -135,8 +135,8 @@ pub nodes-reported : {N : Type 0} (S : System N) (M : Making N) (p : N) (n : ℕ
 nodes-reported S M p n count b o e = go (run-ends S M p b o e)
   where
     go : Ends S M p b o → (b < n → o .nodes ≡ 1) × (n ≤ b → o .nodes ≡ n)
-    go (inBuilding root k s) = let l = build-cut S (M .limit) p n count b k in ((λ h. started-says S p root 1 o s .0), λ h. absurd (omega arith))
-    go (inStarting root ps c k l s) = let (x, y) = build-passed S (M .limit) p n count b c ps k in ((λ h. absurd (omega arith)), λ h. started-says S p root (length ps) o s .0 ∙ x)
+    go (inBuilding root k s) = let l = build-cut S (M .limit) p n count b k in ((λ h. started-says S b p root 1 o s .0), λ h. absurd (omega arith))
+    go (inStarting root ps c k l s) = let (x, y) = build-passed S (M .limit) p n count b c ps k in ((λ h. absurd (omega arith)), λ h. started-says S b p root (length ps) o s .0 ∙ x)
     go (inRounds ps c m k l f) = let (x, y) = build-passed S (M .limit) p n count b c ps k in ((λ h. absurd (omega arith)), λ h. f .nodes ∙ x)
 
 -- The rounds of a run with b checks that gets past its starting terms, where ps is its full graph and n its number of nodes.
@@ -220,11 +220,11 @@ reported {N = N} S M p B C ps g R q b o e = go (run-ends S M p b o e)
     go : Ends S M p b o → Reported S p ps (length ps) R b o
     go (inBuilding root k s) =
         let l = build-cut S (M .limit) p (length ps) count b k in
-        let (x, r, c, z) = started-says S p root 1 o s in
+        let (x, r, c, z) = started-says S b p root 1 o s in
         record { cutInBuilding = λ i. (x, r, c); cutInStarting = λ i. absurd (omega arith); pastStarting = λ i. absurd (omega arith); quality = whole }
     go (inStarting root qs d k h s) =
         let (n, l) = build-passed S (M .limit) p (length ps) count b d qs k in
-        let (x, r, c, z) = started-says S p root (length qs) o s in
+        let (x, r, c, z) = started-says S b p root (length qs) o s in
         record { cutInBuilding = λ i. absurd (omega arith); cutInStarting = λ i j. (x ∙ n, r, c); pastStarting = λ i. absurd (omega arith); quality = whole }
     go (inRounds qs d m k l f) = by (rw (build-same S (M .limit) p b d B C qs ps k g) at f) (build-passed S (M .limit) p (length ps) count b d qs k)
       where

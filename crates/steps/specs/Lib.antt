@@ -15,8 +15,10 @@ pub mod RunFrom
 pub mod Standing
 pub mod Run
 pub mod Outcomes
+pub mod Charges
 pub mod Refusals
 pub mod Limits
 pub mod Demand3
 pub mod Readings
 pub mod Repeats
+pub mod Mirror

@@ -126,24 +126,24 @@ module _ {N : Type 0} (S : System N) (L M : Making N) (W : Roomier L M) where
           u : State
           u = stateAfter s ws r b
 
-          by : (x : Bool) → Kept {A = Outcome} (elim x [ false ↦ ok (outcome true ps s) | true ↦ roundsFrom S L f ps u ]) (elim x [ false ↦ ok (outcome true ps s) | true ↦ roundsFrom S M f ps u ])
+          by : (x : Bool) → Kept {A = Outcome} (elim x [ false ↦ ok (outcome true ps s b) | true ↦ roundsFrom S L f ps u ]) (elim x [ false ↦ ok (outcome true ps s b) | true ↦ roundsFrom S M f ps u ])
           by true = ih u
           by false = refl
 
-  after-kept : (p : N) (root : Interned) (g : Checked (List N)) → Kept (afterBuilding S L p root g) (afterBuilding S M p root g)
+  after-kept : (budget : ℕ) (p : N) (root : Interned) (g : Checked (List N)) → Kept (afterBuilding S L budget p root g) (afterBuilding S M budget p root g)
   unfolding afterBuilding afterStarting
-  after-kept p root cutShort = refl
-  after-kept p root (passed ps b) = kept-bind (startingTerms L ps b (root .pool)) (startingTerms M ps b (root .pool)) _ _ (starting-kept L M W ps b (root .pool)) go
+  after-kept budget p root cutShort = refl
+  after-kept budget p root (passed ps b) = kept-bind (startingTerms L ps b (root .pool)) (startingTerms M ps b (root .pool)) _ _ (starting-kept L M W ps b (root .pool)) go
     where
-      go : (r : Checked Terms) → Kept (afterStarting S L p root ps r) (afterStarting S M p root ps r)
+      go : (r : Checked Terms) → Kept (afterStarting S L budget p root ps r) (afterStarting S M budget p root ps r)
       go cutShort = refl
-      go (passed r c) = rounds-kept c ps (startState S ps r c)
+      go (passed r c) = rounds-kept c ps (startState S budget ps r c)
 
 -- ---- the run
 module _ {N : Type 0} (S : System N) (L M : Making N) (W : Wider L M) where
   pub run-kept : (p : N) (b : ℕ) → Kept (runOf S L p b) (runOf S M p b)
   unfolding runOf
-  run-kept p b = kept-bind (L .startingTerm [] p) (M .startingTerm [] p) _ _ (W .terms .start [] p) (λ root. kept-bind (build S (L .limit) p b) (build S (M .limit) p b) _ _ (build-kept S (L .limit) (M .limit) (W .nodes) p b) (λ g. after-kept S L M (W .terms) p root g))
+  run-kept p b = kept-bind (L .startingTerm [] p) (M .startingTerm [] p) _ _ (W .terms .start [] p) (λ root. kept-bind (build S (L .limit) p b) (build S (M .limit) p b) _ _ (build-kept S (L .limit) (M .limit) (W .nodes) p b) (λ g. after-kept S L M (W .terms) b p root g))
 
   -- of a run that is not refused the same nodes have their turns in building
   pub run-turned : (p : N) (b : ℕ) (o : Outcome) → runOf S L p b ≡ ok o → turned S (M .limit) p b ≡ turned S (L .limit) p b
@@ -156,13 +156,13 @@ module _ {N : Type 0} (S : System N) (L M : Making N) (W : Wider L M) where
   -- Where both may enter as many nodes, a run refused by 12 is refused by 12: before it only the root's starting term was made, and the terms are refused by 13 alone.
   pub run-twelve : Refuses13 L → L .limit ≡ M .limit → (p : N) (b : ℕ) → runOf S L p b ≡ refused 12 → runOf S M p b ≡ refused 12
   unfolding runOf
-  run-twelve R same p b e = go (bind-refused (L .startingTerm [] p) (λ root. build S (L .limit) p b >>= λ g. afterBuilding S L p root g) 12 e)
+  run-twelve R same p b e = go (bind-refused (L .startingTerm [] p) (λ root. build S (L .limit) p b >>= λ g. afterBuilding S L b p root g) 12 e)
     where
-      go : (L .startingTerm [] p ≡ refused 12) ⊎ ((root : Interned) × (L .startingTerm [] p ≡ ok root) × ((build S (L .limit) p b >>= λ g. afterBuilding S L p root g) ≡ refused 12)) → (M .startingTerm [] p >>= λ root. build S (M .limit) p b >>= λ g. afterBuilding S M p root g) ≡ refused 12
+      go : (L .startingTerm [] p ≡ refused 12) ⊎ ((root : Interned) × (L .startingTerm [] p ≡ ok root) × ((build S (L .limit) p b >>= λ g. afterBuilding S L b p root g) ≡ refused 12)) → (M .startingTerm [] p >>= λ root. build S (M .limit) p b >>= λ g. afterBuilding S M b p root g) ≡ refused 12
       go (inl z) = absurd (omega (arith, R .start [] p 12 z))
-      go (inr (root, y, z)) = elim (bind-refused (build S (L .limit) p b) (λ g. afterBuilding S L p root g) 12 z) [
+      go (inr (root, y, z)) = elim (bind-refused (build S (L .limit) p b) (λ g. afterBuilding S L b p root g) 12 z) [
         | inl x ↦ rw (kept-ok (L .startingTerm [] p) (M .startingTerm [] p) root (W .terms .start [] p) y, sym (ap (λ (n : ℕ). build S n p b) same) ∙ x) refl
-        | inr x ↦ absurd (omega (arith, after-only S L R p root (x .0) 12 (x .2)))
+        | inr x ↦ absurd (omega (arith, after-only S L R b p root (x .0) 12 (x .2)))
       ]
 
 -- ---- a larger limit of nodes alone
@@ -179,10 +179,10 @@ module _ {N : Type 0} (S : System N) (L M : Making N) (W : Wider L M) (B : Roomi
   run-or-twelve p b = starts (L .startingTerm [] p) (M .startingTerm [] p) (both-kept (L .startingTerm [] p) (M .startingTerm [] p) (W .terms .start [] p) (B .start [] p) (R .start [] p) (Q .start [] p))
     where
       rest : Making N → Interned → Res (Checked (List N)) → Res Outcome
-      rest K root g = g >>= λ x. afterBuilding S K p root x
+      rest K root g = g >>= λ x. afterBuilding S K b p root x
 
       built : (root : Interned) (x : Res (Checked (List N))) → build S (L .limit) p b ≡ x → (y : Res (Checked (List N))) → Kept x y → (rest L root x ≡ refused 12) ⊎ (rest L root x ≡ rest M root y)
-      built root (ok g) e y k = inr (rw k (both-kept (afterBuilding S L p root g) (afterBuilding S M p root g) (after-kept S L M (W .terms) p root g) (after-kept S M L B p root g) (after-only S L R p root g) (after-only S M Q p root g)))
+      built root (ok g) e y k = inr (rw k (both-kept (afterBuilding S L b p root g) (afterBuilding S M b p root g) (after-kept S L M (W .terms) b p root g) (after-kept S M L B b p root g) (after-only S L R b p root g) (after-only S M Q b p root g)))
       built root (refused n) e y k = inl (ap refused (build-refused S (L .limit) p b n e .0))
 
       starts : (x y : Res Interned) → x ≡ y → ((x >>= λ root. rest L root (build S (L .limit) p b)) ≡ refused 12) ⊎ ((x >>= λ root. rest L root (build S (L .limit) p b)) ≡ (y >>= λ root. rest M root (build S (M .limit) p b)))

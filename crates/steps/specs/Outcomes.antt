@@ -31,9 +31,9 @@ pub root-quality : {N : Type 0} (S : System N) (lim : ℕ) (p : N) (b c d : ℕ)
 root-quality S lim p b c d ps o e f = f .quality ∙ first-place S p ps (qualitiesAfter S (o .rounds) ps) (build-first S lim p b c ps e)
 
 -- ---- a run cut short before its rounds
-pub started-says : {N : Type 0} (S : System N) (p : N) (root : Interned) (n : ℕ) (o : Outcome) → o ≡ started S p root n → (o .nodes ≡ n) × (o .rounds ≡ 0) × (o .complete ≡ false) × (o .quality ≡ S .startingQuality p)
+pub started-says : {N : Type 0} (S : System N) (b : ℕ) (p : N) (root : Interned) (n : ℕ) (o : Outcome) → o ≡ started S b p root n → (o .nodes ≡ n) × (o .rounds ≡ 0) × (o .complete ≡ false) × (o .quality ≡ S .startingQuality p)
 unfolding started
-started-says S p root n o e = (ap (λ (z : Outcome). z .nodes) e, ap (λ (z : Outcome). z .rounds) e, ap (λ (z : Outcome). z .complete) e, ap (λ (z : Outcome). z .quality) e)
+started-says S b p root n o e = (ap (λ (z : Outcome). z .nodes) e, ap (λ (z : Outcome). z .rounds) e, ap (λ (z : Outcome). z .complete) e, ap (λ (z : Outcome). z .quality) e)
 
 zero-least : {N : Type 0} (S : System N) (Move : N → List N → List ℕ → Type 0) (p : N) → LeastOf S Move 0 p (S .startingQuality p)
 zero-least S Move p = ((0, le-refl 0, start refl), λ y d. go (d .0) (d .1) y (d .2))
@@ -42,8 +42,8 @@ zero-least S Move p = ((0, le-refl 0, start refl), λ y d. go (d .0) (d .1) y (d
     go k h y (start e) = ⊑-of-eq (sym e)
     go k h y (action cs x m zs l e) = absurd (omega arith)
 
-pub started-least : {N : Type 0} (S : System N) (Move : N → List N → List ℕ → Type 0) (p : N) (root : Interned) (n : ℕ) (o : Outcome) → o ≡ started S p root n → LeastOf S Move (o .rounds) p (o .quality)
-started-least S Move p root n o e = let (a, r, c, q) = started-says S p root n o e in rw (r, q) (zero-least S Move p)
+pub started-least : {N : Type 0} (S : System N) (Move : N → List N → List ℕ → Type 0) (b : ℕ) (p : N) (root : Interned) (n : ℕ) (o : Outcome) → o ≡ started S b p root n → LeastOf S Move (o .rounds) p (o .quality)
+started-least S Move b p root n o e = let (a, r, c, q) = started-says S b p root n o e in rw (r, q) (zero-least S Move p)
 
 -- ---- a run that reached its rounds
 pub quiet-if-complete : {N : Type 0} (S : System N) (ps : List N) (b : ℕ) (o : Outcome) → Ended S ps b o → o .complete ≡ true → changed S ps (o .rounds) ≡ false
@@ -103,8 +103,8 @@ rounds-reported S ps R b o earlier quiet f = go (f .status)
 pub rounds-grow : {N : Type 0} (S : System N) (M : Making N) (p : N) (b c : ℕ) (o u : Outcome) → b ≤ c → runOf S M p b ≡ ok o → runOf S M p c ≡ ok u → o .rounds ≤ u .rounds
 rounds-grow {N = N} S M p b c o u h e k = go (run-ends S M p b o e) (run-ends S M p c u k)
   where
-    none : (root : Interned) (n : ℕ) → o ≡ started S p root n → o .rounds ≤ u .rounds
-    none root n s = rw (started-says S p root n o s .1) zero-le
+    none : (root : Interned) (n : ℕ) → o ≡ started S b p root n → o .rounds ≤ u .rounds
+    none root n s = rw (started-says S b p root n o s .1) zero-le
 
     count : (ps : List N) (d : ℕ) → build S (M .limit) p b ≡ ok (passed ps d) → NodeCount S p (length ps)
     count ps d i = (ps, build-whole S (M .limit) p b d ps i, refl)

@@ -150,8 +150,8 @@ module _ {N : Type 0} (S : System N) (M : Making N) (Okay : N → Type 0) (Good 
       valid : PoolValid (s .pool)
       holds : Holds Good (s .pool) ps (s .qualities) (s .terms)
 
-    outcome-good : (ps : List N) → Graphed ps → (s : State) → StateGood ps s → (complete : Bool) → RunGood Good p (outcome complete ps s)
-    outcome-good ps B s G complete = let (valid, within, good) = go (rw (B .first .1) at (G .holds)) in record { valid = valid; within = within; good = good }
+    outcome-good : (ps : List N) → Graphed ps → (s : State) → StateGood ps s → (complete : Bool) (left : ℕ) → RunGood Good p (outcome complete ps s left)
+    outcome-good ps B s G complete left = let (valid, within, good) = go (rw (B .first .1) at (G .holds)) in record { valid = valid; within = within; good = good }
       where
         go : {qs : List Two} {l : List ℕ} → Holds Good (s .pool) (p ∷ B .first .0) qs l → PoolValid (s .pool) × (getD l 0 0 < length (s .pool)) × Good p (getD qs 0 (0, 0)) (treeAt (s .pool) (getD l 0 0))
         go (node a g hs) = (G .valid, a, g)
@@ -166,7 +166,7 @@ module _ {N : Type 0} (S : System N) (M : Making N) (Okay : N → Type 0) (Good 
 
     rounds-good : (f : ℕ) (ps : List N) → Graphed ps → (s : State) → StateGood ps s → (o : Outcome) → roundsFrom S M f ps s ≡ ok o → RunGood Good p o
     unfolding roundsFrom afterRound
-    rounds-good zero ps B s G o e = rw (← ok-inj e) (outcome-good ps B s G false)
+    rounds-good zero ps B s G o e = rw (← ok-inj e) (outcome-good ps B s G false 0)
     rounds-good (suc f) ps B s G o e =
         let (r, er, e′) = bind-ok (roundTerms S M ps s (turnsOf S ps (s .qualities)) (s .budget)) _ o e in
         after r er e′ (λ u k. rounds-good f ps B u k o)
@@ -178,14 +178,14 @@ module _ {N : Type 0} (S : System N) (M : Making N) (Okay : N → Type 0) (Good 
             → ((u : State) → StateGood ps u → roundsFrom S M f ps u ≡ ok o → RunGood Good p o) → RunGood Good p o
         after (passed r left) er e ih = go (any changes ws) e
           where
-            go : (b : Bool) → (elim b [ false ↦ ok (outcome true ps s) | true ↦ roundsFrom S M f ps (stateAfter s ws r left) ]) ≡ ok o → RunGood Good p o
-            go false e = rw (← ok-inj e) (outcome-good ps B s G true)
+            go : (b : Bool) → (elim b [ false ↦ ok (outcome true ps s left) | true ↦ roundsFrom S M f ps (stateAfter s ws r left) ]) ≡ ok o → RunGood Good p o
+            go false e = rw (← ok-inj e) (outcome-good ps B s G true left)
             go true e = let D = round-good ps B s G (s .budget) r left er in ih (stateAfter s ws r left) (record { valid = D .valid; holds = D .holds }) e
-        after cutShort er e ih = rw (← ok-inj e) (outcome-good ps B s G false)
+        after cutShort er e ih = rw (← ok-inj e) (outcome-good ps B s G false 0)
 
-    root-good : (root : Interned) → Makes Good [] p (S .startingQuality p) root → (n : ℕ) → RunGood Good p (started S p root n)
+    root-good : (root : Interned) → Makes Good [] p (S .startingQuality p) root → (b n : ℕ) → RunGood Good p (started S b p root n)
     unfolding started
-    root-good root R n = record { valid = R .valid; within = R .within; good = R .good }
+    root-good root R b n = record { valid = R .valid; within = R .within; good = R .good }
 
     pub run-good : (b : ℕ) (o : Outcome) → runOf S M p b ≡ ok o → RunGood Good p o
     unfolding runOf afterBuilding afterStarting
@@ -195,14 +195,14 @@ module _ {N : Type 0} (S : System N) (M : Making N) (Okay : N → Type 0) (Good 
         building root (L .start [] p root h empty-valid er) g eg e″
       where
         starting : (root : Interned) → Makes Good [] p (S .startingQuality p) root → (ps : List N) → Graphed ps → (left : ℕ) (r : Checked Terms) → startingTerms M ps left (root .pool) ≡ ok r
-            → afterStarting S M p root ps r ≡ ok o → RunGood Good p o
+            → afterStarting S M b p root ps r ≡ ok o → RunGood Good p o
         starting root R ps B left (passed r c) es e =
             let D = starting-done ps left (root .pool) r c (R .valid) (λ q i. reach-all S Okay (L .onward) p h q (B .whole .exactly q .0 i)) es in
-            rounds-good c ps B (startState S ps r c) (record { valid = D .valid; holds = D .holds }) o e
-        starting root R ps B left cutShort es e = rw (← ok-inj e) (root-good root R (length ps))
+            rounds-good c ps B (startState S b ps r c) (record { valid = D .valid; holds = D .holds }) o e
+        starting root R ps B left cutShort es e = rw (← ok-inj e) (root-good root R b (length ps))
 
-        building : (root : Interned) → Makes Good [] p (S .startingQuality p) root → (g : Checked (List N)) → build S (M .limit) p b ≡ ok g → afterBuilding S M p root g ≡ ok o → RunGood Good p o
+        building : (root : Interned) → Makes Good [] p (S .startingQuality p) root → (g : Checked (List N)) → build S (M .limit) p b ≡ ok g → afterBuilding S M b p root g ≡ ok o → RunGood Good p o
         building root R (passed ps c) eg e =
             let (r, er, e′) = bind-ok (startingTerms M ps c (root .pool)) _ o e in
             starting root R ps (record { whole = build-whole S (M .limit) p b c ps eg; first = build-first S (M .limit) p b c ps eg }) c r er e′
-        building root R cutShort eg e = rw (← ok-inj e) (root-good root R 1)
+        building root R cutShort eg e = rw (← ok-inj e) (root-good root R b 1)

@@ -45,38 +45,38 @@ module _ {N : Type 0} (S : System N) (M : Making N) (R : Refuses13 M) where
 
   rounds-only : (f : ℕ) (ps : List N) (s : State) → Only13 (roundsFrom S M f ps s)
   unfolding roundsFrom afterRound
-  rounds-only zero ps s = only-ok (outcome false ps s)
+  rounds-only zero ps s = only-ok (outcome false ps s 0)
   rounds-only (suc f) ps s = only-bind (roundTerms S M ps s ws (s .budget)) _ (round-only ps s ws (s .budget)) (λ r. go r (λ u. rounds-only f ps u))
     where
       ws : List (Turn N)
       ws = turnsOf S ps (s .qualities)
 
-      by : (x : Bool) (r : Terms) (b : ℕ) → ((u : State) → Only13 (roundsFrom S M f ps u)) → Only13 {A = Outcome} (elim x [ false ↦ ok (outcome true ps s) | true ↦ roundsFrom S M f ps (stateAfter s ws r b) ])
+      by : (x : Bool) (r : Terms) (b : ℕ) → ((u : State) → Only13 (roundsFrom S M f ps u)) → Only13 {A = Outcome} (elim x [ false ↦ ok (outcome true ps s b) | true ↦ roundsFrom S M f ps (stateAfter s ws r b) ])
       by true r b ih = ih (stateAfter s ws r b)
-      by false r b ih = only-ok (outcome true ps s)
+      by false r b ih = only-ok (outcome true ps s b)
 
       go : (r : Checked Terms) → ((u : State) → Only13 (roundsFrom S M f ps u)) → Only13 (afterRound (λ u. roundsFrom S M f ps u) ps s ws r)
-      go cutShort ih = only-ok (outcome false ps s)
+      go cutShort ih = only-ok (outcome false ps s 0)
       go (passed r b) ih = by (any changes ws) r b ih
 
   -- once the graph is built, 13 is the only refusal
-  pub after-only : (p : N) (root : Interned) (g : Checked (List N)) → Only13 (afterBuilding S M p root g)
+  pub after-only : (budget : ℕ) (p : N) (root : Interned) (g : Checked (List N)) → Only13 (afterBuilding S M budget p root g)
   unfolding afterBuilding afterStarting
-  after-only p root cutShort = only-ok (started S p root 1)
-  after-only p root (passed ps b) = only-bind (startingTerms M ps b (root .pool)) _ (starting-only M R ps b (root .pool)) go
+  after-only budget p root cutShort = only-ok (started S budget p root 1)
+  after-only budget p root (passed ps b) = only-bind (startingTerms M ps b (root .pool)) _ (starting-only M R ps b (root .pool)) go
     where
-      go : (r : Checked Terms) → Only13 (afterStarting S M p root ps r)
-      go cutShort = only-ok (started S p root (length ps))
-      go (passed r c) = rounds-only c ps (startState S ps r c)
+      go : (r : Checked Terms) → Only13 (afterStarting S M budget p root ps r)
+      go cutShort = only-ok (started S budget p root (length ps))
+      go (passed r c) = rounds-only c ps (startState S budget ps r c)
 
   -- A run is refused by 12, and then more nodes than the limit are reachable; or by 13.
   pub run-refused : (p : N) (b k : ℕ) → runOf S M p b ≡ refused k → ((k ≡ 12) × ((ps : List N) × Some S p ps × (M .limit < length ps))) ⊎ (k ≡ 13)
   unfolding runOf
-  run-refused p b k e = go (bind-refused (M .startingTerm [] p) (λ root. build S (M .limit) p b >>= λ g. afterBuilding S M p root g) k e)
+  run-refused p b k e = go (bind-refused (M .startingTerm [] p) (λ root. build S (M .limit) p b >>= λ g. afterBuilding S M b p root g) k e)
     where
-      go : (M .startingTerm [] p ≡ refused k) ⊎ ((root : Interned) × (M .startingTerm [] p ≡ ok root) × ((build S (M .limit) p b >>= λ g. afterBuilding S M p root g) ≡ refused k)) → ((k ≡ 12) × ((ps : List N) × Some S p ps × (M .limit < length ps))) ⊎ (k ≡ 13)
+      go : (M .startingTerm [] p ≡ refused k) ⊎ ((root : Interned) × (M .startingTerm [] p ≡ ok root) × ((build S (M .limit) p b >>= λ g. afterBuilding S M b p root g) ≡ refused k)) → ((k ≡ 12) × ((ps : List N) × Some S p ps × (M .limit < length ps))) ⊎ (k ≡ 13)
       go (inl z) = inr (R .start [] p k z)
-      go (inr (root, y, z)) = elim (bind-refused (build S (M .limit) p b) (λ g. afterBuilding S M p root g) k z) [ inl x ↦ inl (build-refused S (M .limit) p b k x) | inr x ↦ inr (after-only p root (x .0) k (x .2)) ]
+      go (inr (root, y, z)) = elim (bind-refused (build S (M .limit) p b) (λ g. afterBuilding S M b p root g) k z) [ inl x ↦ inl (build-refused S (M .limit) p b k x) | inr x ↦ inr (after-only b p root (x .0) k (x .2)) ]
 
   pub refused-by : (p : N) (n : ℕ) → NodeCount S p n → (b k : ℕ) → runOf S M p b ≡ refused k → ((k ≡ 12) × (M .limit < n)) ⊎ (k ≡ 13)
   refused-by p n count b k e = elim (run-refused p b k e) [ inl x ↦ let (z, (ps, s, l)) = x in inl (z, omega (arith, some-count S p n count ps s)) | inr x ↦ inr x ]

@@ -7,8 +7,7 @@ use native.Mathlib.Omega.{arith}
 use lib.ListN.{length}
 use Rattle.spec.specs.Bytes.{any, Res, ok, refused, _>>=_, Checked, passed, cutShort}
 use Rattle.spec.specs.System.{System, Making, lookUp, Turn, changes, turnsOf, Terms, turnsTerms, Outcome, State, outcome, stateAfter, afterRound, roundTerms, roundsFrom}
-use Rattle.laws.specs.Results.{refused-ok, ok-inj, passed-inj, cut-passed}
-use Rattle.steps.specs.Checks.{Spent, cut, paid, ended, round-spends}
+use Rattle.steps.specs.Checks.{spent-left, round-spends}
 use Rattle.steps.specs.TurnsFrom.{turns-length}
 
 -- the turns of a round from state s
@@ -21,7 +20,7 @@ roundAt S M ps s b = turnsTerms M (lookUp (S .same) 0 ps (s .terms)) ps (turnsAt
 
 module _ {N : Type 0} (S : System N) (M : Making N) (ps : List N) where
   -- ---- with fuel
-  pub rounds-none : (f : ℕ) (s : State) → s .budget ≡ 0 → roundsFrom S M f ps s ≡ ok (outcome false ps s)
+  pub rounds-none : (f : ℕ) (s : State) → s .budget ≡ 0 → roundsFrom S M f ps s ≡ ok (outcome false ps s 0)
   unfolding roundsFrom afterRound roundTerms
   rounds-none zero s e = refl
   rounds-none (suc f) s e = ap (λ (z : ℕ). roundTerms S M ps s (turnsAt S ps s) z >>= afterRound (λ u. roundsFrom S M f ps u) ps s (turnsAt S ps s)) e
@@ -33,12 +32,7 @@ module _ {N : Type 0} (S : System N) (M : Making N) (ps : List N) where
   -- the checks of a finished round
   pub round-left : (b c : ℕ) (s : State) (r : Terms) → roundAt S M ps s b ≡ ok (passed r c) → b ≡ length ps + c
   unfolding roundTerms
-  round-left b c s r e = go (roundAt S M ps s b) (round-spends S M ps s (turnsAt S ps s) (suc b) (turns-length S ps (s .qualities))) e
-    where
-      go : (x : Res (Checked Terms)) → Spent (suc (length ps)) (suc b) x → x ≡ ok (passed r c) → b ≡ length ps + c
-      go x (cut h) z = absurd (cut-passed (ok-inj z))
-      go x (paid {a = a} {c = d} h) z = omega (arith, passed-inj (ok-inj z) .1)
-      go x ended z = absurd (refused-ok z)
+  round-left b c s r e = omega (arith, spent-left (suc (length ps)) (suc b) (roundAt S M ps s b) (round-spends S M ps s (turnsAt S ps s) (suc b) (turns-length S ps (s .qualities))) r c e)
 
   -- more fuel than checks changes nothing
   pub rounds-fuel : (f g : ℕ) (s : State) → s .budget ≤ f → s .budget ≤ g → roundsFrom S M f ps s ≡ roundsFrom S M g ps s
@@ -50,13 +44,13 @@ module _ {N : Type 0} (S : System N) (M : Making N) (ps : List N) where
       ws : List (Turn N)
       ws = turnsAt S ps s
 
-      test : (x : Bool) (u : State) → roundsFrom S M f ps u ≡ roundsFrom S M g ps u → _≡_ {A = Res Outcome} (elim x [ false ↦ ok (outcome true ps s) | true ↦ roundsFrom S M f ps u ]) (elim x [ false ↦ ok (outcome true ps s) | true ↦ roundsFrom S M g ps u ])
-      test false u e = refl
-      test true u e = e
+      test : (x : Bool) (c : ℕ) (u : State) → roundsFrom S M f ps u ≡ roundsFrom S M g ps u → _≡_ {A = Res Outcome} (elim x [ false ↦ ok (outcome true ps s c) | true ↦ roundsFrom S M f ps u ]) (elim x [ false ↦ ok (outcome true ps s c) | true ↦ roundsFrom S M g ps u ])
+      test false c u e = refl
+      test true c u e = e
 
       after : (b : ℕ) → s .budget ≡ suc b → (x : Res (Checked Terms)) → roundAt S M ps s b ≡ x → ((u : State) → u .budget ≤ f → u .budget ≤ g → roundsFrom S M f ps u ≡ roundsFrom S M g ps u)
           → (x >>= afterRound (λ u. roundsFrom S M f ps u) ps s ws) ≡ (x >>= afterRound (λ u. roundsFrom S M g ps u) ps s ws)
-      after b e (ok (passed r c)) z ih = let k = round-left b c s r z in test (any changes ws) (stateAfter s ws r c) (ih (stateAfter s ws r c) (omega arith) (omega arith))
+      after b e (ok (passed r c)) z ih = let k = round-left b c s r z in test (any changes ws) c (stateAfter s ws r c) (ih (stateAfter s ws r c) (omega arith) (omega arith))
       after b e (ok cutShort) z ih = refl
       after b e (refused n) z ih = refl
 
@@ -74,7 +68,7 @@ module _ {N : Type 0} (S : System N) (M : Making N) (ps : List N) where
   rounds-of f s h = rounds-fuel f (s .budget) s h (omega arith)
 
   -- the round's first check has expired
-  pub rounds-expired : (s : State) → s .budget ≡ 0 → roundsOf s ≡ ok (outcome false ps s)
+  pub rounds-expired : (s : State) → s .budget ≡ 0 → roundsOf s ≡ ok (outcome false ps s 0)
   rounds-expired s e = rounds-none (s .budget) s e
 
   module _ (s : State) (b : ℕ) (left : s .budget ≡ b + 1) where
@@ -88,18 +82,18 @@ module _ {N : Type 0} (S : System N) (M : Making N) (ps : List N) where
     pub rounds-refused : (n : ℕ) → roundAt S M ps s b ≡ refused n → roundsOf s ≡ refused n
     rounds-refused n e = by-turns (refused n) e
 
-    pub rounds-cut : roundAt S M ps s b ≡ ok cutShort → roundsOf s ≡ ok (outcome false ps s)
+    pub rounds-cut : roundAt S M ps s b ≡ ok cutShort → roundsOf s ≡ ok (outcome false ps s 0)
     unfolding afterRound
     rounds-cut e = by-turns (ok cutShort) e
 
     -- "The run is complete at the first finished round without change."
-    pub rounds-quiet : (r : Terms) (c : ℕ) → roundAt S M ps s b ≡ ok (passed r c) → any changes (turnsAt S ps s) ≡ false → roundsOf s ≡ ok (outcome true ps s)
+    pub rounds-quiet : (r : Terms) (c : ℕ) → roundAt S M ps s b ≡ ok (passed r c) → any changes (turnsAt S ps s) ≡ false → roundsOf s ≡ ok (outcome true ps s c)
     unfolding afterRound
-    rounds-quiet r c e q = by-turns (ok (passed r c)) e ∙ ap {B = Res Outcome} (λ (z : Bool). elim z [ false ↦ ok (outcome true ps s) | true ↦ roundsFrom S M b ps (stateAfter s (turnsAt S ps s) r c) ]) q
+    rounds-quiet r c e q = by-turns (ok (passed r c)) e ∙ ap {B = Res Outcome} (λ (z : Bool). elim z [ false ↦ ok (outcome true ps s c) | true ↦ roundsFrom S M b ps (stateAfter s (turnsAt S ps s) r c) ]) q
 
     -- a finished round that changed something
     pub rounds-next : (r : Terms) (c : ℕ) → roundAt S M ps s b ≡ ok (passed r c) → any changes (turnsAt S ps s) ≡ true → roundsOf s ≡ roundsOf (stateAfter s (turnsAt S ps s) r c)
     unfolding afterRound
     rounds-next r c e q =
-        by-turns (ok (passed r c)) e ∙ ap {B = Res Outcome} (λ (z : Bool). elim z [ false ↦ ok (outcome true ps s) | true ↦ roundsFrom S M b ps (stateAfter s (turnsAt S ps s) r c) ]) q
+        by-turns (ok (passed r c)) e ∙ ap {B = Res Outcome} (λ (z : Bool). elim z [ false ↦ ok (outcome true ps s c) | true ↦ roundsFrom S M b ps (stateAfter s (turnsAt S ps s) r c) ]) q
         ∙ rounds-of b (stateAfter s (turnsAt S ps s) r c) (omega (arith, round-left b c s r e))

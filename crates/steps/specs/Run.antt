@@ -9,7 +9,7 @@ use native.Mathlib.Nat.{eq-or-lt-of-le, suc-inj}
 use lib.ListN.{length, getD}
 use Rattle.spec.specs.Bytes.{any, Two, Res, ok, refused, _>>=_, Checked, passed, cutShort}
 use Rattle.spec.specs.Pool.{Interned}
-use Rattle.spec.specs.System.{System, Making, build, Turn, changes, turnsOf, next, qualitiesAfter, Terms, startingTerms, Outcome, State, outcome, stateAfter, afterRound, roundTerms, roundsFrom, started, afterStarting, afterBuilding, runOf}
+use Rattle.spec.specs.System.{System, Making, build, Turn, changes, turnsOf, next, qualitiesAfter, Terms, startingTerms, Outcome, State, outcome, stateAfter, afterRound, roundTerms, roundsFrom, started, startState, afterStarting, afterBuilding, runOf}
 use Rattle.laws.specs.Tests.{clash}
 use Rattle.laws.specs.Results.{Later, refused-ok, ok-inj, bind-ok}
 use Rattle.steps.specs.Rounds.{changed}
@@ -36,7 +36,7 @@ module _ {N : Type 0} (S : System N) (M : Making N) (ps : List N) where
     moved : (r : ℕ) → r < s .rounds → changed S ps r ≡ true
     spent : b ≡ s .rounds * suc (length ps) + s .budget
 
-  stop-partial : (b : ℕ) (s : State) → Between b s → s .budget < suc (length ps) → Ended S ps b (outcome false ps s)
+  stop-partial : (b : ℕ) (s : State) → Between b s → s .budget < suc (length ps) → Ended S ps b (outcome false ps s 0)
   stop-partial b s i h = record {
     nodes = refl;
     quality = ap (λ (l : List Two). getD l 0 (0, 0)) (i .qualities);
@@ -45,7 +45,7 @@ module _ {N : Type 0} (S : System N) (M : Making N) (ps : List N) where
     status = inr (refl, omega (arith, i .spent));
   }
 
-  stop-complete : (b c : ℕ) (s : State) → Between b s → changed S ps (s .rounds) ≡ false → s .budget ≡ suc (length ps) + c → Ended S ps b (outcome true ps s)
+  stop-complete : (b c : ℕ) (s : State) → Between b s → changed S ps (s .rounds) ≡ false → s .budget ≡ suc (length ps) + c → Ended S ps b (outcome true ps s c)
   stop-complete b c s i q h = record {
     nodes = refl;
     quality = ap (λ (l : List Two). getD l 0 (0, 0)) (i .qualities);
@@ -71,7 +71,7 @@ module _ {N : Type 0} (S : System N) (M : Making N) (ps : List N) where
       ws = turnsOf S ps (s .qualities)
 
       test : (x : Bool) → any changes ws ≡ x → (r : Terms) (c : ℕ) → s .budget ≡ suc (length ps) + c
-          → elim x [ false ↦ ok (outcome true ps s) | true ↦ roundsFrom S M f ps (stateAfter s ws r c) ] ≡ ok o
+          → elim x [ false ↦ ok (outcome true ps s c) | true ↦ roundsFrom S M f ps (stateAfter s ws r c) ] ≡ ok o
           → ((u : State) → Between b u → u .budget ≤ f → roundsFrom S M f ps u ≡ ok o → Ended S ps b o) → Ended S ps b o
       test false q r c l d ih = rw (← ok-inj d) (stop-complete b c s i (rw (i .qualities) at q) l)
       test true q r c l d ih = ih (stateAfter s ws r c) (go-on b c s r i (rw (i .qualities) at q) l) (omega arith) d
@@ -86,26 +86,26 @@ module _ {N : Type 0} (S : System N) (M : Making N) (ps : List N) where
 -- where a run with budget b ends that is not refused, and what it reports
 pub data Ends {N : Type 0} (S : System N) (M : Making N) (p : N) (b : ℕ) (o : Outcome) : Type 0 where
   -- "A run cut short in building reports 1 pair"
-  inBuilding : (root : Interned) → build S (M .limit) p b ≡ ok cutShort → o ≡ started S p root 1 → Ends S M p b o
+  inBuilding : (root : Interned) → build S (M .limit) p b ≡ ok cutShort → o ≡ started S b p root 1 → Ends S M p b o
   -- "any other run n"
-  inStarting : (root : Interned) (ps : List N) (c : ℕ) → build S (M .limit) p b ≡ ok (passed ps c) → c < length ps → o ≡ started S p root (length ps) → Ends S M p b o
+  inStarting : (root : Interned) (ps : List N) (c : ℕ) → build S (M .limit) p b ≡ ok (passed ps c) → c < length ps → o ≡ started S b p root (length ps) → Ends S M p b o
   inRounds : (ps : List N) (c d : ℕ) → build S (M .limit) p b ≡ ok (passed ps c) → c ≡ length ps + d → Ended S ps d o → Ends S M p b o
 
 pub run-ends : {N : Type 0} (S : System N) (M : Making N) (p : N) (b : ℕ) (o : Outcome) → runOf S M p b ≡ ok o → Ends S M p b o
 unfolding runOf afterBuilding afterStarting qualitiesAfter
 run-ends {N = N} S M p b o e =
-    let (root, a, d) = bind-ok (M .startingTerm [] p) (λ root. build S (M .limit) p b >>= λ g. afterBuilding S M p root g) o e in
-    let (g, k, z) = bind-ok (build S (M .limit) p b) (λ g. afterBuilding S M p root g) o d in
+    let (root, a, d) = bind-ok (M .startingTerm [] p) (λ root. build S (M .limit) p b >>= λ g. afterBuilding S M b p root g) o e in
+    let (g, k, z) = bind-ok (build S (M .limit) p b) (λ g. afterBuilding S M b p root g) o d in
     go root g k z
   where
-    rounds : (root : Interned) (ps : List N) (c : ℕ) → build S (M .limit) p b ≡ ok (passed ps c) → (r : Res (Checked Terms)) → Spent (length ps) c r → (r >>= afterStarting S M p root ps) ≡ ok o → Ends S M p b o
+    rounds : (root : Interned) (ps : List N) (c : ℕ) → build S (M .limit) p b ≡ ok (passed ps c) → (r : Res (Checked Terms)) → Spent (length ps) c r → (r >>= afterStarting S M b p root ps) ≡ ok o → Ends S M p b o
     rounds root ps c k r (cut h) z = inStarting root ps c k h (sym (ok-inj z))
     rounds root ps c k r (paid {a = a} {c = d} h) z =
-        inRounds ps c d k h (rounds-end S M ps d d (record { pool = a .pool; qualities = map (S .startingQuality) ps; terms = a .terms; rounds = 0; budget = d }) o
+        inRounds ps c d k h (rounds-end S M ps d d (startState S b ps a d) o
         (record { qualities = refl; moved = λ r l. absurd (omega arith); spent = omega arith }) (omega arith) z)
     rounds root ps c k r ended z = absurd (refused-ok z)
 
-    go : (root : Interned) (g : Checked (List N)) → build S (M .limit) p b ≡ ok g → afterBuilding S M p root g ≡ ok o → Ends S M p b o
+    go : (root : Interned) (g : Checked (List N)) → build S (M .limit) p b ≡ ok g → afterBuilding S M b p root g ≡ ok o → Ends S M p b o
     go root cutShort k z = inBuilding root k (sym (ok-inj z))
     go root (passed ps c) k z = rounds root ps c k (startingTerms M ps c (root .pool)) (starting-spends M ps c (root .pool)) z
 
@@ -139,7 +139,7 @@ module _ {N : Type 0} (S : System N) (M : Making N) (ps : List N) where
       stays-bind e (roundTerms S M ps s ws (s .budget)) (roundTerms S M ps u ws (s .budget + e)) (round-later S M ps s ws (s .budget) (s .budget + e) e (s .budget + e) refl)
       (afterRound (λ z. roundsFrom S M f ps z) ps s ws) (afterRound (λ z. roundsFrom S M g ps z) ps u ws)
       (λ a c. test (any changes ws) a c (rounds-later f g e (stateAfter s ws a c) (omega arith)))
-      (λ o z. partial-only {o = outcome false ps s} {u = o} refl z)
+      (λ o z. partial-only {o = outcome false ps s 0} {u = o} refl z)
       (λ n z. refused-ok (sym z))
     where
       ws : List (Turn N)
@@ -148,10 +148,14 @@ module _ {N : Type 0} (S : System N) (M : Making N) (ps : List N) where
       u : State
       u = withBudget s (s .budget + e)
 
-      test : (x : Bool) (a : Terms) (c : ℕ) → Stays (roundsFrom S M f ps (stateAfter s ws a c)) (roundsFrom S M g ps (stateAfter s ws a (c + e)))
-          → Stays (elim x [ false ↦ ok (outcome true ps s) | true ↦ roundsFrom S M f ps (stateAfter s ws a c) ]) (elim x [ false ↦ ok (outcome true ps u) | true ↦ roundsFrom S M g ps (stateAfter u ws a (c + e)) ])
-      test false a c ih = λ z. refl
-      test true a c ih = ih
+      -- as many checks have passed
+      same : (c : ℕ) → s .budget + e - (c + e) ≡ s .budget - c
+      same c = omega arith
+
+      test : (x : Bool) (a : Terms) (c : ℕ) → Stays (roundsFrom S M f ps (stateAfter s ws a c)) (roundsFrom S M g ps (withBudget (stateAfter s ws a c) (c + e)))
+          → Stays (elim x [ false ↦ ok (outcome true ps s c) | true ↦ roundsFrom S M f ps (stateAfter s ws a c) ]) (elim x [ false ↦ ok (outcome true ps u (c + e)) | true ↦ roundsFrom S M g ps (stateAfter u ws a (c + e)) ])
+      test false a c ih = λ z. rw (same c) refl
+      test true a c ih = rw (same c) ih
 
 pub run-later : {N : Type 0} (S : System N) (M : Making N) (p : N) (b c : ℕ) → b ≤ c → Stays (runOf S M p b) (runOf S M p c)
 unfolding runOf afterBuilding afterStarting started
@@ -163,17 +167,20 @@ run-later {N = N} S M p b c h = go (M .startingTerm [] p)
     is : c ≡ b + e
     is = omega arith
 
-    starting : (root : Interned) (ps : List N) (d : ℕ) → Stays (startingTerms M ps d (root .pool) >>= afterStarting S M p root ps) (startingTerms M ps (d + e) (root .pool) >>= afterStarting S M p root ps)
+    starting : (root : Interned) (ps : List N) (d : ℕ) → Stays (startingTerms M ps d (root .pool) >>= afterStarting S M b p root ps) (startingTerms M ps (d + e) (root .pool) >>= afterStarting S M c p root ps)
     starting root ps d =
-        stays-bind e (startingTerms M ps d (root .pool)) (startingTerms M ps (d + e) (root .pool)) (starting-later M ps d (d + e) e (root .pool) refl) (afterStarting S M p root ps) (afterStarting S M p root ps)
-        (λ a k. rounds-later S M ps k (k + e) e (record { pool = a .pool; qualities = map (S .startingQuality) ps; terms = a .terms; rounds = 0; budget = k }) (omega arith))
-        (λ o z. partial-only {o = started S p root (length ps)} {u = o} refl z)
+        stays-bind e (startingTerms M ps d (root .pool)) (startingTerms M ps (d + e) (root .pool)) (starting-later M ps d (d + e) e (root .pool) refl) (afterStarting S M b p root ps) (afterStarting S M c p root ps)
+        (λ a k. from a k (c - (k + e)) (omega arith))
+        (λ o z. partial-only {o = started S b p root (length ps)} {u = o} refl z)
         (λ n z. refused-ok (sym z))
+      where
+        from : (a : Terms) (k n : ℕ) → n ≡ b - k → Stays (roundsFrom S M k ps (startState S b ps a k)) (roundsFrom S M (k + e) ps (record { pool = a .pool; qualities = map (S .startingQuality) ps; terms = a .terms; rounds = 0; budget = k + e; spent = n }))
+        from a k n z = rw z (rounds-later S M ps k (k + e) e (startState S b ps a k) (omega arith))
 
-    go : (r : Res Interned) → Stays (r >>= λ root. build S (M .limit) p b >>= λ g. afterBuilding S M p root g) (r >>= λ root. build S (M .limit) p c >>= λ g. afterBuilding S M p root g)
+    go : (r : Res Interned) → Stays (r >>= λ root. build S (M .limit) p b >>= λ g. afterBuilding S M b p root g) (r >>= λ root. build S (M .limit) p c >>= λ g. afterBuilding S M c p root g)
     go (ok root) =
-        stays-bind e (build S (M .limit) p b) (build S (M .limit) p c) (build-later S (M .limit) p b c e is) (afterBuilding S M p root) (afterBuilding S M p root)
+        stays-bind e (build S (M .limit) p b) (build S (M .limit) p c) (build-later S (M .limit) p b c e is) (afterBuilding S M b p root) (afterBuilding S M c p root)
         (λ ps d. starting root ps d)
-        (λ o z. partial-only {o = started S p root 1} {u = o} refl z)
+        (λ o z. partial-only {o = started S b p root 1} {u = o} refl z)
         (λ n z. refused-ok (sym z))
     go (refused n) = refl

@@ -16,7 +16,7 @@ use Rattle.laws.specs.Results.{ok-inj, refused-ok, passed-inj, cut-passed}
 use Rattle.pools.specs.Pool.{RunsBelow, PoolValid, getD-last}
 use Rattle.pools.specs.PoolIntern.{Extends, extends-refl, extends-trans, extends-within}
 use Rattle.pools.specs.PoolSort.{plan-below}
-use Rattle.pools.specs.OrderListing.{listing-larger}
+use Rattle.pools.specs.OrderListing.{overPool, listing-larger}
 use Rattle.steps.specs.Graph.{Closed}
 use Rattle.steps.specs.Turn.{Inside, choice-joins}
 use Rattle.steps.specs.TurnsFrom.{turn-quality, turns-length, RoundAt, turnTerm, round-begin, round-cut, round-turn, round-refused, round-end}
@@ -164,8 +164,8 @@ module _ {N : Type 0} (S : System N) (M : Making N) (Okay : N → Type 0) (Fits 
   starting-midway from k done pool a h W e = midway-turn a W (starts from k done pool a h W e)
 
   -- every node has its starting term
-  pub standing-started : (from : Pool) (done : List ℕ) (pool : Pool) (b : ℕ) → Midway from (length ps) done pool → Standing Fits ps (startState S ps (record { pool = pool; terms = done }) b)
-  standing-started from done pool b W = record {
+  pub standing-started : (from : Pool) (done : List ℕ) (pool : Pool) (budget b : ℕ) → Midway from (length ps) done pool → Standing Fits ps (startState S budget ps (record { pool = pool; terms = done }) b)
+  standing-started from done pool budget b W = record {
     many = length-map (S .startingQuality) ps;
     named = W .many;
     valid = W .valid;
@@ -175,12 +175,12 @@ module _ {N : Type 0} (S : System N) (M : Making N) (Okay : N → Type 0) (Fits 
 
 -- ---- listings over a larger pool
 -- a round cut short leaves a larger pool, and the listing stays
-pub listing-cut : {N : Type 0} {Fits : Two → Type 0} (k : ℕ) (ps : List N) (s : State) (complete : Bool) (pool : Pool) → Standing Fits ps s → 0 < length ps → PoolValid pool → Extends (s .pool) pool
-    → listingOf k (outcome complete ps s) ≡ listingOf k (record { complete = complete; nodes = length ps; rounds = s .rounds; quality = getD (s .qualities) 0 (0, 0); pool = pool; root = getD (s .terms) 0 0 })
-listing-cut k ps s complete pool K h w g = listing-larger k (outcome complete ps s) pool (K .valid) w g (K .within 0 h)
+pub listing-cut : {N : Type 0} {Fits : Two → Type 0} (k : ℕ) (ps : List N) (s : State) (complete : Bool) (left : ℕ) (pool : Pool) → Standing Fits ps s → 0 < length ps → PoolValid pool → Extends (s .pool) pool
+    → listingOf k (outcome complete ps s left) ≡ listingOf k (overPool (outcome complete ps s left) pool)
+listing-cut k ps s complete left pool K h w g = listing-larger k (outcome complete ps s left) pool (K .valid) w g (K .within 0 h)
 
 -- so does one that is cut short in building or in starting terms
-pub listing-started : {N : Type 0} (S : System N) (k : ℕ) (p : N) (root : Interned) (n : ℕ) (pool : Pool) → PoolValid (root .pool) → root .term < length (root .pool) → PoolValid pool → Extends (root .pool) pool
-    → listingOf k (started S p root n) ≡ listingOf k (record { complete = false; nodes = n; rounds = 0; quality = S .startingQuality p; pool = pool; root = root .term })
+pub listing-started : {N : Type 0} (S : System N) (k budget : ℕ) (p : N) (root : Interned) (n : ℕ) (pool : Pool) → PoolValid (root .pool) → root .term < length (root .pool) → PoolValid pool → Extends (root .pool) pool
+    → listingOf k (started S budget p root n) ≡ listingOf k (overPool (started S budget p root n) pool)
 unfolding started
-listing-started S k p root n pool v h w g = listing-larger k (started S p root n) pool v w g h
+listing-started S k budget p root n pool v h w g = listing-larger k (started S budget p root n) pool v w g h

@@ -1,5 +1,6 @@
 // SPDX-License-Identifier: Apache-2.0
-//! Runs two judges over frames, compares every byte (`Judge::same`) and counts what was met.
+//! Runs two judges over frames, compares every byte (`Judge::same`; with the oracle also its own
+//! count of checks) and counts what was met.
 
 use std::collections::BTreeMap;
 
@@ -8,7 +9,7 @@ use model::run::Phase;
 use model::slip::Slip;
 
 use crate::img::{Img, KINDS, Query};
-use crate::judge::Judge;
+use crate::judge::{Judge, Said};
 use crate::text;
 
 /// Counts of a comparison.
@@ -82,6 +83,7 @@ impl Counts {
             met.monomials.empty_side,
         );
         self.top("pairs", outcome.pairs as u64);
+        self.top("checks", outcome.checks);
         self.top("rounds", outcome.rounds as u64);
         self.top("cells of a transport", met.largest_transport as u64);
         self.top("terms", outcome.pool.nodes.len() as u64);
@@ -112,19 +114,18 @@ pub struct Difference {
     pub second: String,
 }
 
+const UNHOLDABLE: &[u8] = b"unholdable\n";
+
 fn pair(a: &Judge, b: &Judge, frame: &[u8]) -> Result<Option<(String, String)>, String> {
     let one = [frame.to_vec()];
-    let (x, y) = (a.answers(&one)?.remove(0), b.answers(&one)?.remove(0));
+    let (x, y) = (a.says(&one)?.remove(0), b.says(&one)?.remove(0));
     let model = model::answer(frame, Slip::None).into_bytes();
     let silent =
-        |judge: &Judge, answer: &[u8]| !judge.judges(frame, &model) || answer == b"unholdable\n";
+        |judge: &Judge, said: &Said| !judge.judges(frame, &model) || said.answer == UNHOLDABLE;
     if a.same(&x, b, &y) || silent(a, &x) || silent(b, &y) {
         return Ok(None);
     }
-    Ok(Some((
-        String::from_utf8_lossy(&x).into_owned(),
-        String::from_utf8_lossy(&y).into_owned(),
-    )))
+    Ok(Some((x.print(), y.print())))
 }
 
 /// Compares two judges; counts go by the model.
@@ -139,9 +140,9 @@ pub fn compare(
         .map(|frame| model::answer(frame, Slip::None).into_bytes())
         .collect();
     // A judge is not asked what it does not judge.
-    let ask = |judge: &Judge| -> Result<Vec<Option<Vec<u8>>>, String> {
+    let ask = |judge: &Judge| -> Result<Vec<Option<Said>>, String> {
         if let Judge::Model(Slip::None) = judge {
-            return Ok(wanted.iter().cloned().map(Some).collect());
+            return Ok(wanted.iter().cloned().map(Said::alone).map(Some).collect());
         }
         let asked: Vec<bool> = frames
             .iter()
@@ -154,7 +155,7 @@ pub fn compare(
             .filter(|(_, asked)| **asked)
             .map(|(frame, _)| frame.clone())
             .collect();
-        let mut answers = judge.answers(&some)?.into_iter();
+        let mut answers = judge.says(&some)?.into_iter();
         Ok(asked
             .iter()
             .map(|asked| if *asked { answers.next() } else { None })
@@ -167,11 +168,14 @@ pub fn compare(
             counts.one("not compared: a refusal, which the oracle does not judge");
             continue;
         };
-        if x == b"unholdable\n" || y == b"unholdable\n" {
+        if x.answer == UNHOLDABLE || y.answer == UNHOLDABLE {
             counts.one("not compared: unholdable for the oracle");
             continue;
         }
         counts.one("compared");
+        if [x, y].iter().any(|said| said.counted.is_some()) {
+            counts.one("compared, checks with the oracle's own count");
+        }
         if !a.same(x, b, y) {
             let (frame, first, second) = shrink(a, b, frame)?;
             return Ok(Some(Difference {

@@ -47,22 +47,85 @@ pub fn unpack(bytes: &[u8]) -> Result<Vec<Vec<u8>>, String> {
     Ok(items)
 }
 
-/// "The comparison with the Rust drops this last field" (02, Paper 7): a listing without
-/// ` skipped N` at the end of its first line. None where it is not there; a refusal has no first
-/// line, and stays as it is.
-pub fn as_the_rust(answer: &[u8]) -> Option<Vec<u8>> {
+/// A listing without the two fields that the Rust does not write, and how many checks they say.
+/// A refusal has no first line, stays as it is, and says none.
+#[derive(Debug, PartialEq, Eq)]
+pub struct AsTheRust {
+    pub listing: Vec<u8>,
+    pub checks: Option<u64>,
+}
+
+/// "The comparison with the Rust drops this last field" (02, Paper 7), "and the comparison with
+/// the Rust drops it too" (Paper 13): a listing without ` skipped N checks N` at the end of its
+/// first line. None where they are not there in this order, each with a number as it is printed.
+pub fn as_the_rust(answer: &[u8]) -> Option<AsTheRust> {
     if ![&b"complete "[..], b"partial "]
         .iter()
         .any(|status| answer.starts_with(status))
     {
-        return Some(answer.to_vec());
+        return Some(AsTheRust {
+            listing: answer.to_vec(),
+            checks: None,
+        });
     }
     let end = answer.iter().position(|&byte| byte == b'\n')?;
     let (first, rest) = answer.split_at(end);
     let first = std::str::from_utf8(first).ok()?;
-    let (kept, count) = first.rsplit_once(" skipped ")?;
-    let number: u64 = count.parse().ok()?;
-    (number.to_string() == count).then(|| [kept.as_bytes(), rest].concat())
+    let (first, checks) = last_field(first, " checks ")?;
+    let (first, _) = last_field(first, " skipped ")?;
+    Some(AsTheRust {
+        listing: [first.as_bytes(), rest].concat(),
+        checks: Some(checks),
+    })
+}
+
+/// A line without its last field, and the field's number.
+fn last_field<'a>(line: &'a str, word: &str) -> Option<(&'a str, u64)> {
+    let (kept, printed) = line.rsplit_once(word)?;
+    let number: u64 = printed.parse().ok()?;
+    (number.to_string() == printed).then_some((kept, number))
+}
+
+/// What a judge says to a frame: its answer, and the oracle's own count of the checks that passed,
+/// where it has a listing.
+#[derive(Clone, Debug, PartialEq, Eq)]
+pub struct Said {
+    pub answer: Vec<u8>,
+    pub counted: Option<u64>,
+}
+
+impl Said {
+    pub fn alone(answer: impl Into<Vec<u8>>) -> Said {
+        Said {
+            answer: answer.into(),
+            counted: None,
+        }
+    }
+
+    /// The oracle on a frame.
+    pub fn of_oracle(frame: &[u8], pruning: bool) -> Said {
+        let answer = listed::answer(frame, pruning);
+        Said {
+            answer: answer.text().into(),
+            counted: answer.checks(),
+        }
+    }
+
+    /// Whether the oracle says the same as this answer: every byte but for the two fields, and as
+    /// many checks as it counted.
+    pub fn agrees(&self, answer: &[u8]) -> bool {
+        as_the_rust(answer)
+            .is_some_and(|other| other.listing == self.answer && other.checks == self.counted)
+    }
+
+    /// The answer, with the oracle's count behind it.
+    pub fn print(&self) -> String {
+        let count = match self.counted {
+            Some(checks) => format!("checks counted by the oracle: {checks}\n"),
+            None => String::new(),
+        };
+        format!("{}{count}", String::from_utf8_lossy(&self.answer))
+    }
 }
 
 /// What a command says to an input.
@@ -104,20 +167,25 @@ impl Judge {
     }
 
     pub fn answers(&self, frames: &[Vec<u8>]) -> Result<Vec<Vec<u8>>, String> {
+        let said = self.says(frames)?;
+        Ok(said.into_iter().map(|said| said.answer).collect())
+    }
+
+    pub fn says(&self, frames: &[Vec<u8>]) -> Result<Vec<Said>, String> {
+        let each = |answer: &dyn Fn(&[u8]) -> Vec<u8>| {
+            let said = frames.iter().map(|frame| Said::alone(answer(frame)));
+            Ok(said.collect())
+        };
         match self {
             Judge::Oracle { pruning } => Ok(frames
                 .iter()
-                .map(|frame| listed::answer(frame, *pruning).text().into())
+                .map(|frame| Said::of_oracle(frame, *pruning))
                 .collect()),
-            Judge::Model(slip) => Ok(frames
-                .iter()
-                .map(|frame| model::answer(frame, *slip).into())
-                .collect()),
-            Judge::Page => Ok(frames
-                .iter()
-                .map(|frame| model::answer_within(model::PAGE, frame, Slip::None).into())
-                .collect()),
-            Judge::Force => Ok(frames.iter().map(|frame| skipped::forced(frame)).collect()),
+            Judge::Model(slip) => each(&|frame| model::answer(frame, *slip).into()),
+            Judge::Page => {
+                each(&|frame| model::answer_within(model::PAGE, frame, Slip::None).into())
+            }
+            Judge::Force => each(&skipped::forced),
             Judge::Stream(line) => {
                 let answers = unpack(&call(line, &pack(frames))?)?;
                 if answers.len() != frames.len() {
@@ -127,20 +195,23 @@ impl Judge {
                         frames.len()
                     ));
                 }
-                Ok(answers)
+                Ok(answers.into_iter().map(Said::alone).collect())
             }
-            Judge::Each(line) => frames.iter().map(|frame| call(line, frame)).collect(),
+            Judge::Each(line) => frames
+                .iter()
+                .map(|frame| call(line, frame).map(Said::alone))
+                .collect(),
         }
     }
 
-    /// Whether two answers are the same: every byte, but for the field that the Rust does not
-    /// write where one of the two is the Rust's.
-    pub fn same(&self, answer: &[u8], other: &Judge, others: &[u8]) -> bool {
+    /// Whether two answers are the same: every byte. Where one of the two is the Rust's, the two
+    /// fields that it does not write are dropped, and the checks are held to its own count.
+    pub fn same(&self, said: &Said, other: &Judge, others: &Said) -> bool {
         let rust = |judge: &Judge| matches!(judge, Judge::Oracle { .. });
         match (rust(self), rust(other)) {
-            (true, false) => as_the_rust(others).as_deref() == Some(answer),
-            (false, true) => as_the_rust(answer).as_deref() == Some(others),
-            _ => answer == others,
+            (true, false) => said.agrees(&others.answer),
+            (false, true) => others.agrees(&said.answer),
+            _ => said == others,
         }
     }
 

@@ -17,6 +17,7 @@ pub mod sample;
 pub mod skipped;
 pub mod small;
 pub mod text;
+pub mod turned;
 pub mod verdicts;
 
 use rng::Rng;

@@ -7,7 +7,8 @@ use harness::drive::{Counts, compare};
 use harness::img::{Img, Query};
 use harness::judge::{Judge, as_the_rust, pack, unpack};
 use harness::{
-    budgets, children, damage, draw, limits, pairs, plans, sample, skipped, small, text, verdicts,
+    budgets, children, damage, draw, limits, pairs, plans, sample, skipped, small, text, turned,
+    verdicts,
 };
 use model::slip::{SLIPS, Slip};
 
@@ -105,7 +106,12 @@ fn run(words: &[&str]) -> Result<(), String> {
             Ok(())
         }
         ["as-the-rust"] => {
-            stdout(&as_the_rust(&stdin()?).ok_or("the first line does not end with skipped")?)
+            let dropped = as_the_rust(&stdin()?);
+            stdout(
+                &dropped
+                    .ok_or("the first line does not end with skipped and checks")?
+                    .listing,
+            )
         }
         ["adversary"] => Err(format!("one of {}", skipped::COSTLY.join(", "))),
         ["adversary", name] => stdout(&skipped::costly(name).ok_or("no such adversary")?),
@@ -127,6 +133,17 @@ fn run(words: &[&str]) -> Result<(), String> {
             let (queries, frames) = budgets::every(&drawn, count);
             println!("{queries} queries, {} frames", frames.len());
             compare_frames(a, b, &frames)
+        }
+        ["turned", judge, seed, count, family @ ..] if family.len() < 2 => {
+            let count = number(count)? as usize;
+            let drawn = draw(number(seed)?, count, family.first().copied());
+            let asked = Judge::parse(judge)?;
+            let mut counts = Counts::default();
+            let mut runs = |frames: &[Vec<u8>]| turned::by_judge(&asked, frames);
+            turned::turned(&drawn, &mut runs, &mut counts)?;
+            print!("{}", counts.print());
+            println!("{judge}: the queries and the turned ones are as promised");
+            Ok(())
         }
         ["children", seed, count] => {
             print!(

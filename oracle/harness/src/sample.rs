@@ -10,7 +10,7 @@ use model::slip::{SLIPS, Slip};
 use crate::damage;
 use crate::drive::Counts;
 use crate::r#gen;
-use crate::judge::as_the_rust;
+use crate::judge::Said;
 use crate::limits;
 use crate::rng::Rng;
 use crate::small;
@@ -20,15 +20,16 @@ pub struct Stored {
     pub answer: Vec<u8>,
 }
 
-/// The model's answer; where the oracle judges, the two agree but for the field that the Rust
-/// does not write.
+/// The model's answer; where the oracle judges, the two agree but for the fields that the Rust
+/// does not write, and the checks are as many as the oracle counted.
 pub fn judged(frame: &[u8]) -> Result<Vec<u8>, String> {
     let model = model::answer(frame, Slip::None);
-    if !model.starts_with("refused")
-        && let listed::Answer::Listing(text) = listed::answer(frame, false)
-        && as_the_rust(model.as_bytes()) != Some(text.clone().into_bytes())
-    {
-        return Err(format!("oracle and model differ:\n{text}{model}"));
+    if !model.starts_with("refused") {
+        let oracle = Said::of_oracle(frame, false);
+        if oracle.counted.is_some() && !oracle.agrees(model.as_bytes()) {
+            let oracle = oracle.print();
+            return Err(format!("oracle and model differ:\n{oracle}{model}"));
+        }
     }
     Ok(model.into_bytes())
 }
@@ -66,6 +67,9 @@ const FIRST_SLIPS: usize = 54;
 /// The slips of the first and second part; the third, drawn apart, stands behind both.
 const SECOND_SLIPS: usize = 76;
 
+/// The slips of all three parts; those about checks, behind them, are caught by the same frames.
+const THIRD_SLIPS: usize = 85;
+
 /// Drawn frames of at most so many bytes, the smallest first.
 fn draw(
     rng: &mut Rng,
@@ -87,6 +91,19 @@ fn draw(
     pool
 }
 
+/// The model's answer without its field `checks`: the parts are chosen as they were before there
+/// was one.
+fn without_checks(frame: &[u8], slip: Slip) -> String {
+    let answer = model::answer(frame, slip);
+    match answer.split_once(" checks ") {
+        Some((first, rest)) => {
+            let rest = rest.trim_start_matches(|c: char| c.is_ascii_digit());
+            format!("{first}{rest}")
+        }
+        None => answer,
+    }
+}
+
 /// Every slip caught, by small frames.
 fn catch(
     slips: &[(Slip, &str, &str)],
@@ -94,17 +111,17 @@ fn catch(
     chosen: &mut Vec<Vec<u8>>,
     taken: &mut BTreeSet<Vec<u8>>,
 ) {
-    let answers: Vec<String> = pool.iter().map(|f| model::answer(f, Slip::None)).collect();
+    let answers: Vec<String> = pool.iter().map(|f| without_checks(f, Slip::None)).collect();
     for &(slip, _, _) in slips {
         let mut caught = chosen
             .iter()
-            .filter(|f| f.len() < 600 && model::answer(f, slip) != model::answer(f, Slip::None))
+            .filter(|f| f.len() < 600 && without_checks(f, slip) != without_checks(f, Slip::None))
             .count();
         for (frame, answer) in pool.iter().zip(&answers) {
             if caught >= CATCHES {
                 break;
             }
-            if !taken.contains(frame) && model::answer(frame, slip) != *answer {
+            if !taken.contains(frame) && without_checks(frame, slip) != *answer {
                 caught += 1;
                 taken.insert(frame.clone());
                 chosen.push(frame.clone());
@@ -179,7 +196,12 @@ pub fn choose(source: &str, seed: u64, drawn: usize) -> Result<Vec<Stored>, Stri
     // The third part.
     let mut rng = Rng::new(seed + 2);
     let pool = draw(&mut rng, drawn, 320, |_| "skipped");
-    catch(&SLIPS[SECOND_SLIPS..], &pool, &mut chosen, &mut taken);
+    catch(
+        &SLIPS[SECOND_SLIPS..THIRD_SLIPS],
+        &pool,
+        &mut chosen,
+        &mut taken,
+    );
     chosen
         .into_iter()
         .map(|frame| {

@@ -363,10 +363,12 @@ pub fn forced(frame: &[u8]) -> Vec<u8> {
     let Some(number) = by_force(frame) else {
         return answer;
     };
-    let without = as_the_rust(&answer).expect("the model writes the field");
-    let end = without.iter().position(|&byte| byte == b'\n');
-    let (first, rest) = without.split_at(end.expect("a first line"));
-    [first, format!(" skipped {number}").as_bytes(), rest].concat()
+    let without = as_the_rust(&answer).expect("the model writes both fields");
+    let end = without.listing.iter().position(|&byte| byte == b'\n');
+    let (first, rest) = without.listing.split_at(end.expect("a first line"));
+    let checks = without.checks.expect("a listing has checks");
+    let fields = format!(" skipped {number} checks {checks}");
+    [first, fields.as_bytes(), rest].concat()
 }
 
 /// The number of a frame's listing by force: every pair is compared with all before it, and the

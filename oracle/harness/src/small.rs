@@ -44,7 +44,7 @@ pub fn queries(source: &str) -> Result<String, String> {
         for query in &queries {
             let frame = img.frame(query);
             let oracle = listed::answer(&frame, false);
-            if !matches!(oracle, listed::Answer::Listing(_)) {
+            if !matches!(oracle, listed::Answer::Listing { .. }) {
                 return Err(format!("{name}, {query:?}: {}", oracle.text()));
             }
             asked(&mut out, &frame).map_err(|why| format!("{name}, {query:?}: {why}"))?;

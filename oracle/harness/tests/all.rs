@@ -3,8 +3,8 @@
 
 use harness::drive::{Counts, compare};
 use harness::img::{Img, Query};
-use harness::judge::{Judge, as_the_rust, unpack};
-use harness::{damage, draw, limits, pairs, plans, sample, skipped, small, text, verdicts};
+use harness::judge::{AsTheRust, Judge, Said, as_the_rust, unpack};
+use harness::{damage, draw, limits, pairs, plans, sample, skipped, small, text, turned, verdicts};
 use model::belongs::{Belongs, Reading};
 use model::brute::Derivations;
 use model::image::{Image, LIT, lowest_doubled, tables, verdict};
@@ -33,10 +33,10 @@ fn stored() -> Vec<sample::Stored> {
         .collect()
 }
 
-/// Whether the oracle's listing is this one but for the field that the Rust does not write.
+/// Whether the oracle's listing is this one but for the fields that the Rust does not write, with
+/// as many checks as the oracle counted.
 fn alike(frame: &[u8], listing: &str) -> bool {
-    let oracle = listed::answer(frame, false).text().as_bytes().to_vec();
-    as_the_rust(listing.as_bytes()) == Some(oracle)
+    Said::of_oracle(frame, false).agrees(listing.as_bytes())
 }
 
 const ORACLE: Judge = Judge::Oracle { pruning: false };
@@ -44,8 +44,8 @@ const MODEL: Judge = Judge::Model(Slip::None);
 
 #[test]
 fn example_e_of_document_01() {
-    let improved =
-        "size 4 mass 2 skipped 0\n0 lit 0 5\n1 lit 0 7\n2 variants 1:1 0:1\n3 op 1 0:1 2:1\n";
+    let merged = "0 lit 0 5\n1 lit 0 7\n2 variants 1:1 0:1\n3 op 1 0:1 2:1\n";
+    let apart = "0 lit 0 5\n1 lit 0 7\n2 op 1 0:1 1:1\n3 op 1 0:2\n4 variants 2:1 3:1\n";
     let (img, mut queries) = text::parse(&file("../examples/E.txt")).unwrap();
     let mut answer = |budget| {
         queries[0].budget = budget;
@@ -54,16 +54,24 @@ fn example_e_of_document_01() {
         assert!(alike(&frame, &text));
         text
     };
-    assert_eq!(answer(14), format!("complete pairs 3 rounds 1 {improved}"));
-    for budget in [13, 10] {
-        assert_eq!(
-            answer(budget),
-            format!("partial pairs 3 rounds 1 {improved}")
-        );
-    }
-    for (budget, pairs) in [(9, 3), (3, 3), (2, 1), (0, 1)] {
-        let start = format!("partial pairs {pairs} rounds 0 size 6 mass 6 skipped 0\n");
-        assert!(answer(budget).starts_with(&start));
+    for (budget, checks, line, terms) in [
+        (14, 14, "complete pairs 3 rounds 1 size 4 mass 2", merged),
+        (1_000, 14, "complete pairs 3 rounds 1 size 4 mass 2", merged),
+        (
+            u32::MAX,
+            14,
+            "complete pairs 3 rounds 1 size 4 mass 2",
+            merged,
+        ),
+        (13, 13, "partial pairs 3 rounds 1 size 4 mass 2", merged),
+        (10, 10, "partial pairs 3 rounds 1 size 4 mass 2", merged),
+        (9, 9, "partial pairs 3 rounds 0 size 6 mass 6", apart),
+        (3, 3, "partial pairs 3 rounds 0 size 6 mass 6", apart),
+        (2, 2, "partial pairs 1 rounds 0 size 6 mass 6", apart),
+        (0, 0, "partial pairs 1 rounds 0 size 6 mass 6", apart),
+    ] {
+        let listing = format!("{line} skipped 0 checks {checks}\n{terms}");
+        assert_eq!(answer(budget), listing);
     }
 }
 
@@ -380,6 +388,12 @@ fn queries_of_skipped_pairs_are_up_to_date() {
 }
 
 #[test]
+fn queries_about_checks_are_up_to_date() {
+    let made = small::queries(&file("sample/checks.images")).unwrap();
+    assert!(made == file("sample/checks.txt"), "make checks.txt again");
+}
+
+#[test]
 fn stored_slips_are_up_to_date() {
     let stored = file("sample/slips.txt");
     assert!(
@@ -388,29 +402,129 @@ fn stored_slips_are_up_to_date() {
     );
 }
 
-/// Only the first line's last field is dropped, and only where it is one.
+/// Only the first line's last two fields are dropped, and only where they are there.
 #[test]
-fn the_field_that_the_rust_does_not_write() {
-    let dropped =
-        |answer: &str| as_the_rust(answer.as_bytes()).map(|kept| String::from_utf8(kept).unwrap());
-    for (answer, kept) in [
+fn the_fields_that_the_rust_does_not_write() {
+    let dropped = |answer: &str| {
+        let AsTheRust { listing, checks } = as_the_rust(answer.as_bytes())?;
+        Some((String::from_utf8(listing).unwrap(), checks))
+    };
+    for (answer, kept, checks) in [
         (
-            "partial pairs 1 mass 2 skipped 0\n0 lit 0 5\n",
-            Some("partial pairs 1 mass 2\n0 lit 0 5\n"),
+            "partial pairs 1 mass 2 skipped 0 checks 0\n0 lit 0 5\n",
+            "partial pairs 1 mass 2\n0 lit 0 5\n",
+            Some(0),
         ),
         (
-            "complete mass 2 skipped 262144\n",
-            Some("complete mass 2\n"),
+            "complete mass 2 skipped 262144 checks 16793601\n",
+            "complete mass 2\n",
+            Some(16_793_601),
         ),
-        ("refused 12\n", Some("refused 12\n")),
-        ("complete pairs 1 mass 2\n0 lit 0 5\n", None),
-        ("complete pairs 1 mass 2 skipped\n0 lit 0 5\n", None),
-        ("complete pairs 1 mass 2 skipped 00\n0 lit 0 5\n", None),
-        ("complete pairs 1 mass 2 skipped -1\n0 lit 0 5\n", None),
-        ("complete pairs 1 mass 2 skipped 1 \n0 lit 0 5\n", None),
-        ("complete pairs 1 mass 2\n0 lit skipped 5\n", None),
+        ("refused 12\n", "refused 12\n", None),
     ] {
-        assert_eq!(dropped(answer).as_deref(), kept, "{answer}");
+        assert_eq!(dropped(answer), Some((kept.to_string(), checks)));
+    }
+    for first in [
+        "complete pairs 1 mass 2",
+        "complete pairs 1 mass 2 skipped 0",
+        "complete pairs 1 mass 2 checks 4",
+        "complete pairs 1 mass 2 checks 4 skipped 0",
+        "complete pairs 1 mass 2 skipped checks 4",
+        "complete pairs 1 mass 2 skipped 0 checks",
+        "complete pairs 1 mass 2 skipped 0 checks ",
+        "complete pairs 1 mass 2 skipped 00 checks 4",
+        "complete pairs 1 mass 2 skipped 0 checks 04",
+        "complete pairs 1 mass 2 skipped -1 checks 4",
+        "complete pairs 1 mass 2 skipped 0 checks +4",
+        "complete pairs 1 mass 2 skipped 0 checks 4 ",
+        "complete pairs 1 mass 2 skipped 0  checks 4",
+        "complete pairs 1 mass 2 skipped 0 checks 4 more 0",
+        "complete pairs 1 mass 2 skipped 0 more 0 checks 4",
+        "complete pairs 1 mass 2 skipped 0 Checks 4",
+    ] {
+        assert_eq!(dropped(&format!("{first}\n0 lit 0 5\n")), None, "{first}");
+    }
+    let below = "complete pairs 1 mass 2\n0 lit skipped 0 checks 4\n";
+    assert_eq!(dropped(below), None);
+}
+
+/// The slips about the checks that passed.
+fn about_checks() -> &'static [(Slip, &'static str, &'static str)] {
+    let first = SLIPS.iter().position(|slip| slip.1 == "ChecksExpired");
+    &SLIPS[first.unwrap()..]
+}
+
+/// A wrong number of checks is a difference from the oracle, though the Rust does not write it:
+/// its own count is held against it, and shown.
+#[test]
+fn the_oracle_counts_the_checks() {
+    let frames = draw(13, 400, None);
+    for &(slip, name, _) in about_checks() {
+        let slipped = Judge::Model(slip);
+        for (a, b) in [(&ORACLE, &slipped), (&slipped, &ORACLE)] {
+            let difference = compare(a, b, &frames, &mut Counts::default()).unwrap();
+            let shown = difference.expect(name).print("a", "b");
+            assert!(
+                shown.contains("\nchecks counted by the oracle: "),
+                "{shown}"
+            );
+        }
+        // With the field dropped, nothing else is wrong but for the order of the fields.
+        let mut alone = 0;
+        for frame in &frames {
+            let (right, wrong) = (model::answer(frame, Slip::None), model::answer(frame, slip));
+            if right.starts_with("refused") || wrong == right {
+                continue;
+            }
+            let oracle = Said::of_oracle(frame, false);
+            if oracle.counted.is_some() {
+                assert!(!oracle.agrees(wrong.as_bytes()), "{name}");
+                let dropped = as_the_rust(wrong.as_bytes());
+                alone += usize::from(dropped.is_some_and(|one| one.listing == oracle.answer));
+            }
+        }
+        assert_eq!(alone > 0, slip != Slip::ChecksFirst, "{name}: {alone}");
+    }
+}
+
+/// The oracle's count starts anew with each query, also after one that it could not hold.
+#[test]
+fn the_oracle_counts_each_query_alone() {
+    let (img, queries) = text::parse(&file("../examples/E.txt")).unwrap();
+    let frame = img.frame(&queries[0]);
+    let mut unholdable = 0;
+    for other in draw(3, 60, Some("huge")) {
+        unholdable += usize::from(listed::answer(&other, false) == listed::Answer::Unholdable);
+        assert_eq!(listed::answer(&frame, false).checks(), Some(14));
+    }
+    assert!(unholdable > 0);
+}
+
+/// "Complete runs on (left, right) and (right, left), neither refused," are alike, and runs spend
+/// what they should (see `harness::turned`).
+#[test]
+fn turned_queries() {
+    let count = if cfg!(debug_assertions) { 500 } else { 2_000 };
+    let drawn = draw(1_313, count, None);
+    let asked = |judge: &Judge, counts: &mut Counts| {
+        let mut runs = |frames: &[Vec<u8>]| turned::by_judge(judge, frames);
+        turned::turned(&drawn, &mut runs, counts)
+    };
+    let mut counts = Counts::default();
+    asked(&MODEL, &mut counts).unwrap();
+    let complete = counts.get("enough checks: both complete");
+    assert!(complete > 9 * count as u64 / 10, "{complete}");
+    asked(&ORACLE, &mut Counts::default()).unwrap();
+    // Wrong counts of checks, and rules for one side only.
+    let one_sided = [
+        Slip::PadLeftOnly,
+        Slip::UnchangedCounted,
+        Slip::FreeSelfPairs,
+    ];
+    let wrong = about_checks().iter().map(|slip| slip.0).chain(one_sided);
+    for slip in wrong {
+        let slipped = asked(&Judge::Model(slip), &mut Counts::default());
+        assert!(slipped.is_err(), "{slip:?}");
     }
 }
 
@@ -421,14 +535,15 @@ fn skipped_pairs_are_counted_once() {
     let count = if cfg!(debug_assertions) { 300 } else { 2_000 };
     let frames = draw(77, count, Some("skipped"));
     let first = SLIPS.iter().position(|slip| slip.1 == "SkippedUncounted");
-    let slips = &SLIPS[first.unwrap()..];
+    let slips = &SLIPS[first.unwrap()..SLIPS.len() - about_checks().len()];
     let mut caught = vec![0; slips.len()];
     let (mut above, mut cut) = (0, 0);
     for frame in &frames {
         let (text, outcome) = model::outcome(frame, Slip::None).unwrap();
         assert_eq!(Some(outcome.skipped), skipped::by_force(frame), "{text}");
         let first = text.lines().next().unwrap();
-        assert!(first.ends_with(&format!(" skipped {}", outcome.skipped)));
+        let (skipped, checks) = (outcome.skipped, outcome.checks);
+        assert!(first.ends_with(&format!(" skipped {skipped} checks {checks}")));
         above += usize::from(outcome.skipped > 0);
         cut += usize::from(outcome.skipped > 0 && outcome.phase == Phase::Building);
         for (caught, (slip, ..)) in caught.iter_mut().zip(slips) {
@@ -457,7 +572,8 @@ fn costly_queries_are_accepted() {
     ] {
         let answer = model::answer(&skipped::costly(name).unwrap(), Slip::None);
         let first = answer.lines().next().unwrap();
-        assert!(first.ends_with(&format!(" skipped {number}")), "{first}");
+        let field = format!(" skipped {number} checks ");
+        assert!(first.contains(&field), "{first}");
     }
 }
 

@@ -27,7 +27,8 @@ use egraph::EGraph;
 /// What the oracle says to one frame (image, left, right, budget).
 #[derive(Clone, Debug, PartialEq, Eq)]
 pub enum Answer {
-    Listing(String),
+    /// The listing, and how many checks passed by the clock's own count: the Rust does not write it.
+    Listing { text: String, checks: u64 },
     /// An expanded child list would pass 1,000,000 entries.
     Unholdable,
     /// Not the frame of an accepted image: the oracle does not judge these.
@@ -37,9 +38,17 @@ pub enum Answer {
 impl Answer {
     pub fn text(&self) -> &str {
         match self {
-            Answer::Listing(text) => text,
+            Answer::Listing { text, .. } => text,
             Answer::Unholdable => "unholdable\n",
             Answer::Unreadable => "unreadable\n",
+        }
+    }
+
+    /// The checks that passed, where there is a listing.
+    pub fn checks(&self) -> Option<u64> {
+        match self {
+            Answer::Listing { checks, .. } => Some(*checks),
+            _ => None,
         }
     }
 }
@@ -52,6 +61,7 @@ pub fn answer(frame: &[u8], pruning: bool) -> Answer {
     if query.left >= classes || query.right >= classes {
         return Answer::Unreadable;
     }
+    clock::start();
     let run = std::panic::AssertUnwindSafe(|| {
         let egraph: EGraph<ImageConfig, u32, false, false> = EGraph::new(query.image);
         let snap = AuSnapshot::new(&egraph);
@@ -66,7 +76,10 @@ pub fn answer(frame: &[u8], pruning: bool) -> Answer {
         listing::listing(&result, &pool)
     });
     match std::panic::catch_unwind(run) {
-        Ok(text) => Answer::Listing(text),
+        Ok(text) => Answer::Listing {
+            text,
+            checks: clock::passed(),
+        },
         Err(cause) if cause.is::<hold::Unholdable>() => Answer::Unholdable,
         Err(cause) => std::panic::resume_unwind(cause),
     }

@@ -14,9 +14,19 @@ pub fn listing(outcome: &Outcome, slip: Slip) -> String {
         _ => "partial",
     };
     let (size, mass) = outcome.pool.nodes[outcome.root].quality;
+    // (02, Paper 7) "The first line of the listing ends with `skipped` and the number" (Paper 13)
+    // "the listing's first line gets a final field `checks`".
+    let skipped = format!("skipped {}", outcome.skipped);
+    let checks = format!("checks {}", outcome.checks);
+    let last = match slip {
+        Slip::ChecksFirst => [checks, skipped],
+        _ => [skipped, checks],
+    };
     let mut text = format!(
-        "{status} pairs {} rounds {} size {size} mass {mass} skipped {}\n",
-        outcome.pairs, outcome.rounds, outcome.skipped
+        "{status} pairs {} rounds {} size {size} mass {mass} {}\n",
+        outcome.pairs,
+        outcome.rounds,
+        last.join(" ")
     );
     let mut order = Vec::new();
     finish(

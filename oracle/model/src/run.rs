@@ -7,18 +7,35 @@ use crate::slip::Slip;
 use crate::term::{Pool, Quality, Runs};
 use crate::transport::{Problem, Solution, solve};
 
-/// "With budget B, the first B checks pass and the next one is expired."
-pub struct Budget(u64);
+/// "With budget B, the first B checks pass and the next one is expired." (02, Paper 13) "The
+/// checks that passed" are counted as they pass.
+pub struct Budget {
+    left: u64,
+    passed: u64,
+    slip: Slip,
+}
 
 impl Budget {
     pub fn new(checks: u32, slip: Slip) -> Self {
-        Budget(u64::from(checks) + u64::from(slip == Slip::BudgetOneMore))
+        Budget {
+            left: u64::from(checks) + u64::from(slip == Slip::BudgetOneMore),
+            passed: 0,
+            slip,
+        }
     }
 
     pub fn spend(&mut self) -> bool {
-        let passes = self.0 > 0;
-        self.0 = self.0.saturating_sub(1);
+        let passes = self.left > 0;
+        self.left = self.left.saturating_sub(1);
+        self.passed += u64::from(passes || self.slip == Slip::ChecksExpired);
         passes
+    }
+
+    /// For slips: forgets what was counted since there were so many.
+    fn forget(&mut self, passed: u64, slip: Slip) {
+        if self.slip == slip {
+            self.passed = passed;
+        }
     }
 }
 
@@ -51,6 +68,8 @@ pub struct Outcome {
     pub rounds: usize,
     /// Monomial pairs passed over in building, each once for the same classes and operation.
     pub skipped: usize,
+    /// The checks that passed.
+    pub checks: u64,
     pub root: usize,
     pub pool: Pool,
     pub met: Met,
@@ -88,6 +107,10 @@ pub fn run(
                 },
                 rounds: 0,
                 skipped,
+                checks: match slip {
+                    Slip::ChecksCutNone => 0,
+                    _ => budget.passed,
+                },
                 root,
                 pool,
                 met,
@@ -96,6 +119,8 @@ pub fn run(
     };
     let (pairs, skipped) = (graph.pairs.len(), graph.skipped());
     met.monomials = graph.met;
+    budget.forget(0, Slip::ChecksBuilding);
+    let built = budget.passed;
     let mut terms = Vec::new();
     for &(left, right) in &graph.pairs {
         if slip != Slip::FreeStartingTerms && !budget.spend() {
@@ -104,12 +129,14 @@ pub fn run(
                 pairs,
                 rounds: 0,
                 skipped,
+                checks: budget.passed,
                 root,
                 pool,
                 met,
             });
         }
         terms.push(pool.starting(image, left, right)?);
+        budget.forget(built, Slip::ChecksStartingTerms);
     }
     let mut qualities: Vec<Quality> = terms.iter().map(|&t| pool.nodes[t].quality).collect();
     let mut rounds = 0;
@@ -123,9 +150,11 @@ pub fn run(
                 root
             }
         };
+        let before_round = budget.passed;
         if slip != Slip::FreeRoundStart && !budget.spend() {
             break (Phase::RoundStart, cut(terms[0]));
         }
+        budget.forget(before_round, Slip::ChecksRoundStart);
         let round = Round {
             image,
             graph: &graph,
@@ -133,16 +162,21 @@ pub fn run(
         };
         match round.pass(&terms, &qualities, &mut pool, &mut budget, &mut met)? {
             Pass::Cut(root) if slip == Slip::CutRoundKept => break (Phase::InsideRound, root),
-            Pass::Cut(_) => break (Phase::InsideRound, cut(terms[0])),
+            Pass::Cut(_) => {
+                budget.forget(before_round, Slip::ChecksCutRound);
+                break (Phase::InsideRound, cut(terms[0]));
+            }
             // "The run is complete at the first finished round without change."
             Pass::Finished(next, _) if next == terms => {
                 rounds += usize::from(slip == Slip::UnchangedCounted);
+                budget.forget(before_round, Slip::ChecksQuietRound);
                 break (Phase::Complete, terms[0]);
             }
             Pass::Finished(next, better) => {
                 before = terms[0];
                 (terms, qualities) = (next, better);
                 rounds += 1;
+                budget.forget(before_round, Slip::ChecksChangingRounds);
                 if slip == Slip::OneRound {
                     break (Phase::Complete, terms[0]);
                 }
@@ -154,6 +188,10 @@ pub fn run(
         pairs,
         rounds,
         skipped,
+        checks: match slip {
+            Slip::ChecksBudget => u64::from(checks),
+            _ => budget.passed,
+        },
         root,
         pool,
         met,
@@ -188,8 +226,12 @@ impl Round<'_> {
         let mut late = Vec::new();
         for (number, &(left, right)) in self.graph.pairs.iter().enumerate() {
             let free = self.slip == Slip::FreeSelfPairs && left == right;
+            let before = budget.passed;
             if !free && !budget.spend() {
                 return Ok(Pass::Cut(next[0]));
+            }
+            if left == right {
+                budget.forget(before, Slip::ChecksSelfPairs);
             }
             let same = self.slip == Slip::SameRound;
             let qualities = if same { &better[..] } else { qualities };

@@ -113,4 +113,16 @@ slips! {
     SkippedOnceAQuery: "a skipped monomial pair is counted once for all pairs of classes",
     SkippedCutNone: "a run cut in building reports none skipped",
     SkippedExpired: "the pair of classes whose check expired is counted too",
+    // The checks that passed: the sample's three parts catch these too
+    ChecksExpired: "the check that expired is counted too",
+    ChecksBudget: "a complete run reports its budget",
+    ChecksCutNone: "a run cut in building reports no checks",
+    ChecksBuilding: "the checks of building are not counted where it is finished",
+    ChecksStartingTerms: "the checks of starting terms are not counted",
+    ChecksRoundStart: "the check at a round's start is not counted",
+    ChecksSelfPairs: "the checks of pairs of a class with itself are not counted in a round",
+    ChecksCutRound: "the checks of a round cut short inside are not counted",
+    ChecksQuietRound: "the checks of the last round, without change, are not counted",
+    ChecksChangingRounds: "the checks of the rounds with a change are not counted",
+    ChecksFirst: "`checks` stands before `skipped`",
 }

@@ -5,12 +5,12 @@
 //! with a small budget. With a family every call gets a drawn frame of it, also a large one; those of family `doubled` are
 //! changed rarely, so that most reach rule 10. All buffers hold garbage before the call, and now and then one is too short.
 //! Afterwards: the number is in the table; the output is untouched on a refusal, and untouched behind the listing otherwise;
-//! every work buffer is zero, or as it was where one was too short; and the answer is the model's, with 10 also the class,
-//! which is 0 with every other number.
+//! every work buffer is zero, or as it was where one was too short; the answer is the model's, with 10 also the class,
+//! which is 0 with every other number; and a listing's checks are 2n + (r + 1)(n + 1) where it is complete, else the budget.
 
 use std::collections::BTreeMap;
 
-use bench::buffers::{Buffers, Expected};
+use bench::buffers::{Buffers, Expected, checks_hold};
 use bench::seed_count_family;
 use harness::draw;
 use harness::r#gen;
@@ -105,7 +105,8 @@ fn fuzz(seed: u64, count: usize, family: Option<&'static str>) -> BTreeMap<u32, 
         } else {
             Expected::of(Caller::Desk, &image, query, OUTPUT)
         };
-        let right = buffers.hold(r, &expected, short);
+        let right = buffers.hold(r, &expected, short)
+            && (r.number != 0 || checks_hold(&buffers.out[..r.bytes], query));
         assert!(
             right,
             "turn {turn} of seed {seed}: {r:?}, expected {expected:?}; image {image:02x?} query {query:02x?}"

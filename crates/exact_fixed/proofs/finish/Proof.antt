@@ -43,7 +43,7 @@ conclude-requires c κs =
     let s = c .before .before .before .before .before .before .before .before .before .before .before .before .before .before .before .before .start in
     let z = s .last .1 .1 .1 .1 .1 .1 in
     let e = c .before .before .before .before .before .before .before .before .x .given .1 in
-    ran-listable (run-of b) (a .graph .now) (z .1 .0) (z .1 .1 .0) (c .before .before .before .before .before .before .before .before .x .given .0 .0) (follows-ended (limitsOf (a .lim)) (tablesOf (a .s .now)) (run-of b) (a .im .classes) (a .graph .now) (z .0) (z .1 .0) (z .1 .1 .0) (s .result) (s .ensures) _ e)
+    ran-listable (run-of b) (a .graph .now) (z .1 .0) (z .1 .1 .0) (c .before .before .before .before .before .before .before .before .x .given .0 .0) (follows-ended (limitsOf (a .lim)) (tablesOf (a .s .now)) (run-of b) (a .q .budget) (a .im .classes) (a .graph .now) (z .0) (z .1 .0) (z .1 .1 .0) (s .result) (s .ensures) _ e)
 
 same-length : tie.Need-same-length
 same-length c = omega (arith, c .before .before .before .before .before .before .before .before .before .before .before .before .before .before .conclude .kept, c .before .before .before .before .before .before .before .before .before .before .before .before .before .before .before .before .before .before .before .before .before .before .before .before .before .before .before .before .before .before .before .start .kept)
@@ -74,7 +74,7 @@ returns c =
     let z = s .last .1 .1 .1 .1 .1 .1 in
     let e = c .before .before .before .before .before .before .before .before .before .before .before .before .before .before .before .before .before .before .before .before .before .before .before .x .given .1 in
     let o = c .before .before .before .before .before .before .before .before .before .before .before .before .before .before .conclude in
-    (told b (c .before .before .before .before .before .before .before .before .before .before .before .before .before .before .before .before .before .before .before .before .before .before .before .before .before .before .before .before .before .before .before .before .before .before .before .before .skipped-of .result) (c .before .before .before .before .before .before .before .before .before .before .before .before .before .before .before .before .before .before .before .before .before .before .before .before .before .before .before .before .before .before .before .before .before .before .before .before .skipped-of .ensures) (ran-answers (run-of b) (a .graph .now) (z .1 .0) (z .1 .1 .0) (c .before .before .before .before .before .before .before .before .before .before .before .before .before .before .before .before .before .before .before .before .before .before .before .before .before .before .before .before .before .before .before .before .before .before .before .before .skipped-of .result) (c .before .before .before .before .before .before .before .before .before .before .before .before .before .before .before .before .before .before .before .before .before .before .before .x .given .0 .0) (a .out .now) _ _ (follows-ended (limitsOf (a .lim)) (tablesOf (a .s .now)) (run-of b) (a .im .classes) (a .graph .now) (z .0) (z .1 .0) (z .1 .1 .0) (s .result) (s .ensures) _ e) (o .ensures .0)), cleared-same (o .ensures .1) refl (omega (arith, s .kept)) refl refl (omega (arith, s .kept)) (omega (arith, s .kept)))
+    (told b (c .before .before .before .before .before .before .before .before .before .before .before .before .before .before .before .before .before .before .before .before .before .before .before .before .before .before .before .before .before .before .before .before .before .before .before .before .skipped-of .result) (c .before .before .before .before .before .before .before .before .before .before .before .before .before .before .before .before .before .before .before .before .before .before .before .before .before .before .before .before .before .before .before .before .before .before .before .before .skipped-of .ensures) (ran-answers (run-of b) (a .graph .now) (z .1 .0) (z .1 .1 .0) (c .before .before .before .before .before .before .before .before .before .before .before .before .before .before .before .before .before .before .before .before .before .before .before .before .before .before .before .before .before .before .before .before .before .before .before .before .skipped-of .result) (c .before .before .before .before .before .before .before .before .before .before .before .before .before .before .before .before .before .before .before .before .before .before .before .x .given .0 .0) (a .out .now) _ _ (follows-ended (limitsOf (a .lim)) (tablesOf (a .s .now)) (run-of b) (a .q .budget) (a .im .classes) (a .graph .now) (z .0) (z .1 .0) (z .1 .1 .0) (s .result) (s .ensures) _ e) (o .ensures .0)), cleared-same (o .ensures .1) refl (omega (arith, s .kept)) refl refl (omega (arith, s .kept)) (omega (arith, s .kept)))
 
 enum-known-x-2 : tie.Need-enum-known-x-2
 enum-known-x-2 c = search needs
@@ -88,8 +88,8 @@ run-rounds-requires c κs =
     let e = c .before .before .before .before .before .before .before .before .x2 .given .1 in
     let L = b .pre .4 in
     let u = L .rooms in
-    let T = follows-rounds (limitsOf (a .lim)) (tablesOf (a .s .now)) (run-of b) (a .im .classes) (a .graph .now) (z .0) (z .1 .0) (z .1 .1 .0) (s .result) (s .ensures) _ _ e in
-    (b .pre .0, b .pre .1, T .graphs, omega (arith, L .numbers, s .kept), L .marks, L .scratch, T .holds, record { few = u .few; ends = u .ends; long = omega (arith, u .long, s .kept); roomy = omega (arith, u .roomy, s .kept) }, T .within, T .stands)
+    let T = follows-rounds (limitsOf (a .lim)) (tablesOf (a .s .now)) (run-of b) (a .q .budget) (a .im .classes) (a .graph .now) (z .0) (z .1 .0) (z .1 .1 .0) (s .result) (s .ensures) _ _ e in
+    (b .pre .0, b .pre .1, T .graphs, omega (arith, L .numbers, s .kept), L .marks, L .scratch, T .holds, record { few = u .few; ends = u .ends; long = omega (arith, u .long, s .kept); roomy = omega (arith, u .roomy, s .kept) }, T .within, T .stands, T .left)
 
 same-length-8 : tie.Need-same-length-8
 same-length-8 c = omega (arith, c .before .before .before .before .before .before .before .before .before .before .before .before .before .before .run-rounds .kept, c .before .before .before .before .before .before .before .before .before .before .before .before .before .before .before .before .before .before .before .before .before .before .before .before .before .before .before .before .before .before .before .start .kept)
@@ -120,7 +120,7 @@ returns-2 c =
     let z = s .last .1 .1 .1 .1 .1 .1 in
     let e = c .before .before .before .before .before .before .before .before .before .before .before .before .before .before .before .before .before .before .before .before .before .before .before .x2 .given .1 in
     let o = c .before .before .before .before .before .before .before .before .before .before .before .before .before .before .run-rounds in
-    (told b (c .before .before .before .before .before .before .before .before .before .before .before .before .before .before .before .before .before .before .before .before .before .before .before .before .before .before .before .before .before .before .before .before .before .before .before .before .skipped-of .result) (c .before .before .before .before .before .before .before .before .before .before .before .before .before .before .before .before .before .before .before .before .before .before .before .before .before .before .before .before .before .before .before .before .before .before .before .before .skipped-of .ensures) (rounds-answer (follows-rounds (limitsOf (a .lim)) (tablesOf (a .s .now)) (run-of b) (a .im .classes) (a .graph .now) (z .0) (z .1 .0) (z .1 .1 .0) (s .result) (s .ensures) _ _ e) (c .before .before .before .before .before .before .before .before .before .before .before .before .before .before .before .before .before .before .before .before .before .before .before .before .before .before .before .before .before .before .before .before .before .before .before .before .skipped-of .result) (a .out .now) _ _ (o .ensures .0)), cleared-same (o .ensures .1) refl (omega (arith, s .kept)) refl refl (omega (arith, s .kept)) (omega (arith, s .kept)))
+    (told b (c .before .before .before .before .before .before .before .before .before .before .before .before .before .before .before .before .before .before .before .before .before .before .before .before .before .before .before .before .before .before .before .before .before .before .before .before .skipped-of .result) (c .before .before .before .before .before .before .before .before .before .before .before .before .before .before .before .before .before .before .before .before .before .before .before .before .before .before .before .before .before .before .before .before .before .before .before .before .skipped-of .ensures) (rounds-answer (follows-rounds (limitsOf (a .lim)) (tablesOf (a .s .now)) (run-of b) (a .q .budget) (a .im .classes) (a .graph .now) (z .0) (z .1 .0) (z .1 .1 .0) (s .result) (s .ensures) _ _ e) (c .before .before .before .before .before .before .before .before .before .before .before .before .before .before .before .before .before .before .before .before .before .before .before .before .before .before .before .before .before .before .before .before .before .before .before .before .skipped-of .result) (a .out .now) _ _ (o .ensures .0)), cleared-same (o .ensures .1) refl (omega (arith, s .kept)) refl refl (omega (arith, s .kept)) (omega (arith, s .kept)))
 
 pub finish-spec : {M : Type 1} → statement M
 finish-spec =

@@ -64,6 +64,13 @@ upto5 : (c : tie.After-labelled5) → Upto (start5 c) 5 (c .labelled5 .last .0) 
 unfolding fieldsOf text
 upto5 c = still-turn (upto4 (c .before .before .before .before .before)) (c .labelled5 .ensures)
 
+abbrev start6 : tie.After-labelled6 → tie.Start
+start6 c = start5 (c .before .before .before .before .before)
+
+upto6 : (c : tie.After-labelled6) → Upto (start6 c) 6 (c .labelled6 .last .0) (c .labelled6 .result)
+unfolding fieldsOf text
+upto6 c = still-turn (upto5 (c .before .before .before .before .before)) (c .labelled6 .ensures)
+
 write-status-requires : tie.Need-write-status-requires
 write-status-requires c κs =
     let s = c .before .before in
@@ -104,28 +111,35 @@ labelled-requires-5 : tie.Need-labelled-requires-5
 unfolding fieldsOf text
 labelled-requires-5 c κs = still-room (upto4 (c .before .before .before .before))
 
+slice-aggregate-labelled-6 : tie.Need-slice-aggregate-labelled-6
+slice-aggregate-labelled-6 c = search needs
+
+labelled-requires-6 : tie.Need-labelled-requires-6
+unfolding fieldsOf text
+labelled-requires-6 c κs = still-room (upto5 (c .before .before .before .before))
+
 slice-aggregate-text : tie.Need-slice-aggregate-text
 slice-aggregate-text c = search needs
 
 text-requires : tie.Need-text-requires
 unfolding fieldsOf text
-text-requires c κs = end-room (upto5 (c .before .before .before .before))
+text-requires c κs = end-room (upto6 (c .before .before .before .before))
 
-abbrev start6 : tie.After-text → tie.Start
-start6 c = start5 (c .before .before .before .before .before)
+abbrev start7 : tie.After-text → tie.Start
+start7 c = start6 (c .before .before .before .before .before)
 
-wrote : (c : tie.After-text) → Wrote (reportLine (start6 c .args .f .complete) (fieldsOf (start6 c .args .f))) (start6 c .args .line .now) 0 (c .text .last .0) (c .text .result)
+wrote : (c : tie.After-text) → Wrote (reportLine (start7 c .args .f .complete) (fieldsOf (start7 c .args .f))) (start7 c .args .line .now) 0 (c .text .last .0) (c .text .result)
 unfolding fieldsOf text
-wrote c = still-end (upto5 (c .before .before .before .before .before)) (c .text .ensures)
+wrote c = still-end (upto6 (c .before .before .before .before .before)) (c .text .ensures)
 
 same-length : tie.Need-same-length
 same-length c =
-    let s = start6 (c .before .before) in
+    let s = start7 (c .before .before) in
     wrote-length (fits s) (wrote (c .before .before))
 
 returns : tie.Need-returns
 returns c =
-    let s = start6 (c .before .before) in
+    let s = start7 (c .before .before) in
     let w = wrote (c .before .before) in
     (w, omega (arith, w .after, short s))
 
@@ -144,6 +158,8 @@ write-first-spec =
     labelled-requires-4
     slice-aggregate-labelled-5
     labelled-requires-5
+    slice-aggregate-labelled-6
+    labelled-requires-6
     slice-aggregate-text
     text-requires
     same-length

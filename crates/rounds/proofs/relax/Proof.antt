@@ -10,7 +10,7 @@ use Rattle.turns.specs.TurnLaws.{scratch-kept}
 use Rattle.budget.specs.Spending.{expired, spent}
 use Rattle.round_outcome.specs.After.{after-next}
 use Rattle.rounds.specs.Idling.{Idles, idles-first, idles-after}
-use Rattle.rounds.specs.Running.{Running, standing-any, run-expired, round-ended, round-left, round-next, round-quiets}
+use Rattle.rounds.specs.Running.{Running, standing-any, run-expired, round-ended, round-within, round-left, round-next, round-quiets}
 use borrow.Author.Needs.{needs}
 use Prim.Native.Nat.{_≤_, _+_}
 use native.Mathlib.Omega.{arith}
@@ -21,19 +21,19 @@ use Rattle.rounds.proofs.relax.Statement.{statement}
 use Rattle.rounds.proofs.relax.Tie as tie
 
 abbrev Inv-loop : tie.InvT-loop
-Inv-loop lim s im n graph pairs₀ work₀ flow₀ terms₀ runs₀ llive₀ rlive₀ rounds₀ bud₀ pairs work flow terms runs llive rlive rounds bud = (length pairs ≡ length pairs₀) × (length work ≡ length work₀) × (length flow ≡ length flow₀) × (length terms ≡ length terms₀) × (length runs ≡ length runs₀) × (rounds + bud .left ≤ bud₀ .left)
-    × Running (limitsOf lim) (tablesOf s) (pairsIn (im .classes) graph n) n (roundsOf (limitsOf lim) (tablesOf s) (pairsIn (im .classes) graph n) (stateIn pairs₀ terms₀ runs₀ n 0 (bud₀ .left))) pairs terms runs rounds (bud .left)
+Inv-loop lim s im n graph pairs₀ work₀ flow₀ terms₀ runs₀ budget llive₀ rlive₀ rounds₀ bud₀ pairs work flow terms runs llive rlive rounds bud = (length pairs ≡ length pairs₀) × (length work ≡ length work₀) × (length flow ≡ length flow₀) × (length terms ≡ length terms₀) × (length runs ≡ length runs₀) × (rounds + bud .left ≤ bud₀ .left)
+    × Running (limitsOf lim) (tablesOf s) (pairsIn (im .classes) graph n) n (roundsOf (limitsOf lim) (tablesOf s) (pairsIn (im .classes) graph n) (stateIn pairs₀ terms₀ runs₀ n 0 (bud₀ .left) budget)) pairs terms runs budget rounds (bud .left)
     × Quiet (tablesOf s) (pairsIn (im .classes) graph n) (qualitiesIn pairs 0 n) llive rlive
     × Idles (pairsIn (im .classes) graph n) pairs llive rlive 0
 
 abbrev μ-loop : tie.MeasureT-loop
-μ-loop lim s im n graph pairs₀ work₀ flow₀ terms₀ runs₀ llive₀ rlive₀ rounds₀ bud₀ pairs work flow terms runs llive rlive rounds bud = bud .left
+μ-loop lim s im n graph pairs₀ work₀ flow₀ terms₀ runs₀ budget llive₀ rlive₀ rounds₀ bud₀ pairs work flow terms runs llive rlive rounds bud = bud .left
 
 loop-holds : tie.Need-loop-holds Inv-loop μ-loop
 loop-holds c =
     let b = c .before .before .before .before .before .before .before in
     let a = b .args in
-    (refl, refl, refl, refl, refl, omega arith, record { rest = refl; standing = b .pre .9; long = omega (arith, b .pre .2 .few, b .pre .3); holds = b .pre .6; within = b .pre .8 }, quiet-first (tablesOf (a .s .now)) (b .pre .1) (pairsIn (a .im .classes) (a .graph .now) (a .n)) (b .pre .2 .pairs) (qualitiesIn (a .pairs .now) 0 (a .n)) (replicate 256 1) (replicate 256 1) refl refl, idles-first (tablesOf (a .s .now)) (b .pre .1) (pairsIn (a .im .classes) (a .graph .now) (a .n)) (b .pre .2 .pairs) (a .pairs .now))
+    (refl, refl, refl, refl, refl, omega arith, record { rest = refl; standing = b .pre .9; left = b .pre .10; long = omega (arith, b .pre .2 .few, b .pre .3); holds = b .pre .6; within = b .pre .8 }, quiet-first (tablesOf (a .s .now)) (b .pre .1) (pairsIn (a .im .classes) (a .graph .now) (a .n)) (b .pre .2 .pairs) (qualitiesIn (a .pairs .now) 0 (a .n)) (replicate 256 1) (replicate 256 1) refl refl, idles-first (tablesOf (a .s .now)) (b .pre .1) (pairsIn (a .im .classes) (a .graph .now) (a .n)) (b .pre .2 .pairs) (a .pairs .now))
 
 spend-requires : tie.Need-spend-requires Inv-loop μ-loop
 spend-requires c κs = search needs
@@ -61,17 +61,24 @@ returns c =
     let b = c .before .before .before .before .before .before .before .before .before .before .before .before .before .before in
     let a = b .args in
     let l = c .before .before .before .before .before .before .loop in
-    run-expired (limitsOf (a .lim)) (tablesOf (a .s .now)) (pairsIn (a .im .classes) (a .graph .now) (a .n)) (a .n) (b .pre .2 .many) (b .pre .2 .some) (a .graph .now) (b .pre .4) (roundsOf (limitsOf (a .lim)) (tablesOf (a .s .now)) (pairsIn (a .im .classes) (a .graph .now) (a .n)) (stateIn (a .pairs .now) (a .terms .now) (a .runs .now) (a .n) 0 (a .b .left))) (l .pairs) (l .terms) (l .runs) (l .rounds) (l .bud .left) (l .inv .6) (c .reported .result) (c .reported .ensures) (expired (l .bud) (c .before .before .before .before .before .spend .result) (c .before .before .before .before .before .spend .ensures) (c .before .before .if1 .taken))
+    run-expired (limitsOf (a .lim)) (tablesOf (a .s .now)) (pairsIn (a .im .classes) (a .graph .now) (a .n)) (a .n) (b .pre .2 .many) (b .pre .2 .some) (a .graph .now) (b .pre .4) (roundsOf (limitsOf (a .lim)) (tablesOf (a .s .now)) (pairsIn (a .im .classes) (a .graph .now) (a .n)) (stateIn (a .pairs .now) (a .terms .now) (a .runs .now) (a .n) 0 (a .b .left) (a .budget))) (l .pairs) (l .terms) (l .runs) (a .budget) (l .rounds) (l .bud .left) (l .inv .6) (c .reported .result) (c .reported .ensures) (expired (l .bud) (c .before .before .before .before .before .spend .result) (c .before .before .before .before .before .spend .ensures) (c .before .before .if1 .taken))
 
 relax-all-requires : tie.Need-relax-all-requires Inv-loop μ-loop
 relax-all-requires c κs =
     let b = c .before .before .before .before .before .before .before .before .before .before .before .before .before .before .before .before .before .before .before in
     let a = b .args in
     let l = c .before .before .before .before .before .before .before .before .before .before .before .loop in
-    (b .pre .0, b .pre .1, b .pre .2, l .inv .6 .long, scratch-kept (b .pre .5) (l .inv .1) (l .inv .2), l .inv .6 .holds, rooms-same (l .inv .3) (l .inv .4) (b .pre .7), l .inv .6 .within, standing-any (pairsIn (a .im .classes) (a .graph .now) (a .n)) (l .pairs) (l .terms) (l .runs) (a .n) (l .rounds) (l .bud .left) 0 0 (l .inv .6 .standing), l .inv .7, l .inv .8)
+    (b .pre .0, b .pre .1, b .pre .2, l .inv .6 .long, scratch-kept (b .pre .5) (l .inv .1) (l .inv .2), l .inv .6 .holds, rooms-same (l .inv .3) (l .inv .4) (b .pre .7), l .inv .6 .within, standing-any (pairsIn (a .im .classes) (a .graph .now) (a .n)) (l .pairs) (l .terms) (l .runs) (a .n) (l .rounds) (l .bud .left) (a .budget) 0 0 0 (l .inv .6 .standing), l .inv .7, l .inv .8)
 
 after-round-requires : tie.Need-after-round-requires Inv-loop μ-loop
-after-round-requires c κs = omega (arith, c .before .before .before .before .before .before .before .before .before .before .before .before .before .before .before .before .before .before .before .before .before .before .before .loop .inv .6 .long, c .before .before .before .before .before .before .before .before .before .before .before .relax-all .kept, c .before .before .before .before .before .before .before .before .before .before .before .before .before .before .before .before .before .before .before .before .before .before .before .before .before .before .before .before .before .before .before .pre .2 .some)
+after-round-requires c κs =
+    let b = c .before .before .before .before .before .before .before .before .before .before .before .before .before .before .before .before .before .before .before .before .before .before .before .before .before .before .before .before .before .before .before in
+    let a = b .args in
+    let l = c .before .before .before .before .before .before .before .before .before .before .before .before .before .before .before .before .before .before .before .before .before .before .before .loop in
+    let sp = c .before .before .before .before .before .before .before .before .before .before .before .before .before .before .before .before .before .before .before .before .before .before .spend in
+    let r = c .before .before .before .before .before .before .before .before .before .before .before .relax-all in
+    let z = spent (l .bud) (sp .result) (sp .ensures) (c .before .before .before .before .before .before .before .before .before .before .before .before .before .before .before .before .before .before .before .if1 .left) in
+    (omega (arith, l .inv .6 .long, r .kept, b .pre .2 .some), round-within (limitsOf (a .lim)) (tablesOf (a .s .now)) (pairsIn (a .im .classes) (a .graph .now) (a .n)) (a .n) (b .pre .2 .many) (b .pre .2 .some) (a .graph .now) (b .pre .4) (roundsOf (limitsOf (a .lim)) (tablesOf (a .s .now)) (pairsIn (a .im .classes) (a .graph .now) (a .n)) (stateIn (a .pairs .now) (a .terms .now) (a .runs .now) (a .n) 0 (a .b .left) (a .budget))) (l .pairs) (l .terms) (l .runs) (a .budget) (l .rounds) (l .bud .left) (l .inv .6) (sp .result .budget .left) z _ _ _ (r .result) (r .ensures))
 
 enum-known-y : tie.Need-enum-known-y Inv-loop μ-loop
 enum-known-y c = search needs
@@ -99,7 +106,7 @@ returns-2 c =
     let sp = c .before .before .before .before .before .before .before .before .before .before .before .before .before .before .before .before .before .before .before .before .before .before .before .before .before .before .spend in
     let r = c .before .before .before .before .before .before .before .before .before .before .before .before .before .before .before .relax-all in
     let z = spent (l .bud) (sp .result) (sp .ensures) (c .before .before .before .before .before .before .before .before .before .before .before .before .before .before .before .before .before .before .before .before .before .before .before .if1 .left) in
-    round-ended (limitsOf (a .lim)) (tablesOf (a .s .now)) (pairsIn (a .im .classes) (a .graph .now) (a .n)) (a .n) (b .pre .2 .many) (b .pre .2 .some) (a .graph .now) (b .pre .4) (roundsOf (limitsOf (a .lim)) (tablesOf (a .s .now)) (pairsIn (a .im .classes) (a .graph .now) (a .n)) (stateIn (a .pairs .now) (a .terms .now) (a .runs .now) (a .n) 0 (a .b .left))) (l .pairs) (l .terms) (l .runs) (l .rounds) (l .bud .left) (l .inv .6) (sp .result .budget .left) z _ _ _ (r .result) (r .ensures) (c .before .before .before .after-round .result) (c .before .before .before .after-round .ensures) (c .before .y .given .0 .0) (c .before .y .given .1)
+    round-ended (limitsOf (a .lim)) (tablesOf (a .s .now)) (pairsIn (a .im .classes) (a .graph .now) (a .n)) (a .n) (b .pre .2 .many) (b .pre .2 .some) (a .graph .now) (b .pre .4) (roundsOf (limitsOf (a .lim)) (tablesOf (a .s .now)) (pairsIn (a .im .classes) (a .graph .now) (a .n)) (stateIn (a .pairs .now) (a .terms .now) (a .runs .now) (a .n) 0 (a .b .left) (a .budget))) (l .pairs) (l .terms) (l .runs) (a .budget) (l .rounds) (l .bud .left) (l .inv .6) (sp .result .budget .left) z _ _ _ (r .result) (r .ensures) (c .before .before .before .after-round .result) (c .before .before .before .after-round .ensures) (c .before .y .given .0 .0) (c .before .y .given .1)
 
 enum-known-y-2 : tie.Need-enum-known-y-2 Inv-loop μ-loop
 enum-known-y-2 c = search needs
@@ -130,8 +137,8 @@ loop-less c =
     let z = spent (l .bud) (sp .result) (sp .ensures) (c .before .before .before .before .before .before .before .before .before .before .before .before .before .before .before .before .before .before .before .before .before .before .before .before .before .before .before .before .before .if1 .left) in
     let f = c .before .before .before .before .before .before .before .before .before .after-round in
     let d = c .before .before .before .before .before .before .before .y2 .given .0 .0 in
-    let q = after-next (r .result) _ (a .n) (l .rounds) (f .result) (f .ensures) d (c .before .before .before .before .before .before .before .y2 .given .1) in
-    omega (arith, z, round-left (limitsOf (a .lim)) (tablesOf (a .s .now)) (pairsIn (a .im .classes) (a .graph .now) (a .n)) (a .n) (b .pre .2 .many) (b .pre .2 .some) (a .graph .now) (b .pre .4) (roundsOf (limitsOf (a .lim)) (tablesOf (a .s .now)) (pairsIn (a .im .classes) (a .graph .now) (a .n)) (stateIn (a .pairs .now) (a .terms .now) (a .runs .now) (a .n) 0 (a .b .left))) (l .pairs) (l .terms) (l .runs) (l .rounds) (l .bud .left) (l .inv .6) (sp .result .budget .left) z _ _ _ (r .result) (r .ensures) true d q)
+    let q = after-next (r .result) _ (a .n) (l .rounds) (a .budget) (f .result) (f .ensures) d (c .before .before .before .before .before .before .before .y2 .given .1) in
+    omega (arith, z, round-left (limitsOf (a .lim)) (tablesOf (a .s .now)) (pairsIn (a .im .classes) (a .graph .now) (a .n)) (a .n) (b .pre .2 .many) (b .pre .2 .some) (a .graph .now) (b .pre .4) (roundsOf (limitsOf (a .lim)) (tablesOf (a .s .now)) (pairsIn (a .im .classes) (a .graph .now) (a .n)) (stateIn (a .pairs .now) (a .terms .now) (a .runs .now) (a .n) 0 (a .b .left) (a .budget))) (l .pairs) (l .terms) (l .runs) (a .budget) (l .rounds) (l .bud .left) (l .inv .6) (sp .result .budget .left) z _ _ _ (r .result) (r .ensures) true d q)
 
 loop-again : tie.Need-loop-again Inv-loop μ-loop
 loop-again c =
@@ -143,15 +150,15 @@ loop-again c =
     let z = spent (l .bud) (sp .result) (sp .ensures) (c .before .before .before .before .before .before .before .before .before .before .before .before .before .before .before .before .before .before .before .before .before .before .before .before .before .before .before .before .before .if1 .left) in
     let f = c .before .before .before .before .before .before .before .before .before .after-round in
     let d = c .before .before .before .before .before .before .before .y2 .given .0 .0 in
-    let q = after-next (r .result) _ (a .n) (l .rounds) (f .result) (f .ensures) d (c .before .before .before .before .before .before .before .y2 .given .1) in
+    let q = after-next (r .result) _ (a .n) (l .rounds) (a .budget) (f .result) (f .ensures) d (c .before .before .before .before .before .before .before .y2 .given .1) in
     let e = c .before .before .end-round in (
       omega (arith, l .inv .0, r .kept, e .kept),
       omega (arith, l .inv .1, r .kept),
       omega (arith, l .inv .2, r .kept),
       omega (arith, l .inv .3, r .kept),
       omega (arith, l .inv .4, r .kept),
-      omega (arith, l .inv .5, z, round-left (limitsOf (a .lim)) (tablesOf (a .s .now)) (pairsIn (a .im .classes) (a .graph .now) (a .n)) (a .n) (b .pre .2 .many) (b .pre .2 .some) (a .graph .now) (b .pre .4) (roundsOf (limitsOf (a .lim)) (tablesOf (a .s .now)) (pairsIn (a .im .classes) (a .graph .now) (a .n)) (stateIn (a .pairs .now) (a .terms .now) (a .runs .now) (a .n) 0 (a .b .left))) (l .pairs) (l .terms) (l .runs) (l .rounds) (l .bud .left) (l .inv .6) (sp .result .budget .left) z _ _ _ (r .result) (r .ensures) true d q),
-      round-next (limitsOf (a .lim)) (tablesOf (a .s .now)) (pairsIn (a .im .classes) (a .graph .now) (a .n)) (a .n) (b .pre .2 .many) (b .pre .2 .some) (a .graph .now) (b .pre .4) (roundsOf (limitsOf (a .lim)) (tablesOf (a .s .now)) (pairsIn (a .im .classes) (a .graph .now) (a .n)) (stateIn (a .pairs .now) (a .terms .now) (a .runs .now) (a .n) 0 (a .b .left))) (l .pairs) (l .terms) (l .runs) (l .rounds) (l .bud .left) (l .inv .6) (sp .result .budget .left) z _ _ _ (r .result) (r .ensures) true d q (b .pre .2 .closed) refl _ (e .ensures .pairs),
+      omega (arith, l .inv .5, z, round-left (limitsOf (a .lim)) (tablesOf (a .s .now)) (pairsIn (a .im .classes) (a .graph .now) (a .n)) (a .n) (b .pre .2 .many) (b .pre .2 .some) (a .graph .now) (b .pre .4) (roundsOf (limitsOf (a .lim)) (tablesOf (a .s .now)) (pairsIn (a .im .classes) (a .graph .now) (a .n)) (stateIn (a .pairs .now) (a .terms .now) (a .runs .now) (a .n) 0 (a .b .left) (a .budget))) (l .pairs) (l .terms) (l .runs) (a .budget) (l .rounds) (l .bud .left) (l .inv .6) (sp .result .budget .left) z _ _ _ (r .result) (r .ensures) true d q),
+      round-next (limitsOf (a .lim)) (tablesOf (a .s .now)) (pairsIn (a .im .classes) (a .graph .now) (a .n)) (a .n) (b .pre .2 .many) (b .pre .2 .some) (a .graph .now) (b .pre .4) (roundsOf (limitsOf (a .lim)) (tablesOf (a .s .now)) (pairsIn (a .im .classes) (a .graph .now) (a .n)) (stateIn (a .pairs .now) (a .terms .now) (a .runs .now) (a .n) 0 (a .b .left) (a .budget))) (l .pairs) (l .terms) (l .runs) (a .budget) (l .rounds) (l .bud .left) (l .inv .6) (sp .result .budget .left) z _ _ _ (r .result) (r .ensures) true d q (b .pre .2 .closed) refl _ (e .ensures .pairs),
       round-quiets (limitsOf (a .lim)) (tablesOf (a .s .now)) (b .pre .1) (a .im .classes) (a .graph .now) (a .n) (b .pre .2 .pairs) (b .pre .2 .closed) (b .pre .2 .many) (l .pairs) (l .terms) (l .runs) (sp .result .budget .left) _ _ _ (r .result) (r .ensures) true d q _ _ _ _ _ (e .ensures),
       idles-after (tablesOf (a .s .now)) (a .im .classes) (a .graph .now) (pairsIn (a .im .classes) (a .graph .now) (a .n)) (a .n) (b .pre .2 .many) _ _ _ _ _ _ (e .ensures) (omega (arith, l .inv .6 .long, r .kept)),
     )

@@ -24,7 +24,7 @@ use Rattle.rounds.proofs.relax_all.Tie as tie
 
 abbrev Inv-loop : tie.InvT-loop
 Inv-loop lim s im n graph llive rlive pairs₀ work₀ flow₀ terms₀ runs₀ w changed₀ bud₀ k₀ pairs work flow terms runs changed bud k = (k ≤ n) × (length pairs ≡ length pairs₀) × (length work ≡ length work₀) × (length flow ≡ length flow₀) × (length terms ≡ length terms₀) × (length runs ≡ length runs₀)
-    × Turning (limitsOf lim) (tablesOf s) (pairsIn (im .classes) graph n) (stateIn pairs₀ terms₀ runs₀ n 0 0) (roundAt (limitsOf lim) (tablesOf s) (pairsIn (im .classes) graph n) (stateIn pairs₀ terms₀ runs₀ n 0 0) (bud₀ .left)) pairs terms runs k (bud .left) changed
+    × Turning (limitsOf lim) (tablesOf s) (pairsIn (im .classes) graph n) (stateIn pairs₀ terms₀ runs₀ n 0 0 0) (roundAt (limitsOf lim) (tablesOf s) (pairsIn (im .classes) graph n) (stateIn pairs₀ terms₀ runs₀ n 0 0 0) (bud₀ .left)) pairs terms runs k (bud .left) changed
     × Idles (pairsIn (im .classes) graph n) pairs llive rlive k
 
 abbrev μ-loop : tie.MeasureT-loop
@@ -35,7 +35,7 @@ loop-holds c =
     let b = c .before .before .before .before .before .before .before in
     let a = b .args in
     let n = unkeyed-length (a .graph .now) (a .im .classes * a .im .classes) (a .n) in
-    (omega arith, refl, refl, refl, refl, refl, turning-none (limitsOf (a .lim)) (tablesOf (a .s .now)) (pairsIn (a .im .classes) (a .graph .now) (a .n)) (stateIn (a .pairs .now) (a .terms .now) (a .runs .now) (a .n) 0 0) (a .b .left) (a .pairs .now) (a .terms .now) (a .runs .now) (rw n (record { long = b .pre .3; qualities = refl; terms = refl })) refl (b .pre .5) (b .pre .7), b .pre .10)
+    (omega arith, refl, refl, refl, refl, refl, turning-none (limitsOf (a .lim)) (tablesOf (a .s .now)) (pairsIn (a .im .classes) (a .graph .now) (a .n)) (stateIn (a .pairs .now) (a .terms .now) (a .runs .now) (a .n) 0 0 0) (a .b .left) (a .pairs .now) (a .terms .now) (a .runs .now) (rw n (record { long = b .pre .3; qualities = refl; terms = refl })) refl (b .pre .5) (b .pre .7), b .pre .10)
 
 next-live-requires : tie.Need-next-live-requires Inv-loop μ-loop
 next-live-requires c κs =
@@ -73,7 +73,7 @@ returns c =
     let h = c .before .before .before .before .before .before .loop-test .taken in
     let j = c .before .before .before .before .before .next-live in
     let sp = c .before .before .before .spend-many in
-    step-cut (limitsOf (a .lim)) (tablesOf (a .s .now)) (pairsIn (a .im .classes) (a .graph .now) (a .n)) (stateIn (a .pairs .now) (a .terms .now) (a .runs .now) (a .n) 0 0) (roundAt (limitsOf (a .lim)) (tablesOf (a .s .now)) (pairsIn (a .im .classes) (a .graph .now) (a .n)) (stateIn (a .pairs .now) (a .terms .now) (a .runs .now) (a .n) 0 0) (a .b .left)) (l .pairs) (l .terms) (l .runs) (l .changed) (a .im .classes) (a .graph .now) (graphs-length (limitsOf (a .lim)) (tablesOf (a .s .now)) (a .im .classes) (pairsIn (a .im .classes) (a .graph .now) (a .n)) (a .n) (a .graph .now) (b .pre .2)) (b .pre .8) (a .llive .now) (a .rlive .now) (b .pre .9) (l .k) (l .bud .left) (omega (arith, n, h)) (j .result) (j .ensures ∙ ap (λ (x : ℕ). nextLive (pairsIn (a .im .classes) (a .graph .now) (a .n)) (a .llive .now) (a .rlive .now) (l .k) x) (omega (arith, n))) (l .inv .7) (l .inv .6) (omega (arith, c .before .before .before .before .due .ensures, too-few (c .before .before .before .before .due .result) (l .bud) (sp .result) (sp .ensures) (c .if1 .taken)))
+    step-cut (limitsOf (a .lim)) (tablesOf (a .s .now)) (pairsIn (a .im .classes) (a .graph .now) (a .n)) (stateIn (a .pairs .now) (a .terms .now) (a .runs .now) (a .n) 0 0 0) (roundAt (limitsOf (a .lim)) (tablesOf (a .s .now)) (pairsIn (a .im .classes) (a .graph .now) (a .n)) (stateIn (a .pairs .now) (a .terms .now) (a .runs .now) (a .n) 0 0 0) (a .b .left)) (l .pairs) (l .terms) (l .runs) (l .changed) (a .im .classes) (a .graph .now) (graphs-length (limitsOf (a .lim)) (tablesOf (a .s .now)) (a .im .classes) (pairsIn (a .im .classes) (a .graph .now) (a .n)) (a .n) (a .graph .now) (b .pre .2)) (b .pre .8) (a .llive .now) (a .rlive .now) (b .pre .9) (l .k) (l .bud .left) (omega (arith, n, h)) (j .result) (j .ensures ∙ ap (λ (x : ℕ). nextLive (pairsIn (a .im .classes) (a .graph .now) (a .n)) (a .llive .now) (a .rlive .now) (l .k) x) (omega (arith, n))) (l .inv .7) (l .inv .6) (omega (arith, c .before .before .before .before .due .ensures, too-few (c .before .before .before .before .due .result) (l .bud) (sp .result) (sp .ensures) (c .if1 .taken)))
 
 loop-less : tie.Need-loop-less Inv-loop μ-loop
 loop-less c =
@@ -91,7 +91,7 @@ loop-again c =
     let h = c .before .before .before .before .before .before .before .loop-test .taken in
     let j = c .before .before .before .before .before .before .next-live in
     let sp = c .before .before .before .before .spend-many in
-    let z = step-over (limitsOf (a .lim)) (tablesOf (a .s .now)) (pairsIn (a .im .classes) (a .graph .now) (a .n)) (stateIn (a .pairs .now) (a .terms .now) (a .runs .now) (a .n) 0 0) (roundAt (limitsOf (a .lim)) (tablesOf (a .s .now)) (pairsIn (a .im .classes) (a .graph .now) (a .n)) (stateIn (a .pairs .now) (a .terms .now) (a .runs .now) (a .n) 0 0) (a .b .left)) (l .pairs) (l .terms) (l .runs) (l .changed) (a .im .classes) (a .graph .now) (graphs-length (limitsOf (a .lim)) (tablesOf (a .s .now)) (a .im .classes) (pairsIn (a .im .classes) (a .graph .now) (a .n)) (a .n) (a .graph .now) (b .pre .2)) (b .pre .8) (a .llive .now) (a .rlive .now) (b .pre .9) (l .k) (l .bud .left) (omega (arith, n, h)) (j .result) (j .ensures ∙ ap (λ (x : ℕ). nextLive (pairsIn (a .im .classes) (a .graph .now) (a .n)) (a .llive .now) (a .rlive .now) (l .k) x) (omega (arith, n))) (l .inv .7) (l .inv .6) (c .if2 .taken) (sp .result .budget .left) (omega (arith, c .before .before .before .before .before .due .ensures, enough (c .before .before .before .before .before .due .result) (l .bud) (sp .result) (sp .ensures) (c .before .if1 .left))) in
+    let z = step-over (limitsOf (a .lim)) (tablesOf (a .s .now)) (pairsIn (a .im .classes) (a .graph .now) (a .n)) (stateIn (a .pairs .now) (a .terms .now) (a .runs .now) (a .n) 0 0 0) (roundAt (limitsOf (a .lim)) (tablesOf (a .s .now)) (pairsIn (a .im .classes) (a .graph .now) (a .n)) (stateIn (a .pairs .now) (a .terms .now) (a .runs .now) (a .n) 0 0 0) (a .b .left)) (l .pairs) (l .terms) (l .runs) (l .changed) (a .im .classes) (a .graph .now) (graphs-length (limitsOf (a .lim)) (tablesOf (a .s .now)) (a .im .classes) (pairsIn (a .im .classes) (a .graph .now) (a .n)) (a .n) (a .graph .now) (b .pre .2)) (b .pre .8) (a .llive .now) (a .rlive .now) (b .pre .9) (l .k) (l .bud .left) (omega (arith, n, h)) (j .result) (j .ensures ∙ ap (λ (x : ℕ). nextLive (pairsIn (a .im .classes) (a .graph .now) (a .n)) (a .llive .now) (a .rlive .now) (l .k) x) (omega (arith, n))) (l .inv .7) (l .inv .6) (c .if2 .taken) (sp .result .budget .left) (omega (arith, c .before .before .before .before .before .due .ensures, enough (c .before .before .before .before .before .due .result) (l .bud) (sp .result) (sp .ensures) (c .before .if1 .left))) in
     (omega (arith, n, z .0), l .inv .1, l .inv .2, l .inv .3, l .inv .4, l .inv .5, z .1, z .2)
 
 left-at-requires : tie.Need-left-at-requires Inv-loop μ-loop
@@ -120,13 +120,13 @@ visit-requires c κs =
     let m = classes-many (a .s .now) (a .im) (b .pre .0) in
     let r = pair-ranged (tablesOf (a .s .now)) (a .im .classes) (a .graph .now) (a .n) (l .k) h (b .pre .2 .pairs) (la .result) (ra .result) (la .ensures .0) (ra .ensures .0) in
     let p = pair-at (tablesOf (a .s .now)) (a .im .classes) (a .graph .now) (a .n) (l .k) h (la .result) (ra .result) (la .ensures .0) (ra .ensures .0) in
-    let R : Reads (stateIn (a .pairs .now) (a .terms .now) (a .runs .now) (a .n) 0 0) (l .pairs) (a .n) = rw n at (l .inv .6 .reads) in (
+    let R : Reads (stateIn (a .pairs .now) (a .terms .now) (a .runs .now) (a .n) 0 0 0) (l .pairs) (a .n) = rw n at (l .inv .6 .reads) in (
       b .pre .0,
       b .pre .1,
       omega (arith, r .0, m),
       omega (arith, r .1, m),
-      known-here (limitsOf (a .lim)) (tablesOf (a .s .now)) (a .im .classes) (pairsIn (a .im .classes) (a .graph .now) (a .n)) (a .n) (a .graph .now) (b .pre .2) (stateIn (a .pairs .now) (a .terms .now) (a .runs .now) (a .n) 0 0) (l .pairs) R (b .pre .8) (b .pre .1),
-      terms-here (limitsOf (a .lim)) (tablesOf (a .s .now)) (a .im .classes) (pairsIn (a .im .classes) (a .graph .now) (a .n)) (a .n) (a .graph .now) (b .pre .2) (stateIn (a .pairs .now) (a .terms .now) (a .runs .now) (a .n) 0 0) (l .pairs) R (b .pre .8) ((stateIn (a .pairs .now) (a .terms .now) (a .runs .now) (a .n) 0 0) .pool) (l .k) _ (l .terms) (l .runs) refl (l .inv .6 .midway),
+      known-here (limitsOf (a .lim)) (tablesOf (a .s .now)) (a .im .classes) (pairsIn (a .im .classes) (a .graph .now) (a .n)) (a .n) (a .graph .now) (b .pre .2) (stateIn (a .pairs .now) (a .terms .now) (a .runs .now) (a .n) 0 0 0) (l .pairs) R (b .pre .8) (b .pre .1),
+      terms-here (limitsOf (a .lim)) (tablesOf (a .s .now)) (a .im .classes) (pairsIn (a .im .classes) (a .graph .now) (a .n)) (a .n) (a .graph .now) (b .pre .2) (stateIn (a .pairs .now) (a .terms .now) (a .runs .now) (a .n) 0 0 0) (l .pairs) R (b .pre .8) ((stateIn (a .pairs .now) (a .terms .now) (a .runs .now) (a .n) 0 0 0) .pool) (l .k) _ (l .terms) (l .runs) refl (l .inv .6 .midway),
       cells-fit (limitsOf (a .lim)) (tablesOf (a .s .now)) (a .im .classes) (pairsIn (a .im .classes) (a .graph .now) (a .n)) (a .n) (a .graph .now) (b .pre .2) (la .result, ra .result) (among (limitsOf (a .lim)) (tablesOf (a .s .now)) (a .im .classes) (pairsIn (a .im .classes) (a .graph .now) (a .n)) (a .n) (a .graph .now) (b .pre .2) (l .k) h (la .result, ra .result) p),
       scratch-kept (b .pre .4) (l .inv .2) (l .inv .3),
       l .inv .6 .holds,
@@ -166,7 +166,7 @@ returns-2 c =
     let p = pair-at (tablesOf (a .s .now)) (a .im .classes) (a .graph .now) (a .n) (l .k) h (la .result) (ra .result) (la .ensures .0) (ra .ensures .0) in
     let z = visits-full (c .before .before .before .before .before .before .before .before .before .before .before .before .visit .result) (c .before .before .before .before .before .before .before .before .before .before .before .before .visit .ensures) (c .enum-told .given .1) in
     let e : l .bud .left ≡ sp .result .budget .left + 1 = omega (arith, c .before .before .before .before .before .before .before .before .before .before .before .before .before .before .before .before .before .before .before .before .before .before .before .before .before .due .ensures, due-live (l .k) (c .before .before .before .before .before .before .before .before .before .before .before .before .before .before .before .before .before .before .before .before .before .before .before .before .before .before .next-live .result) (omega (arith, c .before .before .before .before .before .before .before .before .before .before .before .before .before .before .before .before .before .before .before .before .if2 .left)), enough (c .before .before .before .before .before .before .before .before .before .before .before .before .before .before .before .before .before .before .before .before .before .before .before .before .before .due .result) (l .bud) (sp .result) (sp .ensures) (c .before .before .before .before .before .before .before .before .before .before .before .before .before .before .before .before .before .before .before .before .before .if1 .left)) in
-    turn-refused (limitsOf (a .lim)) (tablesOf (a .s .now)) (pairsIn (a .im .classes) (a .graph .now) (a .n)) (stateIn (a .pairs .now) (a .terms .now) (a .runs .now) (a .n) 0 0) (roundAt (limitsOf (a .lim)) (tablesOf (a .s .now)) (pairsIn (a .im .classes) (a .graph .now) (a .n)) (stateIn (a .pairs .now) (a .terms .now) (a .runs .now) (a .n) 0 0) (a .b .left)) (l .pairs) (l .terms) (l .runs) (l .k) (l .bud .left) (l .changed) (omega (arith, n, h)) (l .inv .6) (a .im .classes) (a .graph .now) (graphs-length (limitsOf (a .lim)) (tablesOf (a .s .now)) (a .im .classes) (pairsIn (a .im .classes) (a .graph .now) (a .n)) (a .n) (a .graph .now) (b .pre .2)) (la .result, ra .result) p (sp .result .budget .left) (z .0) e (z .1)
+    turn-refused (limitsOf (a .lim)) (tablesOf (a .s .now)) (pairsIn (a .im .classes) (a .graph .now) (a .n)) (stateIn (a .pairs .now) (a .terms .now) (a .runs .now) (a .n) 0 0 0) (roundAt (limitsOf (a .lim)) (tablesOf (a .s .now)) (pairsIn (a .im .classes) (a .graph .now) (a .n)) (stateIn (a .pairs .now) (a .terms .now) (a .runs .now) (a .n) 0 0 0) (a .b .left)) (l .pairs) (l .terms) (l .runs) (l .k) (l .bud .left) (l .changed) (omega (arith, n, h)) (l .inv .6) (a .im .classes) (a .graph .now) (graphs-length (limitsOf (a .lim)) (tablesOf (a .s .now)) (a .im .classes) (pairsIn (a .im .classes) (a .graph .now) (a .n)) (a .n) (a .graph .now) (b .pre .2)) (la .result, ra .result) p (sp .result .budget .left) (z .0) e (z .1)
 
 enum-known-x : tie.Need-enum-known-x Inv-loop μ-loop
 enum-known-x c = search needs
@@ -200,7 +200,7 @@ loop-again-2 c =
       omega (arith, l .inv .3, v .kept),
       omega (arith, l .inv .4, v .kept),
       omega (arith, l .inv .5, v .kept),
-      turn-moved (limitsOf (a .lim)) (tablesOf (a .s .now)) (pairsIn (a .im .classes) (a .graph .now) (a .n)) (stateIn (a .pairs .now) (a .terms .now) (a .runs .now) (a .n) 0 0) (roundAt (limitsOf (a .lim)) (tablesOf (a .s .now)) (pairsIn (a .im .classes) (a .graph .now) (a .n)) (stateIn (a .pairs .now) (a .terms .now) (a .runs .now) (a .n) 0 0) (a .b .left)) (l .pairs) (l .terms) (l .runs) (l .k) (l .bud .left) (l .changed) (omega (arith, n, h)) (l .inv .6) (a .im .classes) (a .graph .now) (graphs-length (limitsOf (a .lim)) (tablesOf (a .s .now)) (a .im .classes) (pairsIn (a .im .classes) (a .graph .now) (a .n)) (a .n) (a .graph .now) (b .pre .2)) (la .result, ra .result) p (b .pre .8) (sp .result .budget .left) _ _ _ _ (c .either .result) e z (c .either .ensures),
+      turn-moved (limitsOf (a .lim)) (tablesOf (a .s .now)) (pairsIn (a .im .classes) (a .graph .now) (a .n)) (stateIn (a .pairs .now) (a .terms .now) (a .runs .now) (a .n) 0 0 0) (roundAt (limitsOf (a .lim)) (tablesOf (a .s .now)) (pairsIn (a .im .classes) (a .graph .now) (a .n)) (stateIn (a .pairs .now) (a .terms .now) (a .runs .now) (a .n) 0 0 0) (a .b .left)) (l .pairs) (l .terms) (l .runs) (l .k) (l .bud .left) (l .changed) (omega (arith, n, h)) (l .inv .6) (a .im .classes) (a .graph .now) (graphs-length (limitsOf (a .lim)) (tablesOf (a .s .now)) (a .im .classes) (pairsIn (a .im .classes) (a .graph .now) (a .n)) (a .n) (a .graph .now) (b .pre .2)) (la .result, ra .result) p (b .pre .8) (sp .result .budget .left) _ _ _ _ (c .either .result) e z (c .either .ensures),
       idles-more (pairsIn (a .im .classes) (a .graph .now) (a .n)) (l .pairs) (a .llive .now) (a .rlive .now) (l .k) (l .inv .7) _ _ _ _ (z .numbers),
     )
 

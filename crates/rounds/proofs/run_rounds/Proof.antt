@@ -17,7 +17,7 @@ conclude-requires : tie.Need-conclude-requires
 conclude-requires c κs =
     let a = c .before .before .before .before .before .before .before .before .before .before .before .before .before .before .before .before .before .before .before .before .before .before .before .before .before .before .before .before .before .before .before .before .args in
     let r = c .before .before .before .before .before .before .before .before .before .before .before .before .before .before .before .before .before .relax in
-    ran-listable (roundsOf (limitsOf (a .lim)) (tablesOf (a .s .now)) (pairsIn (a .im .classes) (a .graph .now) (a .n)) (stateIn (a .pairs .now) (a .terms .now) (a .runs .now) (a .n) 0 (a .b .left))) (a .graph .now) _ _ (r .result) (r .ensures)
+    ran-listable (roundsOf (limitsOf (a .lim)) (tablesOf (a .s .now)) (pairsIn (a .im .classes) (a .graph .now) (a .n)) (stateIn (a .pairs .now) (a .terms .now) (a .runs .now) (a .n) 0 (a .b .left) (a .budget))) (a .graph .now) _ _ (r .result) (r .ensures)
 
 same-length : tie.Need-same-length
 same-length c = omega (arith, c .before .before .before .before .before .before .before .before .before .before .before .before .before .before .before .before .before .before .before .before .before .before .before .before .before .before .before .before .before .before .before .before .relax .kept, c .before .before .before .before .before .before .before .before .before .before .before .before .before .before .conclude .kept)
@@ -45,7 +45,7 @@ returns c =
     let a = c .before .before .before .before .before .before .before .before .before .before .before .before .before .before .before .before .before .before .before .before .before .before .before .before .before .before .before .before .before .before .before .before .before .before .before .before .before .before .before .before .before .before .before .before .before .before .before .args in
     let r = c .before .before .before .before .before .before .before .before .before .before .before .before .before .before .before .before .before .before .before .before .before .before .before .before .before .before .before .before .before .before .before .before .relax in
     let e = c .before .before .before .before .before .before .before .before .before .before .before .before .before .before .conclude .ensures in
-    (ran-answers (roundsOf (limitsOf (a .lim)) (tablesOf (a .s .now)) (pairsIn (a .im .classes) (a .graph .now) (a .n)) (stateIn (a .pairs .now) (a .terms .now) (a .runs .now) (a .n) 0 (a .b .left))) (a .graph .now) _ _ (a .skipped) (r .result) _ _ _ (r .ensures) (e .0), cleared-same (e .1) refl (omega (arith, r .kept)) (omega (arith, r .kept)) (omega (arith, r .kept)) (omega (arith, r .kept)) (omega (arith, r .kept)))
+    (ran-answers (roundsOf (limitsOf (a .lim)) (tablesOf (a .s .now)) (pairsIn (a .im .classes) (a .graph .now) (a .n)) (stateIn (a .pairs .now) (a .terms .now) (a .runs .now) (a .n) 0 (a .b .left) (a .budget))) (a .graph .now) _ _ (a .skipped) (r .result) _ _ _ (r .ensures) (e .0), cleared-same (e .1) refl (omega (arith, r .kept)) (omega (arith, r .kept)) (omega (arith, r .kept)) (omega (arith, r .kept)) (omega (arith, r .kept)))
 
 pub run-rounds-spec : {M : Type 1} → statement M
 run-rounds-spec =

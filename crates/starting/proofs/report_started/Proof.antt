@@ -24,7 +24,7 @@ start-mass-requires c κs =
 returns : tie.Need-returns
 returns c =
     let a = c .before .before .before .before .before .args in
-    started-as (tablesOf (a .s .now)) (a .n) (a .root) (c .before .before .before .size-u16 .result) (c .before .before .size-u162 .result) (a .q .left) (a .q .right) (c .before .before .before .size-u16 .ensures .0) (c .before .before .size-u162 .ensures .0) (c .before .start-size .result) (c .start-mass .result) (c .before .start-size .ensures) (c .start-mass .ensures)
+    started-as (tablesOf (a .s .now)) (a .n) (a .root) (a .q .budget) (c .before .before .before .size-u16 .result) (c .before .before .size-u162 .result) (a .q .left) (a .q .right) (c .before .before .before .size-u16 .ensures .0) (c .before .before .size-u162 .ensures .0) (c .before .start-size .result) (c .start-mass .result) (c .before .start-size .ensures) (c .start-mass .ensures)
 
 pub report-started-spec : {M : Type 1} → statement M
 report-started-spec =

@@ -1,0 +1,1 @@
+// the two fleets in either order, as theorems: see specs/
