@@ -14,7 +14,7 @@ use Rattle.spec.specs.Graph.{build}
 use Rattle.spec.specs.Pool.{Pool, Interned, startingTerm}
 use Rattle.spec.specs.System as system
 use Rattle.spec.specs.Pairs.{pairs}
-use Rattle.spec.specs.Round.{Terms, prepend, Choice, stay, act, Turn, changes, startingQuality, lookUp, choiceTerm, turnOf, turnsOf, turnsTerms, qualitiesAfter}
+use Rattle.spec.specs.Round.{Terms, prepend, Choice, stay, act, Turn, changes, lookUp, choiceTerm, turnOf, turnsOf, turnsTerms, qualitiesAfter}
 use Rattle.spec.specs.Run.{limitOf, limitsFor, State, Outcome, outcome, stateAfter, startingTerms, roundTerms, afterRound, roundsFrom, started, startState, afterStarting, afterBuilding, runOf}
 use Rattle.spec.specs.declared.Caller.{Caller}
 use Rattle.spec.specs.Meaning.{In, here, there, Term, treeAt}

@@ -4,7 +4,7 @@ use mathlib.Core.Bool.{Bool, true, false}
 use mathlib.Core.List.{List, [], _∷_, _++_}
 use Prim.Native.Nat.{ℕ, _+_, _*_, _≤_}
 use lib.ListN.{take}
-use Rattle.spec.specs.Bytes.{each, Two, text, decimal, ok}
+use Rattle.spec.specs.Bytes.{each, text, decimal, ok}
 use Rattle.spec.specs.Image.{Tables, tablesOf}
 use Rattle.spec.specs.Pairs.{pairs, making}
 use Rattle.spec.specs.Run.{limitsFor, Outcome, runOf}

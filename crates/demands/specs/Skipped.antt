@@ -1,11 +1,10 @@
 -- (02, Paper 7) Counts too large are reported, of calls of `merge`, from their contracts.
 use mathlib.Core.Path.{_≡_, refl, sym, _∙_, subst}
 use mathlib.Core.Bool.{Bool, true}
-use mathlib.Core.List.{List, [], _∷_, _++_, map}
+use mathlib.Core.List.{List, map}
 use Prim.Native.Nat.{ℕ, _≤_}
 use native.Mathlib.Omega.{arith}
-use lib.ListN.{take}
-use Rattle.spec.specs.Bytes.{each, In, here, there, Two, text, decimal, ok, passed}
+use Rattle.spec.specs.Bytes.{In, here, there, Two, ok, passed}
 use Rattle.spec.specs.Image.{Tables, tablesOf}
 use Rattle.spec.specs.Action.{Action, TransportAction, structural, cellPairs}
 use Rattle.spec.specs.System as system
@@ -14,7 +13,6 @@ use Rattle.spec.specs.Pairs.{startingQuality, ones, problemOver, pairs, making}
 use Rattle.spec.specs.Graph.{build, skippedIn}
 use Rattle.spec.specs.Run.{limitsFor, Outcome, runOf}
 use Rattle.spec.specs.declared.Caller.{Caller}
-use Rattle.spec.specs.Listing.{subterms, line, statusOf, reportLine, reported, firstLine, termLine, listingOf}
 use Rattle.spec.specs.Meaning.{Plan, _⊑_, Reachable}
 use Rattle.laws.specs.Tests.{clash}
 use Rattle.laws.specs.Accepted as A

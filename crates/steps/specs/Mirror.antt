@@ -1,4 +1,4 @@
--- (02, Paper 13) "Complete runs on (left, right) and (right, left), neither refused, must be shown to have equal pairs, rounds, size, mass and checks.": for nodes of any kind that can be turned round.
+-- (02, Paper 13) "Complete runs on (left, right) and (right, left), neither refused, must be shown to have equal pairs, rounds, size, mass and checks.": for nodes of any kind that can be turned round. (`turned` of spec/System is another word: the nodes that had their turn in building.)
 use mathlib.Core.Path.{_≡_, refl, sym, ap, ap₂, _∙_, subst}
 use mathlib.Core.Logic.{_⊎_, inl, inr}
 use mathlib.Core.Bool.{Bool, true, false}
@@ -141,17 +141,17 @@ module _ {N : Type 0} (S : System N) (R : Reads S) (Y : Symmetry S) (M M′ : Ma
       let (x′, y′, z′, w′) = started-says S b (Y .flip p) root′ n′ u s′ in
       (z ∙ sym z′, x ∙ k ∙ sym x′, y ∙ sym y′, w ∙ sym (Y .start p) ∙ sym w′)
 
-  -- one cut short in building, the other built in full
+  -- one cut short in building, the other built in full: they have as many nodes
+  not-both : (lim lim′ : ℕ) (q q′ : N) → ((n : ℕ) → NodeCount S q′ n → NodeCount S q n) → (ps : List N) (c : ℕ) → build S lim q b ≡ ok cutShort → build S lim′ q′ b ≡ ok (passed ps c) → ⊥
+  not-both lim lim′ q q′ same ps c k k′ =
+      let d : NodeCount S q′ (length ps) = (ps, build-whole S lim′ q′ b c ps k′, refl) in
+      omega (arith, build-cut S lim q (length ps) (same (length ps) d) b k, build-passed S lim′ q′ (length ps) d b c ps k′ .1)
+
   not-cut : (ps′ : List N) (c′ : ℕ) → build S (M .limit) p b ≡ ok cutShort → build S (M′ .limit) (Y .flip p) b ≡ ok (passed ps′ c′) → ⊥
-  not-cut ps′ c′ k k′ =
-      let d : NodeCount S (Y .flip p) (length ps′) = (ps′, build-whole S (M′ .limit) (Y .flip p) b c′ ps′ k′, refl) in
-      let e : NodeCount S p (length ps′) = subst (λ z. NodeCount S z (length ps′)) (Y .twice p) (count-flip S Y (Y .flip p) (length ps′) d) in
-      omega (arith, build-cut S (M .limit) p (length ps′) e b k, build-passed S (M′ .limit) (Y .flip p) (length ps′) d b c′ ps′ k′ .1)
+  not-cut = not-both (M .limit) (M′ .limit) p (Y .flip p) (λ n d. subst (λ z. NodeCount S z n) (Y .twice p) (count-flip S Y (Y .flip p) n d))
 
   not-built : (ps : List N) (c : ℕ) → build S (M .limit) p b ≡ ok (passed ps c) → build S (M′ .limit) (Y .flip p) b ≡ ok cutShort → ⊥
-  not-built ps c k k′ =
-      let d : NodeCount S p (length ps) = (ps, build-whole S (M .limit) p b c ps k, refl) in
-      omega (arith, build-cut S (M′ .limit) (Y .flip p) (length ps) (count-flip S Y p (length ps) d) b k′, build-passed S (M .limit) p (length ps) d b c ps k .1)
+  not-built ps c k k′ = not-both (M′ .limit) (M .limit) (Y .flip p) p (count-flip S Y p) ps c k′ k
 
   -- both built in full
   module _ (ps ps′ : List N) (c c′ : ℕ) (k : build S (M .limit) p b ≡ ok (passed ps c)) (k′ : build S (M′ .limit) (Y .flip p) b ≡ ok (passed ps′ c′)) where

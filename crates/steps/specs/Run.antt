@@ -29,58 +29,80 @@ pub record Ended {N : Type 0} (S : System N) (ps : List N) (b : ℕ) (o : Outcom
   pub enough : o .rounds * suc (length ps) ≤ b
   pub status : Status S ps b o
 
+-- (02, Paper 13) What rounds over n nodes charge that began with b checks, a having passed before: each round, also the last one, a check at its start and one a node; cut short, all.
+pub record Charged (n a b : ℕ) (o : Outcome) : Type 0 where
+  pub complete : o .complete ≡ true → o .checks ≡ a + suc (o .rounds) * suc n
+  pub partial : o .complete ≡ false → o .checks ≡ a + b
+  pub within : o .checks ≤ a + b
+
 module _ {N : Type 0} (S : System N) (M : Making N) (ps : List N) where
-  -- a state between two rounds, of a run that began its rounds with b checks
-  record Between (b : ℕ) (s : State) : Type 0 where
+  -- a state between two rounds, of a run that began its rounds with b checks, a having passed before
+  record Between (a b : ℕ) (s : State) : Type 0 where
     qualities : s .qualities ≡ qualitiesAfter S (s .rounds) ps
     moved : (r : ℕ) → r < s .rounds → changed S ps r ≡ true
-    spent : b ≡ s .rounds * suc (length ps) + s .budget
+    left : b ≡ s .rounds * suc (length ps) + s .budget
+    spent : s .spent ≡ a + s .rounds * suc (length ps)
 
-  stop-partial : (b : ℕ) (s : State) → Between b s → s .budget < suc (length ps) → Ended S ps b (outcome false ps s 0)
-  stop-partial b s i h = record {
-    nodes = refl;
-    quality = ap (λ (l : List Two). getD l 0 (0, 0)) (i .qualities);
-    moved = i .moved;
-    enough = omega (arith, i .spent);
-    status = inr (refl, omega (arith, i .spent));
-  }
-
-  stop-complete : (b c : ℕ) (s : State) → Between b s → changed S ps (s .rounds) ≡ false → s .budget ≡ suc (length ps) + c → Ended S ps b (outcome true ps s c)
-  stop-complete b c s i q h = record {
-    nodes = refl;
-    quality = ap (λ (l : List Two). getD l 0 (0, 0)) (i .qualities);
-    moved = i .moved;
-    enough = omega (arith, i .spent);
-    status = inl (refl, q, omega (arith, i .spent));
-  }
-
-  go-on : (b c : ℕ) (s : State) (r : Terms) → Between b s → changed S ps (s .rounds) ≡ true → s .budget ≡ suc (length ps) + c → Between b (stateAfter s (turnsOf S ps (s .qualities)) r c)
+  before-rounds : (budget b : ℕ) (r : Terms) → Between (budget - b) b (startState S budget ps r b)
   unfolding qualitiesAfter
-  go-on b c s r i q h = record {
+  before-rounds budget b r = record { qualities = refl; moved = λ k l. absurd (omega arith); left = omega arith; spent = omega arith }
+
+  stop-partial : (a b : ℕ) (s : State) → Between a b s → s .budget < suc (length ps) → Ended S ps b (outcome false ps s 0) × Charged (length ps) a b (outcome false ps s 0)
+  stop-partial a b s i h = (
+    record {
+      nodes = refl;
+      quality = ap (λ (l : List Two). getD l 0 (0, 0)) (i .qualities);
+      moved = i .moved;
+      enough = omega (arith, i .left);
+      status = inr (refl, omega (arith, i .left));
+    },
+    record { complete = λ z. absurd (clash (sym z)); partial = λ z. omega (arith, i .left, i .spent); within = omega (arith, i .left, i .spent) },
+  )
+
+  stop-complete : (a b c : ℕ) (s : State) → Between a b s → changed S ps (s .rounds) ≡ false → s .budget ≡ suc (length ps) + c → Ended S ps b (outcome true ps s c) × Charged (length ps) a b (outcome true ps s c)
+  stop-complete a b c s i q h = (
+    record {
+      nodes = refl;
+      quality = ap (λ (l : List Two). getD l 0 (0, 0)) (i .qualities);
+      moved = i .moved;
+      enough = omega (arith, i .left);
+      status = inl (refl, q, omega (arith, i .left));
+    },
+    record { complete = λ z. omega (arith, i .spent); partial = λ z. absurd (clash z); within = omega (arith, i .left, i .spent) },
+  )
+
+  go-on : (a b c : ℕ) (s : State) (r : Terms) → Between a b s → changed S ps (s .rounds) ≡ true → s .budget ≡ suc (length ps) + c → Between a b (stateAfter s (turnsOf S ps (s .qualities)) r c)
+  unfolding qualitiesAfter
+  go-on a b c s r i q h = record {
     qualities = ap (λ (l : List Two). next S ps l) (i .qualities);
     moved = λ k l. elim (eq-or-lt-of-le l) [ inl e ↦ rw (suc-inj e) q | inr m ↦ i .moved k (omega arith) ];
+    left = omega (arith, i .left);
     spent = omega (arith, i .spent);
   }
 
-  rounds-end : (f b : ℕ) (s : State) (o : Outcome) → Between b s → s .budget ≤ f → roundsFrom S M f ps s ≡ ok o → Ended S ps b o
+  rounds-end : (f a b : ℕ) (s : State) (o : Outcome) → Between a b s → s .budget ≤ f → roundsFrom S M f ps s ≡ ok o → Ended S ps b o × Charged (length ps) a b o
   unfolding roundsFrom afterRound
-  rounds-end zero b s o i h e = rw (← ok-inj e) (stop-partial b s i (omega arith))
-  rounds-end (suc f) b s o i h e = go (roundTerms S M ps s ws (s .budget)) (round-spends S M ps s ws (s .budget) (turns-length S ps (s .qualities))) e (λ u j k d. rounds-end f b u o j k d)
+  rounds-end zero a b s o i h e = rw (← ok-inj e) (stop-partial a b s i (omega arith))
+  rounds-end (suc f) a b s o i h e = go (roundTerms S M ps s ws (s .budget)) (round-spends S M ps s ws (s .budget) (turns-length S ps (s .qualities))) e (λ u j k d. rounds-end f a b u o j k d)
     where
       ws : List (Turn N)
       ws = turnsOf S ps (s .qualities)
 
       test : (x : Bool) → any changes ws ≡ x → (r : Terms) (c : ℕ) → s .budget ≡ suc (length ps) + c
           → elim x [ false ↦ ok (outcome true ps s c) | true ↦ roundsFrom S M f ps (stateAfter s ws r c) ] ≡ ok o
-          → ((u : State) → Between b u → u .budget ≤ f → roundsFrom S M f ps u ≡ ok o → Ended S ps b o) → Ended S ps b o
-      test false q r c l d ih = rw (← ok-inj d) (stop-complete b c s i (rw (i .qualities) at q) l)
-      test true q r c l d ih = ih (stateAfter s ws r c) (go-on b c s r i (rw (i .qualities) at q) l) (omega arith) d
+          → ((u : State) → Between a b u → u .budget ≤ f → roundsFrom S M f ps u ≡ ok o → Ended S ps b o × Charged (length ps) a b o) → Ended S ps b o × Charged (length ps) a b o
+      test false q r c l d ih = rw (← ok-inj d) (stop-complete a b c s i (rw (i .qualities) at q) l)
+      test true q r c l d ih = ih (stateAfter s ws r c) (go-on a b c s r i (rw (i .qualities) at q) l) (omega arith) d
 
       go : (r : Res (Checked Terms)) → Spent (suc (length ps)) (s .budget) r → (r >>= afterRound (λ u. roundsFrom S M f ps u) ps s ws) ≡ ok o
-          → ((u : State) → Between b u → u .budget ≤ f → roundsFrom S M f ps u ≡ ok o → Ended S ps b o) → Ended S ps b o
-      go r (cut l) d ih = rw (← ok-inj d) (stop-partial b s i l)
-      go r (paid {a = a} {c = c} l) d ih = test (any changes ws) refl a c l d ih
+          → ((u : State) → Between a b u → u .budget ≤ f → roundsFrom S M f ps u ≡ ok o → Ended S ps b o × Charged (length ps) a b o) → Ended S ps b o × Charged (length ps) a b o
+      go r (cut l) d ih = rw (← ok-inj d) (stop-partial a b s i l)
+      go r (paid {a = x} {c = c} l) d ih = test (any changes ws) refl x c l d ih
       go r ended d ih = absurd (refused-ok d)
+
+  -- from the state before the first round
+  pub rounds-from-start : (budget b : ℕ) (r : Terms) (o : Outcome) → roundsFrom S M b ps (startState S budget ps r b) ≡ ok o → Ended S ps b o × Charged (length ps) (budget - b) b o
+  rounds-from-start budget b r o e = rounds-end b (budget - b) b (startState S budget ps r b) o (before-rounds budget b r) (omega arith) e
 
 -- ---- the whole run
 -- where a run with budget b ends that is not refused, and what it reports
@@ -101,8 +123,7 @@ run-ends {N = N} S M p b o e =
     rounds : (root : Interned) (ps : List N) (c : ℕ) → build S (M .limit) p b ≡ ok (passed ps c) → (r : Res (Checked Terms)) → Spent (length ps) c r → (r >>= afterStarting S M b p root ps) ≡ ok o → Ends S M p b o
     rounds root ps c k r (cut h) z = inStarting root ps c k h (sym (ok-inj z))
     rounds root ps c k r (paid {a = a} {c = d} h) z =
-        inRounds ps c d k h (rounds-end S M ps d d (startState S b ps a d) o
-        (record { qualities = refl; moved = λ r l. absurd (omega arith); spent = omega arith }) (omega arith) z)
+        inRounds ps c d k h (rounds-from-start S M ps b d a o z .0)
     rounds root ps c k r ended z = absurd (refused-ok z)
 
     go : (root : Interned) (g : Checked (List N)) → build S (M .limit) p b ≡ ok g → afterBuilding S M b p root g ≡ ok o → Ends S M p b o
