@@ -11,14 +11,14 @@ use ac_ops::next_op;
 use image::Image;
 
 // An operation, a place of the left class and a place of the right class.
-#[derive(Drop)]
+#[derive(Clone, Copy)]
 pub struct Walk {
     pub op: usize,
     pub a: usize,
     pub b: usize,
 }
 
-#[derive(Drop)]
+#[derive(Clone, Copy)]
 pub enum Step {
     At(Walk),
     End,

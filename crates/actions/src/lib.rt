@@ -9,7 +9,7 @@ use image::Image;
 use members::{child_class, child_count, first_child, member_op};
 
 // A place among the actions of two classes: a member of each by its number in the image, and how many of the two members' actions are past.
-#[derive(Drop)]
+#[derive(Clone, Copy)]
 pub struct State {
     pub left: usize,
     pub right: usize,

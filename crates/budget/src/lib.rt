@@ -3,13 +3,13 @@ ghost use Rattle.std.specs.Prelude.{◌≡◌};
 ghost use Rattle.budget.specs.Budget.{spend_of, spend_many_of};
 
 // The checks that still pass.
-#[derive(Drop)]
+#[derive(Clone, Copy)]
 pub struct Budget {
     pub left: u32,
 }
 
 // The new state, and whether the check passed; of many checks, whether all did.
-#[derive(Drop)]
+#[derive(Clone, Copy)]
 pub struct Spent {
     pub budget: Budget,
     pub passed: bool,

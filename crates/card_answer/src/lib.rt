@@ -21,7 +21,7 @@ const LISTING: usize = 400000;
 const CARD: usize = 65536;
 
 // the pool's buffers hold the formula's terms, the last one is the formula; or a refusal
-#[derive(Drop)]
+#[derive(Clone, Copy)]
 enum Merged {
     Pool,
     Refused(u8),

@@ -1,7 +1,7 @@
 // What a call about a card answers.
 
 // so many bytes at the front of the output buffer; or a refusal
-#[derive(Drop)]
+#[derive(Clone, Copy)]
 pub enum Answer {
     Text(usize),
     Refused(u8),

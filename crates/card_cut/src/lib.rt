@@ -8,7 +8,7 @@ use signs::{operations, sign_length};
 use text_cut::{Number, cut_number, starts_with};
 
 // A mark of a formula text; a literal's value, then its operation.
-#[derive(Drop)]
+#[derive(Clone, Copy)]
 pub enum Mark {
     Literal(u32, u8),
     Between(u8),
@@ -23,7 +23,7 @@ pub enum Mark {
 }
 
 // The mark, and the place behind it.
-#[derive(Drop)]
+#[derive(Clone, Copy)]
 pub enum Cut {
     Mark(Mark, usize),
     Nothing,

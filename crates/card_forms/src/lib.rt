@@ -7,14 +7,14 @@ ghost use Rattle.terms.specs.Chains.{Holds};
 ghost use Rattle.card_forms.specs.Forms.{infix_of, runs_at, Counted, AllSigned, FormOf, form_of};
 
 // a child with its surrounding precedence
-#[derive(Drop)]
+#[derive(Clone, Copy)]
 pub struct Operand {
     pub term: usize,
     pub level: usize,
 }
 
 // a sign between two children, and whether brackets stand round the whole
-#[derive(Drop)]
+#[derive(Clone, Copy)]
 pub struct Infix {
     pub operation: usize,
     pub left: Operand,
@@ -23,7 +23,7 @@ pub struct Infix {
 }
 
 // a literal's value and operation; a sign between; a list or a marked place by its head, and where its runs stand
-#[derive(Drop)]
+#[derive(Clone, Copy)]
 pub enum Form {
     Literal(u32, u32),
     Between(Infix),

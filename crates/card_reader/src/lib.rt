@@ -9,7 +9,7 @@ use interning::Entered;
 use query::Limits;
 
 // the term's number; or 17; or 13
-#[derive(Drop)]
+#[derive(Clone, Copy)]
 pub enum Read {
     Term(usize),
     NoFormula,

@@ -10,7 +10,7 @@ use card_cut::{Cut, Mark, cut_mark};
 use stores::put_u64;
 
 // right behind `[`, a child wanted, or one read, with so many frames on the stack; or no formula's marks
-#[derive(Drop)]
+#[derive(Clone, Copy)]
 enum Pass {
     Fresh(usize),
     Wanted(usize),

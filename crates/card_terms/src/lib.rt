@@ -18,7 +18,7 @@ use query::Limits;
 
 // A word of the stack: below 16,384 what is open, by its head number (a list by its operation, 128 a marked place, 64 a bracket); a term as a run of 1; a left child as a run of 2 and its operation.
 // how high the stack is; or refusal 13
-#[derive(Drop)]
+#[derive(Clone, Copy)]
 enum Stood {
     Top(usize),
     Full,

@@ -11,7 +11,7 @@ use card_forms::{Form, form_of};
 use decimals::digits;
 
 // what is left of a room; or that the text is longer
-#[derive(Drop)]
+#[derive(Clone, Copy)]
 pub enum Room {
     Left(usize),
     Over,

@@ -8,7 +8,7 @@ ghost use Rattle.card_writer.specs.Writes.{Writes};
 use card_widths::Room;
 
 // the card's length; 18; 14
-#[derive(Drop)]
+#[derive(Clone, Copy)]
 pub enum Carded {
     Bytes(usize),
     Unsigned,

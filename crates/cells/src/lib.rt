@@ -7,7 +7,7 @@ use monomial_terms::class_at;
 use numbers::size_u64;
 
 // A cell's pair of classes.
-#[derive(Drop)]
+#[derive(Clone, Copy)]
 pub struct Place {
     pub left: usize,
     pub right: usize,

@@ -59,7 +59,7 @@ pub fn add_class(mono: &mut [u64], n: usize, c: u64, k: u64) -> usize
 }
 
 // ---- for outside callers
-#[derive(Drop)]
+#[derive(Clone, Copy)]
 pub enum Added {
     // how many terms the list holds now
     Held(usize),

@@ -1,7 +1,7 @@
 // What a call of the merge answers; its contract is said in specs/.
 
 // How many bytes of output; a refusal's number; refusal 10 with the lowest class that holds a literal that also stands in another.
-#[derive(Drop)]
+#[derive(Clone, Copy)]
 pub enum Answer {
     Listing(usize),
     Refused(u8),

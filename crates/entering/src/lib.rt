@@ -12,7 +12,7 @@ use query::Limits;
 use stores::{at_u16, put_u16};
 
 // How many pairs there are; or refusal 12.
-#[derive(Drop)]
+#[derive(Clone, Copy)]
 pub enum Grown {
     To(usize),
     Full,

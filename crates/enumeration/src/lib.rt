@@ -11,7 +11,7 @@ use classes::{first_member, members_of};
 use image::Image;
 
 // The next action, or none.
-#[derive(Drop)]
+#[derive(Clone, Copy)]
 pub enum Sought {
     At(State),
     End,

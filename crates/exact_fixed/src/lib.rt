@@ -27,14 +27,14 @@ use prepared::Begun;
 use query::{Limits, Query};
 
 // a pair's starting term is entered; or refusal 13
-#[derive(Drop)]
+#[derive(Clone, Copy)]
 enum One {
     Entered,
     Full,
 }
 
 // starting terms of all pairs, with the budget left; cut short; refusal 13
-#[derive(Drop)]
+#[derive(Clone, Copy)]
 enum Started {
     All(Budget),
     Cut,
@@ -42,7 +42,7 @@ enum Started {
 }
 
 // the rounds follow, over so many pairs, with the budget left; or the run ends without one
-#[derive(Drop)]
+#[derive(Clone, Copy)]
 enum Next {
     Rounds(usize, Budget),
     Ended(Ran),

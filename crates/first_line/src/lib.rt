@@ -7,7 +7,7 @@ ghost use Rattle.first_line.specs.Fields.{fields_of};
 use decimals::{labelled, text};
 
 // what the first line reports
-#[derive(Drop)]
+#[derive(Clone, Copy)]
 pub struct Report {
     pub complete: bool,
     pub pairs: u64,

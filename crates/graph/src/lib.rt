@@ -33,7 +33,7 @@ use query::Limits;
 use skipped::{is_large, skipped_at};
 
 // Built in full: how many pairs, and the budget left; cut short; both with the number of monomial pairs passed over; refusal 12.
-#[derive(Drop)]
+#[derive(Clone, Copy)]
 pub enum Built {
     All(usize, Budget, u64),
     Cut(u64),

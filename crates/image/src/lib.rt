@@ -6,7 +6,7 @@ ghost use Rattle.image.specs.Layout.{layout_of};
 use numbers::{long_size, size_u8};
 
 // How many entries each table has, and the bytes at which class 0, member 0 and child 0 stand.
-#[derive(Drop)]
+#[derive(Clone, Copy)]
 pub struct Image {
     pub operations: usize,
     pub classes: usize,
@@ -18,7 +18,7 @@ pub struct Image {
 }
 
 // Entries of a table, from the first to before the last.
-#[derive(Drop)]
+#[derive(Clone, Copy)]
 pub struct Span {
     pub from: usize,
     pub to: usize,

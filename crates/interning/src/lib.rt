@@ -13,7 +13,7 @@ use term_key::key;
 use terms::{BUCKET, CHAINS, count, first, head, value};
 
 // a term that was there or was entered; or refusal 13
-#[derive(Drop)]
+#[derive(Clone, Copy)]
 pub enum Entered {
     Term(usize),
     Full,

@@ -13,7 +13,7 @@ use numbers::long_size;
 use operation_rules::operations_right;
 use span_rules::spans_right;
 
-#[derive(Drop)]
+#[derive(Clone, Copy)]
 pub enum Verdict {
     Accepted(Image),
     // 2 to 9

@@ -7,7 +7,7 @@ ghost use Rattle.listing.specs.Lists.{Behind, Lists};
 use first_line::{LONGEST, Report};
 
 // the listing's length; or that it exceeds the output (refusal 14)
-#[derive(Drop)]
+#[derive(Clone, Copy)]
 pub enum Written {
     Bytes(usize),
     Full,

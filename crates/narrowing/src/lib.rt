@@ -6,7 +6,7 @@ ghost use Rattle.narrowing.specs.Narrowing.{narrowed_of};
 
 use monomial_terms::count_at;
 
-#[derive(Drop)]
+#[derive(Clone, Copy)]
 pub enum Narrowed {
     Fits,
     // the first entry, from 0, whose count is above 4,294,967,295

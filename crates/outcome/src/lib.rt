@@ -12,7 +12,7 @@ use numbers::{long_size, long_u32};
 use work_clearing::clear_all;
 
 // what a run reports; root is its term's number
-#[derive(Drop)]
+#[derive(Clone, Copy)]
 pub struct Outcome {
     pub complete: bool,
     pub pairs: usize,
@@ -24,14 +24,14 @@ pub struct Outcome {
 }
 
 // an outcome; or a refusal
-#[derive(Drop)]
+#[derive(Clone, Copy)]
 pub enum Ran {
     Done(Outcome),
     Stopped(u8),
 }
 
 // the listing's length; or a refusal
-#[derive(Drop)]
+#[derive(Clone, Copy)]
 pub enum Answer {
     Listing(usize),
     Refused(u8),

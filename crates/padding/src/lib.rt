@@ -90,7 +90,7 @@ pub fn level(mono: &mut [u64], n: usize, id: usize, a: u64, b: u64) -> usize
     n
 }
 
-#[derive(Drop)]
+#[derive(Clone, Copy)]
 pub enum Padded {
     // rows and columns
     Pair(usize, usize),

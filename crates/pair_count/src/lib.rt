@@ -6,7 +6,7 @@ use pair_search::{Pair, find};
 use pair_table::{Entered, enter};
 
 // How many records stand in the table from the queried pair's on. Only `enter_graph` makes one.
-#[derive(Drop)]
+#[derive(Clone, Copy)]
 pub struct Count {
     pairs: usize,
 }

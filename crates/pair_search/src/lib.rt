@@ -6,7 +6,7 @@ ghost use Rattle.pair_search.specs.Code.{code_of};
 ghost use Rattle.pair_search.specs.Search.{seek, any_from};
 
 #[repr(C)]
-#[derive(Drop)]
+#[derive(Clone, Copy)]
 pub struct Pair {
     pub left: u16,
     pub right: u16,

@@ -8,7 +8,7 @@ ghost use Rattle.pair_table.specs.Table.{put_in, outcome_of, enter_of, table_aft
 use pair_search::{Pair, find, least};
 
 // A pair was there already, was entered, or there was no room.
-#[derive(Drop)]
+#[derive(Clone, Copy)]
 pub enum Entered {
     At(usize),
     New(usize),

@@ -24,7 +24,7 @@ use wide::Wide;
 
 // ---- its quality
 // The sums of count × size and of count × mass.
-#[derive(Drop)]
+#[derive(Clone, Copy)]
 struct Totals {
     size: Wide,
     mass: Wide,

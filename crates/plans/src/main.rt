@@ -8,28 +8,28 @@ use transport::{Answer, Quality, solve_transport};
 use wide::Wide;
 
 // How many entries were read, and where the text goes on.
-#[derive(Drop)]
+#[derive(Clone, Copy)]
 struct Entries {
     count: usize,
     next: usize,
 }
 
 // Whether a word is there, and where the text goes on.
-#[derive(Drop)]
+#[derive(Clone, Copy)]
 struct Place {
     found: bool,
     next: usize,
 }
 
 // A number and where the text goes on.
-#[derive(Drop)]
+#[derive(Clone, Copy)]
 struct Parsed {
     value: u32,
     next: usize,
 }
 
 // A cell, 0 as its flag where it is forbidden, and where the text goes on.
-#[derive(Drop)]
+#[derive(Clone, Copy)]
 struct Cell {
     size: u32,
     mass: u32,
@@ -38,7 +38,7 @@ struct Cell {
 }
 
 // A number's tenth and its last digit.
-#[derive(Drop)]
+#[derive(Clone, Copy)]
 struct Divided {
     rest: Wide,
     digit: u64,

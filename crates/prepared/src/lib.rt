@@ -7,7 +7,7 @@ use image::Image;
 use pair_count::Count;
 
 // a refusal, 13 or 12; cut short in building, with the root's starting term; the root's starting term, the number of pairs, the budget left; both with the number of monomial pairs passed over
-#[derive(Drop)]
+#[derive(Clone, Copy)]
 pub enum Begun {
     Stopped(u8),
     Cut(usize, u64),
@@ -15,7 +15,7 @@ pub enum Begun {
 }
 
 // A refusal; 10 with the lowest class that holds a literal that also stands in another; the image and what the run has begun.
-#[derive(Drop)]
+#[derive(Clone, Copy)]
 pub enum Prepared {
     Refused(u8),
     Doubled(usize),

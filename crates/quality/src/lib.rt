@@ -14,7 +14,7 @@ use image::Image;
 use numbers::long_u32;
 
 // What a pair's turn chose: nothing better; a structural action; a plan by its operation and how many runs of it stand in the list.
-#[derive(Drop)]
+#[derive(Clone, Copy)]
 pub enum How {
     Stay,
     Aligned(State),
@@ -22,7 +22,7 @@ pub enum How {
 }
 
 // The best quality so far and where it comes from.
-#[derive(Drop)]
+#[derive(Clone, Copy)]
 pub struct Best {
     pub size: u64,
     pub mass: u64,
@@ -30,7 +30,7 @@ pub struct Best {
 }
 
 // The quality of an action.
-#[derive(Drop)]
+#[derive(Clone, Copy)]
 struct Quality {
     size: u64,
     mass: u64,

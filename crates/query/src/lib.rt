@@ -6,7 +6,7 @@ ghost use Rattle.query.specs.Settings.{limits_of};
 use spec::Caller;
 
 // The queried pair of classes, the budget of checks, and who asks.
-#[derive(Drop)]
+#[derive(Clone, Copy)]
 pub struct Query {
     pub left: u16,
     pub right: u16,
@@ -15,7 +15,7 @@ pub struct Query {
 }
 
 // How many pairs, terms and runs a run may enter.
-#[derive(Drop)]
+#[derive(Clone, Copy)]
 pub struct Limits {
     pub pairs: usize,
     pub terms: usize,

@@ -4,7 +4,7 @@ ghost use Rattle.answer.specs.Responding.{Rooms};
 
 use libc::{STDIN_FILENO, STDOUT_FILENO};
 
-#[derive(Drop)]
+#[derive(Clone, Copy)]
 pub enum Judged {
     Same,
     Other,
@@ -82,7 +82,7 @@ fn say(same: u64, all: u64) {
 }
 
 // how many answers agreed, of how many, and how many more may come
-#[derive(Drop)]
+#[derive(Clone, Copy)]
 pub struct Tally {
     pub same: u64,
     pub all: u64,

@@ -11,7 +11,7 @@ use narrowing::Narrowed;
 
 // 0 with a listing of so many bytes, or a refusal's number; with 10 the lowest class that holds a literal that also stands in another.
 #[repr(C)]
-#[derive(Drop)]
+#[derive(Clone, Copy)]
 pub struct Returned {
     pub number: u32,
     pub bytes: usize,
@@ -20,7 +20,7 @@ pub struct Returned {
 
 // How many numbers each work buffer of `tariff_merge` and of `tariff_quote` has at least.
 #[repr(C)]
-#[derive(Drop)]
+#[derive(Clone, Copy)]
 pub struct Lengths {
     pub graph: usize,
     pub pairs: usize,
@@ -32,7 +32,7 @@ pub struct Lengths {
 
 // How many numbers these work buffers of `tariff_card` and of `tariff_read_card` have at least.
 #[repr(C)]
-#[derive(Drop)]
+#[derive(Clone, Copy)]
 pub struct CardLengths {
     pub marks: usize,
     pub terms: usize,
@@ -41,7 +41,7 @@ pub struct CardLengths {
 
 // How many terms the list holds, and 0 where the child was added; 1 where the list is full, 2 where its class's count would pass 64 bits.
 #[repr(C)]
-#[derive(Drop)]
+#[derive(Clone, Copy)]
 pub struct AddedChild {
     pub number: u32,
     pub terms: usize,
@@ -49,7 +49,7 @@ pub struct AddedChild {
 
 // 0 where every count is at most 4,294,967,295; 1 where one is above, with the first such entry, from 0.
 #[repr(C)]
-#[derive(Drop)]
+#[derive(Clone, Copy)]
 pub struct NarrowedList {
     pub number: u32,
     pub entry: usize,

@@ -7,7 +7,7 @@ use budget::Budget;
 use outcome::{Outcome, Ran};
 
 // a round: whether a pair changed, with the budget left; cut short; refusal 13
-#[derive(Drop)]
+#[derive(Clone, Copy)]
 pub enum Round {
     Finished(bool, Budget),
     Cut,
@@ -15,7 +15,7 @@ pub enum Round {
 }
 
 // after a round: the next, with the budget left; or the run's end
-#[derive(Drop)]
+#[derive(Clone, Copy)]
 pub enum After {
     Next(Budget),
     Ended(Ran),

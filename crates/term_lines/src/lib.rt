@@ -17,7 +17,7 @@ use text_cut::{Number, Place};
 const CHILDREN: usize = 279172874175;
 
 // how many runs, their counts together, and the place behind them; 17; 13
-#[derive(Drop)]
+#[derive(Clone, Copy)]
 enum Runs {
     Are(usize, usize, usize),
     Broken,
@@ -25,7 +25,7 @@ enum Runs {
 }
 
 // head and operation, value, how many runs, and the place behind the line; 17; 13
-#[derive(Drop)]
+#[derive(Clone, Copy)]
 enum Line {
     Node(u32, u32, usize, usize),
     Broken,
@@ -180,7 +180,7 @@ fn cut_line(text: &[u8], at: usize, k: usize, list: &mut [u64]) -> Line
 
 // ---- lines
 // the place behind a line whose term was entered; 17; 13
-#[derive(Drop)]
+#[derive(Clone, Copy)]
 enum Added {
     Next(usize),
     Broken,
@@ -188,7 +188,7 @@ enum Added {
 }
 
 // the pool of the lines; 17; 13
-#[derive(Drop)]
+#[derive(Clone, Copy)]
 pub enum Loaded {
     Pool,
     Broken,

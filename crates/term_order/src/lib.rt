@@ -7,7 +7,7 @@ ghost use Rattle.terms.specs.Chains.{Holds};
 ghost use Rattle.term_order.specs.Comparing.{times_of, head_child, apart_numbers, diff_numbers, Differs, order_of};
 ghost use Rattle.term_order.specs.Steps.{Steps};
 
-#[derive(Drop)]
+#[derive(Clone, Copy)]
 pub enum Order {
     Less,
     Equal,
@@ -15,14 +15,14 @@ pub enum Order {
 }
 
 // what decides between two terms: their heads, or the first children that differ
-#[derive(Drop)]
+#[derive(Clone, Copy)]
 enum Step {
     Before,
     After,
     RunsBelow(usize, usize),
 }
 
-#[derive(Drop)]
+#[derive(Clone, Copy)]
 struct Children {
     left: usize,
     right: usize,

@@ -5,14 +5,14 @@ ghost use Rattle.formula.specs.Lexer.{starts_with, lead};
 ghost use Rattle.text_cut.specs.Cutting.{CutsWord, CutsNumber};
 
 // the place behind a word
-#[derive(Drop)]
+#[derive(Clone, Copy)]
 pub enum Place {
     At(usize),
     Nothing,
 }
 
 // a number, and the place behind it
-#[derive(Drop)]
+#[derive(Clone, Copy)]
 pub enum Number {
     Is(usize, usize),
     Nothing,

@@ -16,13 +16,13 @@ use weights::if_allowed;
 use wide::Wide;
 
 // A plan's size and mass.
-#[derive(Drop)]
+#[derive(Clone, Copy)]
 pub struct Quality {
     pub size: Wide,
     pub mass: Wide,
 }
 
-#[derive(Drop)]
+#[derive(Clone, Copy)]
 pub enum Answer {
     Plan(Quality),
     Refused(u8),

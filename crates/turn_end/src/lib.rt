@@ -31,7 +31,7 @@ fn changed(how: How) -> bool
 }
 
 // A pair's quality after its turn, its term, and whether an action was chosen.
-#[derive(Drop)]
+#[derive(Clone, Copy)]
 pub struct Turned {
     pub size: u32,
     pub mass: u32,
@@ -40,7 +40,7 @@ pub struct Turned {
 }
 
 // What a turn gives; or refusal 13
-#[derive(Drop)]
+#[derive(Clone, Copy)]
 pub enum Taken {
     To(Turned),
     Full,

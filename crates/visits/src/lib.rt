@@ -16,7 +16,7 @@ use query::Limits;
 use turn_end::Taken;
 
 // a pair's turn: whether it changed; or refusal 13
-#[derive(Drop)]
+#[derive(Clone, Copy)]
 pub enum Step {
     To(bool),
     Full,

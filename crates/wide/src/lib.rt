@@ -3,14 +3,14 @@ ghost use Rattle.std.specs.Prelude.{◌≡◌, ◌+◌, ◌*◌, ◌/◌, ◌%�
 ghost use Rattle.wide.specs.Value.{val, unsigned, Within, weight_of, weigh_of};
 ghost use Rattle.wide.specs.Wrap.{add_words, neg_words};
 
-#[derive(Drop)]
+#[derive(Clone, Copy)]
 pub struct Wide {
     pub lo: u64,
     pub hi: u64,
 }
 
 // A word and what goes over to the next one.
-#[derive(Drop)]
+#[derive(Clone, Copy)]
 struct Sum {
     word: u64,
     carry: u64,
