@@ -49,6 +49,7 @@ filter-in f {x} (y ∷ l) i = go (f y) refl (λ j. filter-in f l j)
 
 pub in-filter : {A : Type 0} (f : A → Bool) {x : A} (l : List A) → In x l → f x ≡ true → In x (filter f l)
 unfolding filter
+in-filter {A = A} f {x = x} [] x3 e = elim x3 [ ]
 in-filter f (y ∷ l) here e = rw (e, filter) here
 in-filter f {x} (y ∷ l) (there i) e = go (f y) (in-filter f l i e)
   where

@@ -63,14 +63,14 @@ module _ (t : Tables) (v : Valid t) where
   best-in c h = let (a, b) = v.best.best_within c h in in_span t.members (the_class t c).first (the_class t c).count (the_class t c).best _ a b (omega (arith, class-fits c h))
 
   -- best sizes fall along the best members' children
-  size-part : (l : List Two) (d : Two) → In d l → 1 ≤ d.1 → best_size t d.0 ≤ sum (map (λ c. c.1 * best_size t c.0) l)
+  size-part : (d : Two) (l : List Two) → In d l → 1 ≤ d.1 → best_size t d.0 ≤ sum (map (λ c. c.1 * best_size t c.0) l)
   unfolding sum
-  size-part l d (here {l = m}) h = omega (arith, mul-le-mul_right (best_size t d.0) h)
-  size-part l d (there {l = m} i) h = omega (arith, size-part m d i h)
+  size-part d l (here {l = m}) h = omega (arith, mul-le-mul_right (best_size t d.0) h)
+  size-part d l (there {l = m} i) h = omega (arith, size-part d m i h)
 
   pub best-falls : (c : ℕ) → c < length t.classes → (d : Two) → In d (children_of t (best_member t c)) → best_size t d.0 < best_size t c
   unfolding size_over
-  best-falls c h d i = omega (arith, v.best.best_equation c h, size-part (children_of t (best_member t c)) d i (child-counted (best_member t c) c (best-in c h) d i))
+  best-falls c h d i = omega (arith, v.best.best_equation c h, size-part d (children_of t (best_member t c)) i (child-counted (best_member t c) c (best-in c h) d i))
 
   -- "a class of the image only for MSet and Set"
   pub identity-class : (o : ℕ) → identity_of t o ≢ NO-IDENTITY → IsClass t (identity_of t o)

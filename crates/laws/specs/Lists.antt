@@ -31,7 +31,7 @@ in-append [] i = inr i
 in-append (y ∷ l) here = inl here
 in-append (y ∷ l) (there i) = elim (in-append l i) [ inl a ↦ inl (there a) | inr b ↦ inr b ]
 
-pub in_map : {A B : Type 0} (f : A → B) {l : List A} {x : A} → In x l → In (f x) (map f l)
+pub in_map : {A B : Type 0} (f : A → B) {x : A} {l : List A} → In x l → In (f x) (map f l)
 in_map f here = here
 in_map f (there i) = there (in_map f i)
 
@@ -41,6 +41,7 @@ map-in f (x ∷ l) y i = elim (in-cons i) [ inl e ↦ (x, here, sym e) | inr j �
 
 pub in-each : {A B : Type 0} (f : A → List B) (l : List A) (a : A) (b : B) → In a l → In b (f a) → In b (each f l)
 unfolding each
+in-each {A = A} {B = B} f [] a b x'' j = elim x'' [ ]
 in-each f (x ∷ l) a b here j = in_left (each f l) j
 in-each f (x ∷ l) a b (there i) j = in_right (f x) (in-each f l a b i j)
 
@@ -56,6 +57,7 @@ any-in f (y ∷ l) e = go (f y) refl (any-in f l)
 
 pub any_none : {A : Type 0} (f : A → Bool) (l : List A) (x : A) → any f l ≡ false → In x l → f x ≡ false
 unfolding any
+any_none {A = A} f [] x e x4 = elim x4 [ ]
 any_none f (y ∷ l) x e here = go (f x) refl
   where
     go : (b : Bool) → f x ≡ b → f x ≡ false
@@ -92,6 +94,7 @@ module _ {A : Type 0} (d : A) where
   get_in (x ∷ l) (suc k) h = there (get_in l k (omega arith))
 
   pub in-get : (p : A) (l : List A) → In p l → (k : ℕ) × (k < length l) × (get_or l k d ≡ p)
+  in-get p [] x' = elim x' [ ]
   in-get p (x ∷ l) here = (0, omega arith, refl)
   in-get p (x ∷ l) (there i) = let r = in-get p l i in (suc r.0, omega (arith, r.1), r.2)
 
@@ -160,6 +163,7 @@ module _ {A : Type 0} {same : A → A → Bool} (D : Decides same) where
   -- what stands for p along a list that has one entry for each
   pub look-up : {B : Type 0} (d : B) (f : A → B) (ps : List A) (p : A) → In p ps → get_or (map f ps) (place (same p) ps) d ≡ f p
   unfolding place
+  look-up {B = B} d f [] p x' = elim x' [ ]
   look-up d f (x ∷ l) p here = rw (D.alike p, place) refl
   look-up {B} d f (x ∷ l) p (there k) = go (same p x) refl (look-up d f l p k)
     where
@@ -170,6 +174,7 @@ module _ {A : Type 0} {same : A → A → Bool} (D : Decides same) where
   -- the place of an entry
   pub place_in : (p : A) (ps : List A) → In p ps → place (same p) ps < length ps
   unfolding place
+  place_in p [] x' = elim x' [ ]
   place_in p (x ∷ ps) here = rw (D.alike p, place) (omega arith)
   place_in p (x ∷ ps) (there i) = go (same p x) (place_in p ps i)
     where

@@ -1,0 +1,1 @@
+# [ derive ( Clone , Copy ) ] pub enum Caller { Page , Desk , }
