@@ -10,7 +10,7 @@ use Rattle.spec.specs.Bytes.{pick, sum_to, sum}
 use Rattle.spec.specs.Meaning.{Plan, ◌⊑◌}
 use Rattle.spec.specs.Transport.{forbidden, Problem, allowed, size_of, mass_of, largest, weight, rows_of, cols_of, cell_at, supply_at, demand_at, capacity, moved, row, column, sink, node_count, plan_size, plan_mass, residual, price, Search, searched, found, solve_cells}
 use Rattle.laws.specs.Tests.{clash}
-use Rattle.flow.specs.Augmentation.{row_sum, col_sum, cost_at, price-fwd, price-back, forward, Partial}
+use Rattle.flow.specs.Augmentation.{row_sum, col_sum, cost_at, price-fwd, price-back, Partial}
 use Rattle.flow.specs.Certificate.{Meets, Duals, optimal}
 use Rattle.flow.specs.Cut.{Closed, stuck, find}
 use Rattle.flow.specs.Lexicographic.{lexicographic}

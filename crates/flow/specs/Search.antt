@@ -12,7 +12,6 @@ use Rattle.spec.specs.Meaning.{In, here, there}
 use Rattle.spec.specs.Transport.{Problem, Vertex, source, row, column, target, node_count, vertex_of, neighbours, residual, price, Search, improves, label_or0, label, leave, relax, visit, search, found}
 use Rattle.laws.specs.Tests.{clash}
 use Rattle.flow.specs.Cut.{bit}
-use Rattle.flow.specs.Flat.{at}
 use Rattle.flow.specs.Queue.{in-nil, queue-keeps, queue-has, queue-length, queue-from, in_tail}
 use Rattle.flow.specs.Signed.{pos_part, neg_part, plus}
 use Rattle.flow.specs.Sums.{sum_mono, sum-const, sum-change}

@@ -11,7 +11,6 @@ use Rattle.spec.specs.Meaning.{In, here, there}
 use Rattle.spec.specs.Transport.{forbidden, Problem, size_of, mass_of, largest, cell_cost, rows_of, cols_of, cell_at, Vertex, source, row, column, target, sink, node_count, vertex_of, neighbours, residual, price, begin, search_fuel, searched, found}
 use Rattle.laws.specs.Tests.{clash}
 use Rattle.flow.specs.Cut.{bit}
-use Rattle.flow.specs.Flat.{at}
 use Rattle.flow.specs.Network.{largest-ge, NodeIs, view, is_source, is_row, is_column, is_sink}
 use Rattle.flow.specs.Queue.{in-nil, in-upFrom, up_from-in}
 use Rattle.flow.specs.Search.{label_or, none-some, label_at, pred_at, NodeLabel, residual_of, price_of, Potential, Labelled, reached_count, Settled, AtRest, rests, unseen, root}

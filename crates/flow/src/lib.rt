@@ -1,1 +1,3 @@
+#![tactic(auto)]
+
 // theorems about the transport definitions: see specs/
