@@ -8,13 +8,13 @@ use Prim.Native.Nat.{ℕ, zero, suc, ◌+◌, ◌≤◌, ◌<◌, max}
 use Rattle.std.proofs.Math.Decide.{ℕ_discrete, dec_lt}
 use Rattle.std.proofs.lemmas.Bool.{lt-leb}
 use Rattle.std.proofs.Math.Seq.{take-length}
-use Rattle.spec.specs.Bytes.{pick, both, either, all, any, each, sum_to, same_twos, here}
+use Rattle.spec.specs.Bytes.{pick, both, either, any, each, sum_to, same_twos, here}
 use Rattle.spec.specs.Image.{Tables, NO-IDENTITY, identity_of}
 use Rattle.spec.specs.Monomial.{Monomial, MonomialPair, pad_pair, pair_of, both_itself, total, wide, wide_pairs, same_pair, count_once, monomials_of, representation_pairs, skipped_under}
 use Rattle.laws.specs.Tests.{clash, is_false}
 use Rattle.laws.specs.AcceptedLists.{in-at, at_in}
 use Rattle.laws.specs.Valid.{Valid}
-use Rattle.skips.specs.Facts.{level_to, FULL, most, Facts, FactsOf, common, over, kin_within, again, counts, skipped_by}
+use Rattle.skips.specs.Facts.{level_to, FULL, Facts, FactsOf, common, over, kin_within, again, counts, skipped_by}
 use Rattle.skips.specs.Repeated.{level-full, pad-level, pad-left, pad-right, pad-none, Pads, pads-said, pairs_at, not_itself, occurs-earlier}
 use Rattle.skips.specs.Counted.{count_from, count-turns}
 use Rattle.skips.specs.Kin.{Fine, leveled, scan-is, scan-levels, self-is, narrow-is}

@@ -13,7 +13,7 @@ use Rattle.spec.specs.Image.{NO-IDENTITY}
 use Rattle.spec.specs.Monomial.{Monomial, total, narrow}
 use Rattle.laws.specs.Tests.{both_true}
 use Rattle.laws.specs.AcceptedLists.{in-at, any-cons}
-use Rattle.skips.specs.Facts.{level_to, FULL, filled, most, kin, Facts, FactsOf, kin_with, kin_within}
+use Rattle.skips.specs.Facts.{level_to, FULL, filled, kin, Facts, FactsOf, kin_with, kin_within}
 use Rattle.skips.specs.Repeated.{twos-is, twos-same, level-full, level-none, level-total, level-most}
 use Rattle.skips.specs.Levels.{Positive, level-filled, most-tells}
 
@@ -36,6 +36,7 @@ module _ {A : Type 0} (p : A → Bool) (d : A) where
 
   place-there : (l : List A) (x : A) → In x l → p x ≡ true → place p l < length l
   unfolding place
+  place-there [] x x4 h = elim x4 [ ]
   place-there (y ∷ l) x here h = rw (place, h) (omega arith)
   place-there (y ∷ l) x (there j) h = go (p y) (place-there l x j h)
     where

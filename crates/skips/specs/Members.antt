@@ -1,5 +1,5 @@
 -- (02, Paper 7) the monomials of a class of an accepted image: positive counts, and totals of at most 64 * 4,294,967,295.
-use Rattle.std.specs.Prelude.{◌≡◌, Bool, true, false, List, [], ◌∷◌, map, ℕ, ◌*◌, ◌≤◌, ◌<◌, eqb, length, get_or}
+use Rattle.std.specs.Prelude.{◌≡◌, Bool, true, false, List, [], ◌∷◌, map, ℕ, ◌≤◌, ◌<◌, eqb, length, get_or}
 use Rattle.std.proofs.Common.{sym, inl, inr}
 use Rattle.spec.specs.Bytes.{pick, filter, In}
 use Rattle.spec.specs.Image.{Tables, Member, NO-IDENTITY, identity_of, members_of, children_of}
