@@ -1,1 +1,3 @@
+#![tactic(auto)]
+
 // pools of terms, and the order of terms: see specs/
