@@ -1,4 +1,5 @@
 // What a call about a card answers.
+#![tactic(auto)]
 
 // so many bytes at the front of the output buffer; or a refusal
 #[derive(Clone, Copy)]

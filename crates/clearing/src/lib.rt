@@ -1,4 +1,5 @@
 // "Every number zero": one loop for each width.
+#![tactic(auto)]
 ghost use Rattle.std.specs.Prelude.{◌≡◌, length, replicate};
 
 pub fn clear_u16(s: &mut [u16])

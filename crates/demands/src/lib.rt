@@ -1,1 +1,2 @@
 // the customer's demands, as theorems about the contract of merge: see specs/
+#![tactic(auto)]

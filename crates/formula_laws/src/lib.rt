@@ -1,1 +1,2 @@
 // laws about the formula text of a card: see specs/
+#![tactic(auto)]

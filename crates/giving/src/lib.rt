@@ -1,4 +1,5 @@
 // A pair given its size, mass and term: what a round starts from, or what the round at hand gives it.
+#![tactic(auto)]
 ghost use Rattle.std.specs.Prelude.{◌≡◌, ◌+◌, ◌<◌, length};
 ghost use Rattle.arrays.specs.Arrays.{given};
 

@@ -1,1 +1,2 @@
 // laws about the definitions: see specs/
+#![tactic(auto)]

@@ -1,1 +1,2 @@
 // the mathematics of the merge: see specs/
+#![tactic(auto)]

@@ -1,4 +1,5 @@
 // Program `merge`: reads an image and a query from standard input, and writes the listing or `refused` and its number.
+#![tactic(auto)]
 use libc::{STDIN_FILENO, STDOUT_FILENO};
 
 fn emit(s: &[u8], k: usize) {

@@ -1,1 +1,2 @@
 // the two fleets in either order, as theorems: see specs/
+#![tactic(auto)]

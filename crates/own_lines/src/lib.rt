@@ -1,1 +1,2 @@
 // the lines of our own listings, read back: see specs/
+#![tactic(auto)]

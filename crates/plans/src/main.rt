@@ -1,5 +1,6 @@
 // Reads transport problems from standard input, a line each, as `supply 2 1 demand 1 2 cells 1,0 2,2 - 2,2` (cells row by row as size,mass, or `-` where forbidden).
 // Writes a line for each: `size 5 mass 4 plan 1 1 0 1`, `refused` and its number, or `unreadable`.
+#![tactic(auto)]
 ghost use Rattle.std.specs.Prelude.{◌+◌, ◌≤◌, ◌<◌, length};
 
 use cost_matrix::{CELLS, COSTS};

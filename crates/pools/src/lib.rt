@@ -1,3 +1,4 @@
 #![tactic(auto)]
 
 // pools of terms, and the order of terms: see specs/
+#![tactic(auto)]

@@ -1,4 +1,5 @@
 // Program `read_card`: reads a sign table and a card from standard input, and writes the lines of its term's listing or `refused` and its number.
+#![tactic(auto)]
 use libc::{STDIN_FILENO, STDOUT_FILENO};
 
 fn emit(s: &[u8], k: usize) {

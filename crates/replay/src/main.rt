@@ -1,4 +1,5 @@
 // Program `replay`: reads frames and answers from standard input, each behind its length in 4 bytes, frame, answer, frame, answer .., and says how many answers are the bytes that program `merge` writes.
+#![tactic(auto)]
 ghost use Rattle.std.specs.Prelude.{◌+◌, ◌≤◌, ◌<◌};
 ghost use Rattle.answer.specs.Responding.{Rooms};
 

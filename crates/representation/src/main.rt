@@ -1,5 +1,6 @@
 // Reads frames from standard input, each behind its length in 4 bytes, and writes the representation pairs of their classes, a line a pair: left class, right class, operation, left terms class:count, `|`, right terms.
 // An image of at most 12 classes shows every two of its classes, another one the queried two. `refused` stands for a refused frame, and an empty line ends each.
+#![tactic(auto)]
 ghost use Rattle.std.specs.Prelude.{◌≡◌, ◌≤◌, ◌<◌, length};
 ghost use Rattle.spec.specs.Image.{tables_of};
 ghost use Rattle.laws.specs.Valid.{Valid};

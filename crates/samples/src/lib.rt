@@ -1,1 +1,2 @@
 // definitions against answers of the listed Rust: see specs/
+#![tactic(auto)]

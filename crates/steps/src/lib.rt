@@ -1,1 +1,2 @@
 // graph and rounds over nodes of any kind, as theorems: see specs/
+#![tactic(auto)]

@@ -1,4 +1,5 @@
 // The merge for other languages: calls with the C interface, and the lengths of the work buffers.
+#![tactic(auto)]
 ghost use Rattle.std.specs.Prelude.{◌≡◌, length};
 ghost use Rattle.spec.specs.declared.Caller.TheVariants.{Page, Desk};
 ghost use Rattle.card_contract.specs.Calls as card;

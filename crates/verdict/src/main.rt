@@ -1,4 +1,5 @@
 // Reads images from standard input, each behind its length in 4 bytes, and writes a line for each: `accepted`, `refused` and its number, or `refused 10 class` and the lowest class that holds a literal that also stands in another.
+#![tactic(auto)]
 use judge::{Verdict, judge};
 use libc::{STDIN_FILENO, STDOUT_FILENO};
 

@@ -1,0 +1,8 @@
+use Prim.Native.Nat.{ℕ, ◌-◌, ◌+◌}
+use mathlib.Core.Path.{ap}
+use lib.ListN.{get_or}
+use borrow.Author.Rules.{rules}
+use Rattle.arrays.proofs.term_of.Goals as goal
+
+pub returns : goal.returns
+returns c = ap (λ (x : ℕ). get_or c.args.pairs.now (x + 2) 0) c.begin_of-at.ensures.0

@@ -1,0 +1,14 @@
+use Rattle.augment.proofs.Balances.{sum-turn, next_place, first-place}
+use Rattle.spec.specs.Bytes.{sum_to}
+use borrow.Author.Rules.{rules}
+use Prim.Native.Nat.{ℕ, ◌≤◌, ◌<◌, ◌-◌, ◌+◌, ◌*◌, ◌^◌}
+use native.Mathlib.Omega.{arith}
+use mathlib.Core.Path.{◌≡◌, refl, ap}
+use lib.ListN.{length, get_or}
+use Rattle.augment.proofs.sum_every.Given as goal
+
+abbrev pub invariant-loop-i : goal.invariant-loop-i
+invariant-loop-i l = (l.i ≤ l.n) × (l.at ≡ l.k + l.i * l.d) × (l.s ≡ sum_to l.i (λ j. get_or l.flow (l.k + j * l.d) 0)) × (l.s ≤ l.i * 2 ^ 32)
+
+abbrev pub decreases-loop-i : goal.decreases-loop-i
+decreases-loop-i l = l.n - l.i

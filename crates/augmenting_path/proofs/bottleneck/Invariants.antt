@@ -1,0 +1,14 @@
+use Prim.Native.Nat.{min, ℕ, ◌≤◌, ◌-◌, ◌+◌}
+use Rattle.search_laws.specs.PathLaws.{step-here, steps_next, least-turn, least-end}
+use Rattle.search_laws.specs.Walk.{here, LAST}
+use Rattle.search_laws.specs.Path.{Steps, least_on}
+use borrow.Author.Rules.{rules}
+use native.Mathlib.Omega.{arith}
+use mathlib.Core.Path.{◌≡◌, refl, ap, sym, ◌∙◌}
+use Rattle.augmenting_path.proofs.bottleneck.Given as goal
+
+abbrev pub invariant-loop-a : goal.invariant-loop-a
+invariant-loop-a l = (l.a ≤ LAST) × Steps l.r l.c (here l.path l.a) × (least_on l.costs l.flow l.left l.r l.c l.b (here l.path l.a) ≡ least_on l.costs l.flow l.left l.r l.c l.most (here l.path l.from))
+
+abbrev pub decreases-loop-a : goal.decreases-loop-a
+decreases-loop-a l = LAST - l.a

@@ -1,0 +1,16 @@
+use Rattle.arrays.specs.Arrays.{quality_in}
+use Rattle.best_aligned.specs.Aligned.{best_from, best_aligned}
+use Rattle.best_aligned.specs.Offers.{best-first, best-last, best-next}
+use Rattle.enumeration.specs.Remaining.{list_from}
+use Rattle.enumeration.specs.SeekLaws.{found-stands, found-fewer}
+use Rattle.spec.specs.Image.{tables_of}
+use mathlib.Core.Path.{◌≡◌, sym, ◌∙◌}
+use lib.ListN.{length}
+use borrow.Author.Rules.{rules}
+use Rattle.best_aligned.proofs.best_aligned.Given as goal
+
+abbrev pub invariant-loop-best : goal.invariant-loop-best
+invariant-loop-best l = best_from (tables_of l.s) (quality_in l.im.classes l.graph l.pairs) (l.l, l.r) (length (list_from (tables_of l.s) l.l l.r l.w)) l.w l.best ≡ best_aligned (tables_of l.s) (quality_in l.im.classes l.graph l.pairs) (l.l, l.r)
+
+abbrev pub decreases-loop-best : goal.decreases-loop-best
+decreases-loop-best l = length (list_from (tables_of l.s) l.l l.r l.w)

@@ -1,0 +1,15 @@
+use Rattle.card_cut.specs.SignLaws.{place-start, place_none, place_here, place-later}
+use Rattle.card_cut.specs.Cutting.{fits, sign_at}
+use Rattle.spec.specs.Bytes.{place, up_from}
+use borrow.Author.Rules.{rules}
+use Prim.Native.Nat.{◌≤◌, ◌-◌, ◌+◌}
+use native.Mathlib.Omega.{arith}
+use mathlib.Core.Path.{◌≡◌, sym, ◌∙◌}
+use lib.ListN.{drop}
+use Rattle.card_cut.proofs.find_sign.Given as goal
+
+abbrev pub invariant-loop-o : goal.invariant-loop-o
+invariant-loop-o l = (l.o ≤ l.n) × (sign_at l.table l.last (drop l.at l.text) ≡ l.o + place (fits l.table l.last (drop l.at l.text)) (up_from l.o (l.n - l.o)))
+
+abbrev pub decreases-loop-o : goal.decreases-loop-o
+decreases-loop-o l = l.n - l.o

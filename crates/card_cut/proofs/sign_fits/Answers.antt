@@ -1,0 +1,44 @@
+use Rattle.card_cut.specs.SignLaws.{sign_part, judged, sign-improper, sign-missing, sign-ends, sign-last}
+use Rattle.text_cut.specs.CutLaws.{word_fits}
+use Rattle.formula.specs.Card.{sign, binding_of}
+use Rattle.formula.specs.Lexer.{starts_with}
+use mathlib.Core.Bool.{true}
+use borrow.Author.Tests.{not-true, not-false}
+use Prim.Native.Nat.{ℕ, ◌≤◌, ◌-◌, ◌+◌}
+use native.Mathlib.Omega.{arith}
+use mathlib.Core.Path.{◌≡◌, ap, sym, ◌∙◌}
+use mathlib.Core.List.{List}
+use lib.ListN.{length, drop}
+use borrow.Author.Rules.{rules}
+use Rattle.card_cut.proofs.sign_fits.Goals as goal
+
+pub returns-then-binds-o-eq0 : goal.returns-then-binds-o-eq0
+returns-then-binds-o-eq0 c = sign-improper c.args.table.now c.args.text.now c.args.at c.args.o c.args.last (sym (judged c.args.table.now c.args.binds.now c.args.o c.requires.0 c.requires.1) ∙ c.if-binds-o-eq0.true)
+
+-- the operation is proper
+judged-proper : (c : goal.Else-binds-o-eq0) → binding_of c.args.table.now c.args.o ≡ 0 → ⊥
+judged-proper c e = c.if-binds-o-eq0.false (judged c.args.table.now c.args.binds.now c.args.o c.requires.0 c.requires.1 ∙ e)
+
+sign-starts : (c : goal.After-starts_with) → c.starts_with.result ≡ starts_with (sign c.args.table.now c.args.o) (drop c.args.at c.args.text.now)
+sign-starts c =
+    let n = c.sign_length-n in
+    c.starts_with.ensures ∙ ap (λ (z : List ℕ). starts_with z (drop c.args.at c.args.text.now)) (sign_part c.args.table.now c.args.o n.result c.requires.1 n.ensures.0 n.ensures.1)
+
+pub returns-then-not-starts_with : goal.returns-then-not-starts_with
+returns-then-not-starts_with c = sign-missing c.args.table.now c.args.text.now c.args.at c.args.o c.args.last (judged-proper c.before.before.before.before) (sym (not-true _ c.if-not-starts_with.true) ∙ sign-starts c.before)
+
+-- the whole of it
+sign-there : (c : goal.Else-not-starts_with) → true ≡ starts_with (sign c.args.table.now c.args.o) (drop c.args.at c.args.text.now)
+sign-there c = sym (not-false _ c.if-not-starts_with.false) ∙ sign-starts c.before
+
+sign-within : (c : goal.Else-not-starts_with) → c.args.at + c.sign_length-n.result ≤ length c.args.text.now
+sign-within c = let a = c.args in omega (arith, word_fits (sign a.table.now a.o) a.text.now a.at (sign-there c) c.requires.2, c.sign_length-n.ensures.0)
+
+pub returns-then-at-n : goal.returns-then-at-n
+returns-then-at-n c = sign-ends c.args.table.now c.args.text.now c.args.at c.args.o c.args.last (judged-proper c.before.before.before.before.before) (sign-there c.before) (omega (arith, c.if-at-n.true, c.sign_length-n.ensures.0))
+
+pub bounds-text-at : goal.bounds-text-at
+bounds-text-at c = omega (arith, sign-within c.before.before, c.if-at-n.false)
+
+pub returns : goal.returns
+returns c = rw c.sign_length-n.ensures.0 (sign-last c.args.table.now c.args.text.now c.args.at c.args.o c.args.last (judged-proper c.before.before.before.before.before.before) (sign-there c.before.before) (omega (arith, sign-within c.before.before, c.if-at-n.false, c.sign_length-n.ensures.0)))

@@ -1,0 +1,11 @@
+use borrow.Author.Rules.{rules}
+use Prim.Native.Nat.{◌-◌}
+use native.Mathlib.Omega.{arith}
+use Rattle.card_judge.specs.JudgeLaws.{Judging, root-length, judging-start, judged-from, judging-turn, judging-stop, judging-end, visit-asks}
+use Rattle.card_judge.proofs.judge.Given as goal
+
+abbrev pub invariant-loop-c : goal.invariant-loop-c
+invariant-loop-c l = Judging l.binds l.terms l.runs l.initial.marks l.root l.marks l.c
+
+abbrev pub decreases-loop-c : goal.decreases-loop-c
+decreases-loop-c l = l.c

@@ -1,0 +1,38 @@
+use Rattle.card_terms.specs.StandLaws.{grows-count}
+use lib.ListN.{replicate}
+use borrow.Author.Tests.{not-true, not-false}
+use Rattle.query.specs.Settings.{limits_of}
+use Rattle.card_syntax.specs.Reading.{formula-read, formula-refused}
+use Rattle.card_reader.specs.CardLaws.{read_none, read-term, read-full}
+use Prim.Native.Nat.{ℕ}
+use native.Mathlib.Omega.{arith}
+use mathlib.Core.Path.{ap, sym, ◌∙◌}
+use borrow.Author.Rules.{rules}
+use Rattle.card_reader.proofs.read_card.Goals as goal
+
+pub returns-then-not-is_formula : goal.returns-then-not-is_formula
+returns-then-not-is_formula c =
+    let a = c.args in
+    (read_none (limits_of a.lim) a.table.now a.text.now a.terms.now a.runs.now c.requires.3 (formula-refused a.table.now a.text.now (sym c.is_formula.ensures.0 ∙ not-true _ c.if-not-is_formula.true)), c.is_formula.ensures.1)
+
+pub enter_terms-r-requires : goal.enter_terms-r-requires
+enter_terms-r-requires c =
+    let a = c.args in
+    (formula-read a.table.now a.text.now (sym c.is_formula.ensures.0 ∙ not-false _ c.if-not-is_formula.false), c.requires.0, omega (arith, c.requires.1, c.is_formula.auto.1.1.1.0), c.requires.2, c.requires.3, c.requires.4)
+
+pub take_back-requires : goal.take_back-requires
+take_back-requires c =
+    let X = c.enter_terms-r.ensures.0 in
+    (X.grows.holds, omega (arith, c.count-n.ensures.0, grows-count X.grows))
+
+pub returns-in-Term : goal.returns-in-Term
+returns-in-Term c =
+    let a = c.args in
+    let i = c.enter_terms-r in
+    (read-term (limits_of a.lim) a.table.now a.text.now a.terms.now a.runs.now c.requires.3 _ _ i.auto.1.1.1.1.1.0 i.auto.1.1.1.1.1.1.0 i.result i.ensures.0 _ c.in-Term.is, i.ensures.1 ∙ ap (λ (n : ℕ). replicate n 0) c.is_formula.auto.1.1.1.0)
+
+pub returns-in-Full : goal.returns-in-Full
+returns-in-Full c =
+    let a = c.args in
+    let i = c.enter_terms-r in
+    (read-full (limits_of a.lim) a.table.now a.text.now a.terms.now a.runs.now c.requires.3 _ _ i.auto.1.1.1.1.1.0 i.auto.1.1.1.1.1.1.0 i.result i.ensures.0 c.in-Full.is c.count-n.result c.count-n.ensures.0 _ _ c.take_back.ensures, i.ensures.1 ∙ ap (λ (n : ℕ). replicate n 0) c.is_formula.auto.1.1.1.0)

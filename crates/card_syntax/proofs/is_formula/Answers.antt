@@ -1,0 +1,8 @@
+use lib.ListN.{replicate, length}
+use Prim.Native.Nat.{ℕ, ◌-◌}
+use mathlib.Core.Path.{◌≡◌, ap, ◌∙◌}
+use borrow.Author.Rules.{rules}
+use Rattle.card_syntax.proofs.is_formula.Goals as goal
+
+pub returns : goal.returns
+returns c = let e : length c.read-r.new.frames ≡ length c.args.frames.now = search rules in (c.read-r.ensures, c.clear_u64.ensures ∙ ap (λ (n : ℕ). replicate n 0) e)

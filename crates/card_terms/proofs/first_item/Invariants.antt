@@ -1,0 +1,10 @@
+use Rattle.card_terms.specs.CloseLaws.{Scanning, scan-start, scan-some, scan-turn, scan-end}
+use borrow.Author.Rules.{rules}
+use native.Mathlib.Omega.{arith}
+use Rattle.card_terms.proofs.first_item.Given as goal
+
+abbrev pub invariant-loop-i : goal.invariant-loop-i
+invariant-loop-i l = Scanning l.frames l.top l.i
+
+abbrev pub decreases-loop-i : goal.decreases-loop-i
+decreases-loop-i l = l.i

@@ -1,0 +1,47 @@
+use mathlib.Core.Bool.{true, false}
+use Rattle.card_terms.specs.Reading.{Waits}
+use Rattle.query.specs.Settings.{limits_of}
+use Rattle.card_terms.specs.ReduceLaws.{Reducing, reducing-start, reducing-end, reducing-full, reducing-turn, reducing-less}
+use borrow.Author.Rules.{rules}
+use native.Mathlib.Omega.{arith}
+use Rattle.card_terms.proofs.reduce.Goals as goal
+
+pub loop-lim-init : goal.loop-lim-init
+loop-lim-init c = let a = c.args in reducing-start (limits_of a.lim) a.table.now a.m a.terms.now a.runs.now a.frames.now a.top c.requires.0 c.requires.1 c.requires.2
+
+pub reduce_once-r-requires : goal.reduce_once-r-requires
+reduce_once-r-requires c =
+    let l = c.loop-lim in
+    let a = c.args in
+    let w : Waits a.table.now a.m l.frames l.n true = rw c.loop-lim-test.true at c.waits.ensures in
+    (l.invariant.stands, w.0, omega (arith, l.invariant.most, c.requires.3))
+
+pub loop-lim-smaller : goal.loop-lim-smaller
+loop-lim-smaller c =
+    let l = c.loop-lim in
+    let a = c.args in
+    let w : Waits a.table.now a.m l.frames l.n true = rw c.loop-lim-test.true at c.waits.ensures in
+    reducing-less (limits_of a.lim) a.table.now a.m a.terms.now a.runs.now a.frames.now a.top l.terms l.runs l.frames l.n l.invariant w _ _ _ c.reduce_once-r.result _ c.in-Top.is c.reduce_once-r.ensures
+
+pub loop-lim-preserved : goal.loop-lim-preserved
+loop-lim-preserved c =
+    let l = c.loop-lim in
+    let a = c.args in
+    let i = c.reduce_once-r in
+    let w : Waits a.table.now a.m l.frames l.n true = rw c.loop-lim-test.true at c.waits.ensures in
+    reducing-turn (limits_of a.lim) a.table.now a.m a.terms.now a.runs.now a.frames.now a.top l.terms l.runs l.frames l.n l.invariant w _ _ _ i.result _ c.in-Top.is i.ensures i.auto.1.1.1.0 i.auto.1.1.1.1.0 i.auto.1.0
+
+pub returns-in-Full : goal.returns-in-Full
+returns-in-Full c =
+    let l = c.loop-lim in
+    let a = c.args in
+    let i = c.reduce_once-r in
+    let w : Waits a.table.now a.m l.frames l.n true = rw c.loop-lim-test.true at c.waits.ensures in
+    reducing-full (limits_of a.lim) a.table.now a.m a.terms.now a.runs.now a.frames.now a.top l.terms l.runs l.frames l.n l.invariant w _ _ _ i.result c.in-Full.is i.ensures
+
+pub returns : goal.returns
+returns c =
+    let l = c.loop-lim in
+    let a = c.args in
+    let w : Waits a.table.now a.m l.frames l.n false = rw c.loop-lim-test.false at c.waits.ensures in
+    reducing-end (limits_of a.lim) a.table.now a.m a.terms.now a.runs.now a.frames.now a.top l.terms l.runs l.frames l.n l.invariant w

@@ -1,0 +1,14 @@
+use borrow.Author.Rules.{rules}
+use Prim.Native.Nat.{◌≤◌, ◌-◌}
+use native.Mathlib.Omega.{arith}
+use mathlib.Core.Path.{◌≡◌, refl}
+use lib.ListN.{length, length-set}
+use lib.Seq.{paste, paste-zero}
+use Rattle.card_text.specs.CopyLaws.{bytes_at, again-turn, again-end}
+use Rattle.card_text.proofs.write_again.Given as goal
+
+abbrev pub invariant-loop-i : goal.invariant-loop-i
+invariant-loop-i l = (l.i ≤ l.to - l.from) × (length l.out ≡ length l.initial.out) × (l.out ≡ paste l.initial.out l.at (bytes_at l.initial.out l.from l.to) l.i)
+
+abbrev pub decreases-loop-i : goal.decreases-loop-i
+decreases-loop-i l = l.to - l.from - l.i

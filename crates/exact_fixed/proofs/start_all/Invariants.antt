@@ -1,0 +1,26 @@
+use Rattle.exact_fixed.specs.Starting.{Starting, starting-none, start-cut, start-full, start-more}
+use Rattle.best_terms.specs.Starting.{kept-none}
+use Rattle.rounds.specs.Graphs.{pair-at, pair-ranged}
+use Rattle.budget.specs.Spending.{expired, spent}
+use Rattle.best_terms.specs.Bests.{Kept}
+use Rattle.terms.specs.Buffers.{pool_of}
+use Rattle.image.specs.Loaded.{classes-many}
+use Rattle.arrays.specs.ArrayLaws.{unkeyed-length}
+use Rattle.arrays.specs.Arrays.{pairs_in}
+use Rattle.query.specs.Settings.{limits_of}
+use Rattle.spec.specs.Run.{starting_terms}
+use Rattle.spec.specs.Image.{tables_of}
+use borrow.Author.Rules.{rules}
+use Prim.Native.Nat.{◌≤◌, ◌-◌, ◌*◌}
+use native.Mathlib.Omega.{arith}
+use mathlib.Core.Path.{◌≡◌, refl}
+use lib.ListN.{length}
+use Rattle.exact_fixed.proofs.start_all.Given as goal
+
+abbrev pub invariant-loop-k : goal.invariant-loop-k
+invariant-loop-k l =
+    (l.k ≤ l.n) × (6 * l.n ≤ length l.initial.pairs) × (length l.pairs ≡ length l.initial.pairs) × (length l.terms ≡ length l.initial.terms) × (length l.runs ≡ length l.initial.runs) × (length l.best ≡ 256) × Kept (limits_of l.lim) (tables_of l.s) (pool_of l.terms l.runs) l.best
+    × Starting (limits_of l.lim) (tables_of l.s) (pairs_in l.im.classes l.graph l.n) (starting_terms (limits_of l.lim) (tables_of l.s) (pairs_in l.im.classes l.graph l.n) l.initial.bud.left (pool_of l.initial.terms l.initial.runs)) (pool_of l.initial.terms l.initial.runs) l.pairs l.terms l.runs l.k l.bud.left
+
+abbrev pub decreases-loop-k : goal.decreases-loop-k
+decreases-loop-k l = l.n - l.k

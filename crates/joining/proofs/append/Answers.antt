@@ -1,0 +1,31 @@
+use Rattle.joining.specs.JoinLaws.{append-none, append-same, append-other, append-fits}
+use borrow.Author.Tests.{lt-ltb, le-ltb, le-leb, lt-leb, eq-eqb, ne_eqb}
+use Prim.Native.Nat.{ℕ, zero, suc, ◌≤◌, ◌<◌, ◌-◌, ◌+◌, ◌*◌, ◌^◌}
+use native.Mathlib.Omega.{arith}
+use native.Mathlib.Numerals.{add-one}
+use mathlib.Core.Path.{◌≡◌, refl, ap, sym, ◌∙◌}
+use mathlib.Core.Logic.{⊎_elim}
+use mathlib.Core.List.{List, [], ◌∷◌, ◌++◌, append-nil}
+use lib.ListN.{length, take, drop, get_or, set, length-set, length-take, length-drop, length-append, drop_of_length-le}
+use borrow.Author.Rules.{rules}
+use Rattle.joining.proofs.append.Goals as goal
+
+pub returns-then-m-eq0 : goal.returns-then-m-eq0
+returns-then-m-eq0 c =
+    let a = c.args in
+    rw (c.put_u64.ensures, c.if-m-eq0.true) (append-none a.list.now a.x (omega (arith, c.requires.0)))
+
+pub overflow_add-y : goal.overflow_add-y
+overflow_add-y c =
+    let a = c.args in
+    omega (arith, append-fits a.list.now a.x a.m (omega (arith, c.if-m-eq0.false)) c.requires.1)
+
+pub returns-then-y-x : goal.returns-then-y-x
+returns-then-y-x c =
+    let a = c.args in
+    rw c.put_u64-then-y-x.ensures (append-same a.list.now a.x a.m (omega (arith, c.if-m-eq0.false)) (omega (arith, c.requires.0)) c.if-y-x.true)
+
+pub returns : goal.returns
+returns c =
+    let a = c.args in
+    rw c.put_u64-2.ensures (append-other a.list.now a.x a.m (omega (arith, c.if-m-eq0.false)) c.requires.0 c.if-y-x.false)

@@ -1,0 +1,9 @@
+use Rattle.spec.specs.Image.{Member}
+use Rattle.image.specs.Entry.{member_is}
+use mathlib.Core.Path.{ap, sym, ◌∙◌}
+use borrow.Author.Rules.{rules}
+use Rattle.members.proofs.member_value.Goals as goal
+
+pub returns : goal.returns
+returns c =
+    (c.be4.ensures.0 ∙ sym (ap (λ (x : Member). x.value) (member_is c.args.s.now c.args.im c.requires.0 c.args.m c.requires.1)), c.be4.ensures.1)

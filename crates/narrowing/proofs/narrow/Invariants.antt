@@ -1,0 +1,11 @@
+use Rattle.narrowing.proofs.Scan.{Upto, upto-more, fails-here, fits-buffer, fits_all}
+use borrow.Author.Rules.{rules}
+use Prim.Native.Nat.{◌-◌}
+use native.Mathlib.Omega.{arith}
+use Rattle.narrowing.proofs.narrow.Given as goal
+
+abbrev pub invariant-loop-i : goal.invariant-loop-i
+invariant-loop-i l = Upto l.mono l.n l.i
+
+abbrev pub decreases-loop-i : goal.decreases-loop-i
+decreases-loop-i l = l.n - l.i

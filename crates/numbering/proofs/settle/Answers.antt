@@ -1,0 +1,6 @@
+use mathlib.Core.Path.{refl}
+use borrow.Author.Rules.{rules}
+use Rattle.numbering.proofs.settle.Goals as goal
+
+pub returns : goal.returns
+returns c = rw (c.put_u16-2.ensures, c.put_u16.ensures) refl

@@ -1,0 +1,9 @@
+use Rattle.spec.specs.Image.{Operation}
+use Rattle.image.specs.Entry.{operation-is}
+use mathlib.Core.Path.{ap, sym, ◌∙◌}
+use borrow.Author.Rules.{rules}
+use Rattle.operations.proofs.identity.Goals as goal
+
+pub returns : goal.returns
+returns c =
+    (c.be2.ensures.0 ∙ sym (ap (λ (x : Operation). x.identity) (operation-is c.args.s.now c.args.im c.requires.0 c.args.o c.requires.1)), c.be2.ensures.1)

@@ -1,0 +1,5 @@
+use borrow.Author.Rules.{rules}
+use Rattle.pair_table.proofs.room.Goals as goal
+
+pub returns : goal.returns
+returns c = c.least.ensures

@@ -1,0 +1,17 @@
+use Rattle.spec.specs.Action.{cell_pairs}
+use Rattle.arrays.specs.Arrays.{quality_in}
+use Rattle.cells.specs.Cells.{sides_of, cells-few}
+use Rattle.cells.specs.Problem.{problem_at, problem-many, problem-at}
+use Rattle.plan_offer.specs.Sums.{Summed, summed-none, summed-more, summed-all}
+use borrow.Author.Rules.{rules}
+use Prim.Native.Nat.{◌≤◌, ◌-◌}
+use native.Mathlib.Omega.{arith}
+use mathlib.Core.Path.{refl, sym, ◌∙◌}
+use lib.ListN.{length, get_or}
+use Rattle.plan_offer.proofs.plan_totals.Given as goal
+
+abbrev pub invariant-loop-k : goal.invariant-loop-k
+invariant-loop-k l = (l.k ≤ length l.x) × Summed (problem_at (quality_in l.w l.graph l.pairs) (sides_of l.left l.rows l.right l.cols)).cells l.x l.k l.t
+
+abbrev pub decreases-loop-k : goal.decreases-loop-k
+decreases-loop-k l = length l.x - l.k

@@ -1,0 +1,15 @@
+use Rattle.search_laws.specs.Laws.{column-start, column-first, column-next, column-cell, column-turn, column-end}
+use Rattle.wide.specs.declared.Wide.{Wide}
+use borrow.Author.Rules.{rules}
+use Prim.Native.Nat.{ℕ, ◌≤◌, ◌-◌, ◌+◌, ◌*◌}
+use native.Mathlib.Omega.{arith}
+use mathlib.Core.Path.{◌≡◌, ap, sym, ◌∙◌}
+use mathlib.Core.List.{List}
+use Rattle.search_laws.specs.Edges.{against_column}
+use Rattle.search.proofs.against_column.Given as goal
+
+abbrev pub invariant-loop-i : goal.invariant-loop-i
+invariant-loop-i l = (l.i ≤ l.n) × (l.at ≡ l.k + l.i * l.c) × (against_column l.costs l.flow l.c l.u l.d (l.n - l.i) l.at (l.v + l.i) l.net ≡ against_column l.costs l.flow l.c l.u l.d l.n l.k l.v l.initial.net)
+
+abbrev pub decreases-loop-i : goal.decreases-loop-i
+decreases-loop-i l = l.n - l.i

@@ -1,0 +1,15 @@
+use Rattle.search_laws.specs.SearchLoop.{Searching, begins, turn, ends, not-reached, reached, Ran, ran-start, ran-turn, ran-end, searched-net, unseen-sink, seen-sink}
+use Rattle.search_laws.specs.Fits.{none_left}
+use Rattle.search_laws.specs.Holds.{Ready}
+use borrow.Author.Rules.{rules}
+use Prim.Native.Nat.{◌-◌, ◌+◌}
+use mathlib.Core.Path.{◌≡◌, ◌∙◌}
+use Rattle.net.specs.Net.{first_of, left}
+use Rattle.search_laws.specs.Edges.{visited, measure}
+use Rattle.search.proofs.search.Given as goal
+
+abbrev pub invariant-loop-net : goal.invariant-loop-net
+invariant-loop-net l = ((R : Ready l.r l.c l.costs l.flow l.left) → Searching R l.net) × Ran l.costs l.flow l.left l.r l.c l.initial.net l.net
+
+abbrev pub decreases-loop-net : goal.decreases-loop-net
+decreases-loop-net l = measure l.r l.c l.net

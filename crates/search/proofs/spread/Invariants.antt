@@ -1,0 +1,15 @@
+use Rattle.search_laws.specs.Laws.{spread-start, spread-turn, spread_end}
+use Rattle.wide.specs.declared.Wide.{Wide}
+use borrow.Author.Rules.{rules}
+use Prim.Native.Nat.{ℕ, ◌≤◌, ◌-◌, ◌+◌}
+use native.Mathlib.Omega.{arith}
+use mathlib.Core.Path.{◌≡◌, ap, sym, ◌∙◌}
+use mathlib.Core.List.{List}
+use Rattle.search_laws.specs.Edges.{spread_to}
+use Rattle.search.proofs.spread.Given as goal
+
+abbrev pub invariant-loop-i : goal.invariant-loop-i
+invariant-loop-i l = (l.i ≤ l.n) × (spread_to l.left l.u l.d (l.n - l.i) (l.k + l.i) (l.v + l.i) l.net ≡ spread_to l.left l.u l.d l.n l.k l.v l.initial.net)
+
+abbrev pub decreases-loop-i : goal.decreases-loop-i
+decreases-loop-i l = l.n - l.i

@@ -1,0 +1,16 @@
+use Rattle.search_laws.specs.PathLaws.{step-here, steps_next, sent-turn, sent-end, sent-more, room_next, room-here, room-first}
+use Rattle.search_laws.specs.Walk.{here, LAST}
+use Rattle.search_laws.specs.Path.{Steps, sent}
+use borrow.Author.Rules.{rules}
+use Prim.Native.Nat.{ℕ, ◌≤◌, ◌<◌, ◌-◌, ◌+◌, ◌*◌, ◌^◌}
+use native.Mathlib.Omega.{arith}
+use mathlib.Core.Path.{◌≡◌, refl, ap, sym, ◌∙◌}
+use mathlib.Core.List.{List}
+use lib.ListN.{length, get_or}
+use Rattle.sending.proofs.send.Given as goal
+
+abbrev pub invariant-loop-a : goal.invariant-loop-a
+invariant-loop-a l = (l.a ≤ LAST) × (length l.flow ≡ length l.initial.flow) × Steps l.r l.c (here l.path l.a) × ((k : ℕ) → k < l.r * l.c → get_or l.flow k 0 + (LAST - l.a) * l.n < 2 ^ 64) × (sent l.r l.c l.n (here l.path l.a) l.flow ≡ sent l.r l.c l.n (here l.path l.from) l.initial.flow)
+
+abbrev pub decreases-loop-a : goal.decreases-loop-a
+decreases-loop-a l = LAST - l.a

@@ -1,0 +1,14 @@
+use Rattle.sign_judge.specs.SignTests.{bindings-length, bindings-at, bindings-whole}
+use Rattle.laws.specs.Buffers.{Filled, filled_more, filled-all}
+use Rattle.formula.specs.Card.{bindings}
+use borrow.Author.Rules.{rules}
+use Prim.Native.Nat.{◌≤◌, ◌-◌}
+use native.Mathlib.Omega.{arith}
+use mathlib.Core.Path.{sym, ◌∙◌}
+use Rattle.sign_judge.proofs.judge.Given as goal
+
+abbrev pub invariant-loop-o : goal.invariant-loop-o
+invariant-loop-o l = (l.o ≤ 64) × Filled (bindings l.table) l.initial.binds l.o l.binds
+
+abbrev pub decreases-loop-o : goal.decreases-loop-o
+decreases-loop-o l = 64 - l.o

@@ -1,0 +1,32 @@
+use Rattle.image.specs.Loaded.{members-many}
+use Rattle.laws.specs.AcceptedTurns.{all_go, all-stop, all_end, failed, passed}
+use Rattle.spec.specs.Bytes.{all}
+use Rattle.spec.specs.Image.{member_right, tables_of}
+use borrow.Author.Rules.{rules}
+use Prim.Native.Nat.{◌≤◌, ◌-◌}
+use native.Mathlib.Omega.{arith}
+use mathlib.Core.Path.{◌≡◌, refl, sym, ◌∙◌}
+use lib.ListN.{drop}
+use Rattle.span_rules.proofs.members_right.Goals as goal
+
+pub loop-m-init : goal.loop-m-init
+loop-m-init c = (omega arith, refl)
+
+pub returns-then-not-member_right : goal.returns-then-not-member_right
+returns-then-not-member_right c =
+    let s = c.args.s.now in
+    sym (c.loop-m.invariant.1
+    ∙ all-stop (member_right (tables_of s)) (tables_of s).members c.loop-m.m _ (omega (arith, members-many s c.args.im c.requires)) (failed c.member_right.ensures c.if-not-member_right.true))
+
+pub loop-m-preserved : goal.loop-m-preserved
+loop-m-preserved c =
+    let s = c.args.s.now in (
+      omega arith,
+      c.loop-m.invariant.1
+          ∙ sym (all_go (member_right (tables_of s)) (tables_of s).members c.loop-m.m _ (omega (arith, members-many s c.args.im c.requires)) (passed c.member_right.ensures c.if-not-member_right.false)),
+    )
+
+pub returns : goal.returns
+returns c =
+    let s = c.args.s.now in
+    sym (c.loop-m.invariant.1 ∙ all_end (member_right (tables_of s)) (tables_of s).members c.loop-m.m (omega (arith, members-many s c.args.im c.requires)))

@@ -1,0 +1,16 @@
+use borrow.Author.Rules.{rules}
+use Prim.Native.Nat.{◌-◌}
+use native.Mathlib.Omega.{arith}
+use mathlib.Core.Path.{◌∙◌}
+use lib.ListN.{length}
+use Rattle.query.specs.Settings.{limits_of}
+use Rattle.term_lines.specs.Loading.{AddsLine}
+use Rattle.term_lines.specs.LoadLaws.{Loading, loading-start, loading-turn, loading-broken, loading-full, loading-none, loading-end}
+use Rattle.term_lines.specs.declared.Added.TheVariants as A
+use Rattle.term_lines.proofs.add_lines.Given as goal
+
+abbrev pub invariant-loop-at : goal.invariant-loop-at
+invariant-loop-at l = Loading (limits_of l.lim) l.text l.initial.list l.initial.terms l.initial.runs l.list l.terms l.runs l.at
+
+abbrev pub decreases-loop-at : goal.decreases-loop-at
+decreases-loop-at l = length l.text - l.at

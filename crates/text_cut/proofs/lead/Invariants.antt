@@ -1,0 +1,14 @@
+use borrow.Author.Rules.{rules}
+use Prim.Native.Nat.{◌≤◌, ◌-◌, ◌+◌, ◌*◌}
+use native.Mathlib.Omega.{arith}
+use mathlib.Core.Path.{◌≡◌, refl, sym, ◌∙◌}
+use lib.ListN.{length, drop}
+use Rattle.formula.specs.Lexer.{lead}
+use Rattle.text_cut.specs.CutLaws.{lead-below, lead-above, lead-turn, lead-end, lead-grows}
+use Rattle.text_cut.proofs.lead.Given as goal
+
+abbrev pub invariant-loop-i : goal.invariant-loop-i
+invariant-loop-i l = (l.i ≤ length l.text) × (l.v ≤ l.most) × (lead l.v (drop l.i l.text) ≡ lead 0 (drop l.at l.text))
+
+abbrev pub decreases-loop-i : goal.decreases-loop-i
+decreases-loop-i l = length l.text - l.i

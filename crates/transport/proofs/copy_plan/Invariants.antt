@@ -1,0 +1,13 @@
+use Rattle.transport.proofs.Answers.{Copied, copied_next, copied-end}
+use borrow.Author.Rules.{rules}
+use Prim.Native.Nat.{◌≤◌, ◌-◌}
+use native.Mathlib.Omega.{arith}
+use mathlib.Core.Path.{◌≡◌, refl}
+use lib.ListN.{length, length-set}
+use Rattle.transport.proofs.copy_plan.Given as goal
+
+abbrev pub invariant-loop-k : goal.invariant-loop-k
+invariant-loop-k l = (l.k ≤ length l.plan) × (length l.plan ≡ length l.initial.plan) × Copied l.flow l.plan l.k
+
+abbrev pub decreases-loop-k : goal.decreases-loop-k
+decreases-loop-k l = length l.initial.plan - l.k

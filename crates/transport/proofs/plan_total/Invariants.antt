@@ -1,0 +1,13 @@
+use Rattle.transport.proofs.Totals.{product-fits, Summed, summed-start, summed_turn, summed-end, next-lt}
+use borrow.Author.Rules.{rules}
+use Prim.Native.Nat.{◌≤◌, ◌-◌, ◌*◌}
+use native.Mathlib.Omega.{arith}
+use mathlib.Core.Path.{◌∙◌}
+use lib.ListN.{length}
+use Rattle.transport.proofs.plan_total.Given as goal
+
+abbrev pub invariant-loop-i : goal.invariant-loop-i
+invariant-loop-i l = (l.i ≤ length l.plan) × Summed l.plan l.per l.allowed (length l.plan) l.i l.t
+
+abbrev pub decreases-loop-i : goal.decreases-loop-i
+decreases-loop-i l = length l.plan - l.i

@@ -1,0 +1,18 @@
+use Rattle.spec.specs.Image.{tables_of}
+use Rattle.query.specs.Settings.{limits_of}
+use Rattle.image.specs.Loaded.{operations-many, classes-many}
+use Rattle.arrays.specs.Arrays.{quality_in, term_in}
+use Rattle.offers.specs.Offers.{work_of}
+use Rattle.turns.specs.TurnLaws.{scratch-kept}
+use Rattle.turns.specs.Walking.{Walking, walk_left, all-fitting, walking-first, walking-end, walking-within, walking-sound, walking-next, walking-less}
+use borrow.Author.Rules.{rules}
+use native.Mathlib.Omega.{arith}
+use mathlib.Core.Path.{◌≡◌, refl, sym}
+use lib.ListN.{length}
+use Rattle.turns.proofs.offer_transports.Given as goal
+
+abbrev pub invariant-loop-x : goal.invariant-loop-x
+invariant-loop-x l = Walking l.lim.pairs (tables_of l.s) (quality_in l.im.classes l.graph l.pairs) (term_in l.im.classes l.graph l.pairs) l.l l.r (work_of l.initial.work l.initial.flow l.initial.best) l.x (work_of l.work l.flow l.best) × (length l.work ≡ length l.initial.work) × (length l.flow ≡ length l.initial.flow)
+
+abbrev pub decreases-loop-x : goal.decreases-loop-x
+decreases-loop-x l = walk_left (tables_of l.s) l.l l.r l.x
