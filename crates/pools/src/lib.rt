@@ -1,4 +1,2 @@
-#![tactic(auto)]
-
 // pools of terms, and the order of terms: see specs/
 #![tactic(auto)]
