@@ -77,4 +77,4 @@ lines_of p a = each (term_line p (subterms p a)) (subterms p a)
 
 unfoldable pub listing_of : ℕ → Outcome → List ℕ
 unfolding each first_line term_line visit_term
-listing_of skipped o = first_line skipped o ++ lines_of o.pool o.root
+listing_of skipped o = first_line skipped o ++ each (term_line o.pool (subterms o.pool o.root)) (subterms o.pool o.root)

@@ -1,5 +1,5 @@
 use Rattle.decimals.specs.WriteLaws.{wrote-front}
-use Rattle.listing.specs.ListLaws.{lists-behind}
+use Rattle.listing.specs.BehindLaws.{lists-behind}
 use Prim.Native.Nat.{◌-◌}
 use native.Mathlib.Omega.{arith}
 use mathlib.Core.Path.{◌≡◌, ap, ◌∙◌}

@@ -1,5 +1,5 @@
 use Rattle.widths.specs.LineLaws.{ready}
-use Rattle.listing.specs.ListLaws.{behind-full, lines-room, behind-bytes}
+use Rattle.listing.specs.BehindLaws.{behind-full, lines-room, behind-bytes}
 use native.Mathlib.Omega.{arith}
 use borrow.Author.Rules.{rules}
 use Rattle.listing.proofs.list_behind.Goals as goal
