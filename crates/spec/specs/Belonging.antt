@@ -148,12 +148,12 @@ clash e = let y : ◌≡◌ {A = ℕ} 0 1 = cc in omega arith
 clash' : true ≡ false → ⊥
 clash' e = let y : ◌≡◌ {A = ℕ} 0 1 = cc in omega arith
 
+not-seven : {n : Member} → In n (member_of 0 5 0 0 ∷ []) → 7 ≡ n.value → ⊥
+not-seven here e = absurd (omega arith)
+not-seven (there j) e = in-nil j
+
 no-other-literal : Belongs D (lit 0 7) 0 → ⊥
-no-other-literal (literal m i k o v) = go i v
-  where
-    go : {n : Member} → In n (member_of 0 5 0 0 ∷ []) → 7 ≡ n.value → ⊥
-    go here e = absurd (omega arith)
-    go (there j) e = in-nil j
+no-other-literal (literal m i k o v) = not-seven i v
 
 no-literal-of-another-operation : Belongs D (lit 3 5) 0 → ⊥
 no-literal-of-another-operation (literal m i k o v) = go i o
@@ -174,7 +174,7 @@ unfolding expand
 no-other-order (ordered m i o k z b) = go i b
   where
     go : {n : Member} → In n (member_of 1 0 0 2 ∷ []) → AllBelong D (lit 0 7 ∷ lit 0 5 ∷ []) (classes (children_of D n)) → ⊥
-    go here (and_then x y) = no-other-literal x
+    go here (and_then (literal m i k o v) y) = not-seven i v
     go (there j) y = in-nil j
 no-other-order (unordered l cs s k b p) = clash k
 
@@ -183,7 +183,7 @@ unfolding expand
 no-other-class (ordered m i o k z b) = go i b
   where
     go : {n : Member} → In n (member_of 1 0 2 2 ∷ []) → AllBelong D (lit 0 5 ∷ lit 0 7 ∷ []) (classes (children_of D n)) → ⊥
-    go here (and_then x (and_then y z)) = no-other-literal y
+    go here (and_then x (and_then (literal m i k o v) z)) = not-seven i v
     go (there j) y = in-nil j
 no-other-class (unordered l cs s k b p) = clash k
 
