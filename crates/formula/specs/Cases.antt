@@ -1,9 +1,9 @@
 -- Paper 1 by evaluation: its example, and every edge that it names.
 use Rattle.std.specs.Prelude.{◌≡◌, refl, List, [], ◌∷◌, ◌++◌, ℕ, ◌-◌, length, replicate, take}
 use Prim.Native.String.{String}
-use Rattle.spec.specs.Bytes.{text, Two, Limits, Res, ok, refused}
-use Rattle.spec.specs.Pool.{Pool, Node, OP, LIT, VARIANTS, Interned, interned, op_node, lit_node, variants_node, join_runs}
-use Rattle.formula.specs.Card.{Tree, lit, two, many, marked, Trees, none, also, spell, write}
+use Rattle.spec.specs.Bytes.{text, Limits, Res, ok, refused}
+use Rattle.spec.specs.Pool.{Pool, interned, op_node, lit_node, variants_node, join_runs}
+use Rattle.formula.specs.Card.{Tree, lit, two, many, none, also, spell, write}
 use Rattle.formula.specs.Lexer.{read_text, read_card, write_card}
 
 -- "a term beyond 16,384 or a run beyond 65,536"

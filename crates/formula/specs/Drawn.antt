@@ -1,8 +1,7 @@
 -- Drawn terms and texts, by evaluation: written, read with further brackets, and read after a small change; the answers are an independent program's.
-use Rattle.std.specs.Prelude.{◌≡◌, refl, List, [], ◌∷◌, ◌++◌, ℕ}
-use Prim.Native.String.{String}
-use Rattle.spec.specs.Bytes.{text, Res, ok, refused}
-use Rattle.formula.specs.Card.{Tree, lit, two, many, marked, Trees, none, also, spell, write}
+use Rattle.std.specs.Prelude.{◌≡◌, refl, List, ◌∷◌, ◌++◌, ℕ}
+use Rattle.spec.specs.Bytes.{text, ok, refused}
+use Rattle.formula.specs.Card.{lit, two, many, marked, none, also, spell, write}
 use Rattle.formula.specs.Lexer.{read_text}
 use Rattle.formula.specs.Cases.{entry}
 

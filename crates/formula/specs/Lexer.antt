@@ -1,5 +1,5 @@
 -- Paper 1: a text cut into its marks, and the whole of writing and reading.
-use Rattle.std.specs.Prelude.{◌≡◌, Bool, true, false, List, [], ◌∷◌, ◌++◌, ℕ, zero, suc, ◌+◌, ◌*◌, ◌-◌, leb, eqb, length, drop}
+use Rattle.std.specs.Prelude.{Bool, true, false, List, [], ◌∷◌, ℕ, zero, suc, ◌+◌, ◌*◌, ◌-◌, leb, eqb, length, drop}
 use Rattle.spec.specs.Bytes.{pick, both, either, all, place, up_from, within, digits, decimal, Limits, Res, ok, refused, rule, ◌>>=◌, Two}
 use Rattle.spec.specs.Pool.{Pool, Node, VARIANTS, Interned, intern, op_node, lit_node, join_runs, Children}
 use Rattle.spec.specs.Meaning as Meaning

@@ -1,7 +1,7 @@
 -- The lines of a listing behind its first line, read: a term for each line, over the lines before it. What `card` writes a card of, and what `read_card` gives back.
-use Rattle.std.specs.Prelude.{Bool, true, false, List, [], ◌∷◌, ℕ, zero, suc, ◌-◌, ltb, leb, eqb, length, drop}
+use Rattle.std.specs.Prelude.{true, false, List, [], ◌∷◌, ℕ, zero, suc, ◌-◌, ltb, leb, eqb, length, drop}
 use Rattle.spec.specs.Bytes.{pick, both, each, sum, Two, text, decimal, digits, Limits, Res, ok, refused, rule, ◌>>=◌}
-use Rattle.spec.specs.Pool.{Pool, Node, OP, LIT, VARIANTS, RUNS, expanded_length, Interned, intern}
+use Rattle.spec.specs.Pool.{Pool, Node, OP, LIT, VARIANTS, RUNS, expanded_length, intern}
 use Rattle.spec.specs.Listing.{term_line, visit_term, lines_of}
 use Rattle.formula.specs.Lexer.{lead, starts_with, is_nil, write_card, read_card}
 

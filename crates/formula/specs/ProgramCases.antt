@@ -1,9 +1,7 @@
 -- Programs `card` and `read_card` by evaluation: image E (document 01) with a table, and every way to break the frame.
 use Rattle.std.specs.Prelude.{◌≡◌, refl, List, [], ◌∷◌, ◌++◌, ℕ, ◌/◌, ◌%◌, length, replicate, take}
-use Prim.Native.String.{String}
-use Rattle.spec.specs.Bytes.{text, place}
+use Rattle.spec.specs.Bytes.{text}
 use Rattle.spec.specs.Asked.{hex}
-use Rattle.spec.specs.Merge.{merge_of}
 use Rattle.formula.specs.Cases.{entry}
 use Rattle.formula.specs.Programs.{card_program, card_by_lines, card_to, lines_program, unended}
 

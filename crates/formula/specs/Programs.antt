@@ -1,6 +1,6 @@
 -- Programs `card` and `read_card`: from the bytes of their input to the bytes that they write; and the card of a merge.
 use Rattle.std.specs.Prelude.{Bool, true, List, [], ◌∷◌, ◌++◌, ℕ, suc, ◌+◌, ltb, leb, eqb, length, take, drop}
-use Rattle.spec.specs.Bytes.{pick, both, be2, be4, place, Limits, Res, ok, refused, ◌>>=◌, rule}
+use Rattle.spec.specs.Bytes.{pick, both, be2, be4, place, Limits, Res, ok, ◌>>=◌, rule}
 use Rattle.spec.specs.Image.{image_of}
 use Rattle.spec.specs.Transport.{plan_size, plan_mass}
 use Rattle.spec.specs.Action.{joins}

@@ -1,5 +1,5 @@
 -- Paper 1, "read it back by precedence": marks from the left, over a stack of what is not finished.
-use Rattle.std.specs.Prelude.{Bool, true, false, List, [], ◌∷◌, ◌++◌, ℕ, leb, eqb}
+use Rattle.std.specs.Prelude.{true, false, List, [], ◌∷◌, ℕ, leb, eqb}
 use Rattle.spec.specs.Bytes.{pick, Res, ok, refused}
 use Rattle.formula.specs.Card.{Tree, lit, two, many, marked, Trees, none, also, count, branches, Mark, literal, between, list, next, close, opens, shuts, begin, or, end, prec_of, left_level}
 
