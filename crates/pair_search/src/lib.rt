@@ -1,5 +1,6 @@
 // Pair records, and the search among them from the start. What decides is on values; the functions that hold the slice only index, call and loop.
 #![tactic(auto)]
+
 ghost use Rattle.std.specs.Prelude.{◌≡◌, min, ◌-◌, ◌≤◌, length};
 ghost use Rattle.spec.specs.Bytes.{either, same_two};
 ghost use Rattle.pair_search.specs.Records.{two_of, find_of};

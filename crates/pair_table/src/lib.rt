@@ -1,5 +1,6 @@
 // The pair table: "a lent slice of records, searched from its start": a pair looked up or entered, and the table cleared.
 #![tactic(auto)]
+
 ghost use Rattle.std.specs.Prelude.{◌≡◌, true, min, length};
 ghost use Rattle.spec.specs.Bytes.{work_after};
 ghost use Rattle.spec.specs.Graph.{PAIRS};

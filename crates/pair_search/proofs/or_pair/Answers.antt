@@ -1,4 +1,3 @@
-use borrow.Author.Rules.{rules}
 use Rattle.pair_search.specs.Lists.{or-either}
 use Rattle.pair_search.proofs.or_pair.Goals as goal
 

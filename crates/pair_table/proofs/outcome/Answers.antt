@@ -1,4 +1,3 @@
-use borrow.Author.Rules.{rules}
 use Rattle.pair_table.specs.Enter.{outcome-at, outcome-new, outcome-full}
 use Rattle.pair_table.proofs.outcome.Goals as goal
 

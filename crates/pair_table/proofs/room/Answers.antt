@@ -1,4 +1,3 @@
-use borrow.Author.Rules.{rules}
 use Rattle.pair_table.proofs.room.Goals as goal
 
 pub returns : goal.returns
