@@ -1,14 +1,13 @@
 // Program `merge`: reads an image and a query from standard input, and writes the listing or `refused` and its number.
 #![tactic(auto)]
-use libc::{STDIN_FILENO, STDOUT_FILENO};
 
-fn emit(s: &[u8], k: usize) {
-    if k <= s.len() {
-        io::write_all(STDOUT_FILENO, &s[0..k]);
-    }
+use std::io;
+
+fn emit(rt: &impl Print, s: &[u8], k: usize) -> io::Result<()> {
+    streams::write_front(&mut io::writer(rt), s, k)
 }
 
-fn main() {
+fn main(rt: HostRuntime) -> io::Result<()> {
     let mut input = [0u8; 65537];
     let mut graph = [0u16; 4352];
     let mut pairs = [0u32; 1536];
@@ -17,7 +16,7 @@ fn main() {
     let mut terms = [0u32; 3074];
     let mut runs = [0u64; 1024];
     let mut out = [0u8; 65536];
-    let n = io::read_full(STDIN_FILENO, &mut input);
+    let n = streams::read_full(&mut rt.reader(), &mut input)?;
     let k = answer::respond(
         &input[..n],
         &mut graph,
@@ -28,5 +27,5 @@ fn main() {
         &mut runs,
         &mut out,
     );
-    emit(&out, k);
+    emit(&rt, &out, k)
 }

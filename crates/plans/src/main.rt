@@ -1,10 +1,11 @@
 // Reads transport problems from standard input, a line each, as `supply 2 1 demand 1 2 cells 1,0 2,2 - 2,2` (cells row by row as size,mass, or `-` where forbidden).
 // Writes a line for each: `size 5 mass 4 plan 1 1 0 1`, `refused` and its number, or `unreadable`.
 #![tactic(auto)]
+
 ghost use Rattle.std.specs.Prelude.{◌+◌, ◌≤◌, ◌<◌, length};
 
 use cost_matrix::{CELLS, COSTS};
-use libc::{STDIN_FILENO, STDOUT_FILENO};
+use std::io;
 use transport::{Answer, Quality, solve_transport};
 use wide::Wide;
 
@@ -454,17 +455,15 @@ fn answer(line: &[u8], out: &mut [u8]) -> usize {
     answer_cells(line, r.next, &supply[0..rows], &demand[0..columns], out)
 }
 
-fn emit(s: &[u8], n: usize) {
-    if n <= s.len() {
-        io::write_all(STDOUT_FILENO, &s[0..n]);
-    }
+fn emit(rt: &impl Print, s: &[u8], n: usize) -> io::Result<()> {
+    streams::write_front(&mut io::writer(rt), s, n)
 }
 
-fn say(line: &[u8]) {
+fn say(rt: &impl Print, line: &[u8]) -> io::Result<()> {
     let mut out = [0u8; 65536];
     let n = answer(line, &mut out);
     let m = push(&mut out, n, 10);
-    emit(&out, m);
+    emit(rt, &out, m)
 }
 
 // The place of the next line feed, or the end.
@@ -483,27 +482,29 @@ fn line_end(s: &[u8], from: usize) -> usize
 }
 
 // The lines of the text.
-fn each(s: &[u8]) {
+fn each(rt: &impl Print, s: &[u8]) -> io::Result<()> {
     let mut at = 0;
     while at < s.len() {
         let end = line_end(s, at);
-        say(&s[at..end]);
+        say(rt, &s[at..end])?;
         at = end + 1;
     }
+    Ok(())
 }
 
-fn first(s: &[u8], n: usize) {
+fn first(rt: &impl Print, s: &[u8], n: usize) -> io::Result<()> {
     if n <= s.len() {
-        each(&s[0..n]);
+        each(rt, &s[0..n])?;
     }
+    Ok(())
 }
 
-fn run(input: &mut [u8; 262144]) {
-    let n = io::read_full(STDIN_FILENO, input);
-    first(input, n);
+fn run(rt: &(impl Input + Print), input: &mut [u8; 262144]) -> io::Result<()> {
+    let n = streams::read_full(&mut rt.reader(), input)?;
+    first(rt, input, n)
 }
 
-fn main() {
+fn main(rt: HostRuntime) -> io::Result<()> {
     let mut input = [0u8; 262144];
-    run(&mut input);
+    run(&rt, &mut input)
 }

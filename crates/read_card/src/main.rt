@@ -1,21 +1,20 @@
 // Program `read_card`: reads a sign table and a card from standard input, and writes the lines of its term's listing or `refused` and its number.
 #![tactic(auto)]
-use libc::{STDIN_FILENO, STDOUT_FILENO};
 
-fn emit(s: &[u8], k: usize) {
-    if k <= s.len() {
-        io::write_all(STDOUT_FILENO, &s[0..k]);
-    }
+use std::io;
+
+fn emit(rt: &impl Print, s: &[u8], k: usize) -> io::Result<()> {
+    streams::write_front(&mut io::writer(rt), s, k)
 }
 
-fn main() {
+fn main(rt: HostRuntime) -> io::Result<()> {
     let mut input = [0u8; 65537];
     let mut frames = [0u64; 65536];
     let mut marks = [0u16; 32768];
     let mut terms = [0u32; 66562];
     let mut runs = [0u64; 65536];
     let mut out = [0u8; 65536];
-    let n = io::read_full(STDIN_FILENO, &mut input);
+    let n = streams::read_full(&mut rt.reader(), &mut input)?;
     let k = read_answer::respond(
         &input[..n],
         &mut frames,
@@ -24,5 +23,5 @@ fn main() {
         &mut runs,
         &mut out,
     );
-    emit(&out, k);
+    emit(&rt, &out, k)
 }

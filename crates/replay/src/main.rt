@@ -1,9 +1,11 @@
 // Program `replay`: reads frames and answers from standard input, each behind its length in 4 bytes, frame, answer, frame, answer .., and says how many answers are the bytes that program `merge` writes.
 #![tactic(auto)]
+
 ghost use Rattle.std.specs.Prelude.{◌+◌, ◌≤◌, ◌<◌};
 ghost use Rattle.answer.specs.Responding.{Rooms};
 
-use libc::{STDIN_FILENO, STDOUT_FILENO};
+use std::io;
+use std::io::Read;
 
 #[derive(Clone, Copy)]
 pub enum Judged {
@@ -31,23 +33,24 @@ fn agrees(out: &[u8], k: usize, answer: &[u8]) -> bool {
 }
 
 // reads a length and so many bytes to the buffer's front; where they are not there or too many: more than the buffer's length
-fn read_record(buffer: &mut [u8]) -> usize {
+fn read_record(reader: &mut impl Read, buffer: &mut [u8]) -> io::Result<usize> {
     let mut head = [0u8; 4];
-    if io::read_full(STDIN_FILENO, &mut head) < 4 {
-        return buffer.len() + 1;
+    if streams::read_full(reader, &mut head)? < 4 {
+        return Ok(buffer.len() + 1);
     }
     let n = image::be4(&head, 0) as usize;
     if n > buffer.len() {
-        return buffer.len() + 1;
+        return Ok(buffer.len() + 1);
     }
-    if io::read_full(STDIN_FILENO, &mut buffer[0..n]) < n {
-        return buffer.len() + 1;
+    if streams::read_full(reader, &mut buffer[0..n])? < n {
+        return Ok(buffer.len() + 1);
     }
-    n
+    Ok(n)
 }
 
 // the next frame and its answer
 fn judge_next(
+    reader: &mut impl Read,
     input: &mut [u8],
     expected: &mut [u8],
     graph: &mut [u16],
@@ -57,29 +60,26 @@ fn judge_next(
     terms: &mut [u32],
     runs: &mut [u64],
     out: &mut [u8],
-) -> Judged
+) -> io::Result<Judged>
     requires { Rooms graph.old pairs.old work.old flow.old terms.old runs.old out.old }
 {
-    let n = read_record(input);
+    let n = read_record(reader, input)?;
     if n > input.len() {
-        return Judged::End;
+        return Ok(Judged::End);
     }
-    let m = read_record(expected);
+    let m = read_record(reader, expected)?;
     if m > expected.len() {
-        return Judged::End;
+        return Ok(Judged::End);
     }
     let k = answer::respond(&input[0..n], graph, pairs, work, flow, terms, runs, out);
     if agrees(out, k, &expected[0..m]) {
-        return Judged::Same;
+        return Ok(Judged::Same);
     }
-    Judged::Other
+    Ok(Judged::Other)
 }
 
-fn say(same: u64, all: u64) {
-    io::print_decimal(STDOUT_FILENO, same);
-    io::write_all(STDOUT_FILENO, b" of ");
-    io::print_decimal(STDOUT_FILENO, all);
-    io::write_all(STDOUT_FILENO, b"\n");
+fn say(rt: &impl Print, same: u64, all: u64) -> io::Result<()> {
+    println!(rt; "{same} of {all}")
 }
 
 // how many answers agreed, of how many, and how many more may come
@@ -115,6 +115,7 @@ fn tallied(t: Tally, j: Judged) -> Tally
 
 // at most a million frames
 fn replay_all(
+    rt: &(impl Input + Print),
     input: &mut [u8],
     expected: &mut [u8],
     graph: &mut [u16],
@@ -124,22 +125,34 @@ fn replay_all(
     terms: &mut [u32],
     runs: &mut [u64],
     out: &mut [u8],
-)
+) -> io::Result<()>
     requires { Rooms graph.old pairs.old work.old flow.old terms.old runs.old out.old }
 {
+    let mut reader = rt.reader();
     let mut t = Tally {
         same: 0,
         all: 0,
         left: 1000000,
     };
     while t.left > 0 {
-        let j = judge_next(input, expected, graph, pairs, work, flow, terms, runs, out);
+        let j = judge_next(
+            &mut reader,
+            input,
+            expected,
+            graph,
+            pairs,
+            work,
+            flow,
+            terms,
+            runs,
+            out,
+        )?;
         t = tallied(t, j);
     }
-    say(t.same, t.all);
+    say(rt, t.same, t.all)
 }
 
-fn main() {
+fn main(rt: HostRuntime) -> io::Result<()> {
     let mut input = [0u8; 65537];
     let mut expected = [0u8; 65536];
     let mut graph = [0u16; 4352];
@@ -150,6 +163,7 @@ fn main() {
     let mut runs = [0u64; 1024];
     let mut out = [0u8; 65536];
     replay_all(
+        &rt,
         &mut input,
         &mut expected,
         &mut graph,
@@ -159,5 +173,5 @@ fn main() {
         &mut terms,
         &mut runs,
         &mut out,
-    );
+    )
 }
