@@ -1,12 +1,12 @@
 -- Reading finds the term of every formula: by the derivation, over any stack that waits for a child of this precedence.
-use Rattle.std.specs.Prelude.{◌≡◌, refl, ◌≢◌, ◌⊎◌, Bool, true, false, List, [], ◌∷◌, ◌++◌, ℕ, zero, suc, ◌+◌, ◌≤◌, ◌<◌, leb, eqb}
+use Rattle.std.specs.Prelude.{◌≡◌, refl, ◌≢◌, ◌⊎◌, Bool, true, false, List, [], ◌∷◌, ◌++◌, ℕ, suc, ◌≤◌, ◌<◌}
 use Rattle.std.proofs.Common.{sym, ap, ◌∙◌, inl, inr, zero-le, le_refl, le_trans, arith, le-leb, ne_eqb}
 use Rattle.std.proofs.Math.Decide.{ℕ_discrete}
 use Rattle.std.proofs.lemmas.Bool.{lt-leb}
-use Rattle.spec.specs.Bytes.{pick, Res, ok, refused}
+use Rattle.spec.specs.Bytes.{pick, ok}
 use Rattle.laws.specs.Tests.{clash}
 use Rattle.formula.specs.Card.{Tree, lit, two, many, marked, Trees, none, also, count, branches, Mark, literal, between, list, next, close, opens, shuts, begin, or, end, prec_of, groups_left, left_level, right_level, Formula, aLiteral, aTwo, aList, aChoice, brackets, Items, nothing, single, more}
-use Rattle.formula.specs.Reader.{snoc, Frame, bracket, left, in_list, in_marked, Top, top, State, wants, has, wrong, reduce, close_empty, next_item, close_list, next_branch, close_marked, close_bracket, step, run, finish, read_marks, alone}
+use Rattle.formula.specs.Reader.{snoc, Frame, bracket, left, in_list, in_marked, Top, top, State, wants, has, reduce, close_empty, next_item, close_list, next_branch, close_marked, close_bracket, step, run, finish, read_marks, alone}
 
 -- ---- the two levels: what stands left of precedence p is finished by it exactly where p may not stand right of what is left open
 turn-off-by : (p q : ℕ) (x y : Bool) → (p ≡ q → x ≡ y) → pick y (suc q) q ≤ p → q < pick x p (suc p)

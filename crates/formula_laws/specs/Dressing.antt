@@ -1,8 +1,8 @@
 -- "A formula is any text so written, further brackets round any subterm allowed", literally: the writer with a number of further bracket pairs round each subterm makes exactly the formulas.
-use Rattle.std.specs.Prelude.{◌≡◌, refl, ◌≢◌, Bool, true, false, List, [], ◌∷◌, ◌++◌, ℕ, zero, suc, ◌+◌, ◌≤◌, ◌<◌, ltb}
-use Rattle.std.proofs.Common.{sym, ap, ap₂, ◌∙◌, append_assoc, zero-le, arith, ltb-false, le-ltb}
-use Rattle.formula.specs.Card.{Tree, lit, two, many, marked, Trees, none, also, count, branches, Mark, literal, between, list, next, close, opens, shuts, begin, or, end, prec_of, left_level, right_level, bracketed, write, write_all, Formula, aLiteral, aTwo, aList, aChoice, brackets, Items, nothing, single, more}
-use Rattle.formula_laws.specs.Fewest.{Shaped, lit-shaped, two_shaped, many-shaped, marked-shaped, ShapedAll, none-shaped, also-shaped}
+use Rattle.std.specs.Prelude.{◌≡◌, refl, Bool, true, false, List, [], ◌∷◌, ◌++◌, ℕ, zero, suc, ◌≤◌, ltb}
+use Rattle.std.proofs.Common.{sym, ap, ap₂, ◌∙◌, zero-le, arith, ltb-false, le-ltb}
+use Rattle.formula.specs.Card.{Tree, lit, two, many, marked, Trees, none, also, Mark, literal, between, list, next, close, opens, shuts, begin, or, end, prec_of, left_level, right_level, bracketed, Formula, aLiteral, aTwo, aList, aChoice, brackets, Items, nothing, single, more}
+use Rattle.formula_laws.specs.Fewest.{Shaped, two_shaped, many-shaped, marked-shaped, ShapedAll, also-shaped}
 
 -- ---- a term with a number of further pairs at each subterm
 mutual

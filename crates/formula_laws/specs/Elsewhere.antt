@@ -1,26 +1,24 @@
 -- A card read into any other pool yields a number of the same term; which refusals reading and writing give, and when.
-use Rattle.std.specs.Prelude.{◌≡◌, ◌≢◌, ◌⊎◌, Bool, true, false, leb, ltb, eqb, length, get_or}
+use Rattle.std.specs.Prelude.{◌≡◌, length}
 use Rattle.std.proofs.Math.Path.{refl, ap}
-use Rattle.std.proofs.Common.{sym, ap₂, ◌∙◌, inl, inr, le_refl, le_trans, arith}
-use mathlib.Core.List.{List, [], ◌∷◌, ◌++◌}
-use Prim.Native.Nat.{ℕ, zero, suc, ◌+◌, ◌≤◌, ◌<◌, zero-le}
+use Rattle.std.proofs.Common.{sym, ◌∙◌, arith}
+use mathlib.Core.List.{List, [], ◌∷◌}
+use Prim.Native.Nat.{ℕ, zero, suc, ◌≤◌, ◌<◌}
 use Rattle.std.proofs.Math.Nat.{not-suc-le-zero}
-use Rattle.spec.specs.Bytes.{pick, both, Limits, all, place, Two, Res, ok, refused, rule, ◌>>=◌}
-use Rattle.spec.specs.Pool.{Pool, Node, node_at, OP, LIT, VARIANTS, run_count, same_node, join_to, join_runs, op_node, lit_node, variants_node, Interned, interned, intern, Children}
+use Rattle.spec.specs.Bytes.{Limits, Two, Res, ok, ◌>>=◌}
+use Rattle.spec.specs.Pool.{Pool, Node, node_at, OP, LIT, VARIANTS, join_runs, op_node, lit_node, Interned, interned, intern, Children}
 use Rattle.spec.specs.Meaning.{In, here, there, Term, Runs, Branched, tree_at, tree_of, trees_after, runs_of}
 use Rattle.spec.specs.Meaning as Meaning
-use Rattle.laws.specs.Lists.{in-cons, in-nil}
 use Rattle.pools.specs.Pool.{Joined, RunsBelow, runs-below-tail, runs-below-cons, runs-below-nil, Formed, operation, literal, marked, NodeValid, PoolValid, numbered, tree-operation, tree-literal, tree-marked, op-valid, lit-valid, variants-valid, join-joined}
 use Rattle.pools.specs.Pool as P
-use Rattle.pools.specs.PoolTrees.{node-ext, tree_is, trees-apart}
-use Rattle.pools.specs.PoolIntern.{Extends, extends-refl, extends-trans, extends-length, extends-tree, extends-within, Interns, intern-there, intern-enters}
-use Rattle.laws.specs.Results.{bind_ok, ok-inj, refused-ok}
+use Rattle.pools.specs.PoolTrees.{tree_is, trees-apart}
+use Rattle.pools.specs.PoolIntern.{Extends, extends-refl, extends-trans, extends-tree, extends-within, intern-enters}
+use Rattle.laws.specs.Results.{bind_ok, ok-inj}
 use Rattle.formula.specs.Card.{Tree, lit, two, many, Trees, none, also, count, branches, spell, proper_mark, write, Mark, FormulaText}
 use Rattle.formula.specs.Card as C
-use Rattle.formula.specs.Reader.{Frame, State, wants, has, wrong, reduce, alone, finish, run, read_marks}
-use Rattle.formula.specs.Lexer.{times, of_children, spelled, spelled_runs, card_tree, write_card, marked_node, enter, enter_all, mark_at, stands_at, is_nil, before, cut, read_text, read_card}
-use Rattle.formula_laws.specs.Texts.{text-read, read-text, card-text}
-use Rattle.formula_laws.specs.Entering.{spelled-shaped, repeat, ones, join-ones, joined-off, joined-tail, Off, children, enter-children, enter-own, written_is}
+use Rattle.formula.specs.Lexer.{times, spelled, spelled_runs, card_tree, write_card, marked_node, enter, enter_all, read_text, read_card}
+use Rattle.formula_laws.specs.Texts.{text-read, card-text}
+use Rattle.formula_laws.specs.Entering.{spelled-shaped, repeat, ones, join-ones, children, enter-children, enter-own, written_is}
 
 -- ---- what entering number a of pool p into pool q gives
 pub record Enters (p q : Pool) (a : ℕ) (r : Interned) : Type 0 where

@@ -1,19 +1,18 @@
 -- A term read back into its own pool is the term itself; into any other pool, a number of the same term.
-use Rattle.std.specs.Prelude.{◌≡◌, refl, ◌≢◌, ◌⊎◌, Bool, true, false, List, [], ◌∷◌, ◌++◌, ℕ, zero, suc, ◌+◌, ◌≤◌, ◌<◌, leb, eqb, length, get_or, replicate}
-use Rattle.std.proofs.Common.{sym, ap₂, ◌∙◌, inl, inr, zero-le, le_refl, le_trans, not-suc-le-zero, arith, eq-eqb, ne_eqb, length-append}
+use Rattle.std.specs.Prelude.{◌≡◌, refl, ◌≢◌, Bool, true, false, List, [], ◌∷◌, ◌++◌, ℕ, zero, suc, ◌+◌, ◌≤◌, ◌<◌, leb, length, replicate}
+use Rattle.std.proofs.Common.{sym, ◌∙◌, not-suc-le-zero, arith, eq-eqb, ne_eqb, length-append}
 use Rattle.std.proofs.Math.Path.{ap}
 use Rattle.std.proofs.lemmas.List.{length-replicate}
-use Rattle.spec.specs.Bytes.{pick, all, Limits, Two, Res, ok, refused, rule, ◌>>=◌}
-use Rattle.spec.specs.Pool.{Pool, Node, node_at, OP, LIT, VARIANTS, join_to, join_runs, op_node, lit_node, variants_node, Interned, interned, intern, Children}
+use Rattle.spec.specs.Bytes.{all, Limits, Two, Res, ok, refused, rule, ◌>>=◌}
+use Rattle.spec.specs.Pool.{Pool, Node, node_at, OP, LIT, VARIANTS, join_to, join_runs, op_node, lit_node, Interned, interned, intern, Children}
 use Rattle.spec.specs.Meaning.{In, here, there, Term, Runs, expand, Branched, AllBranched, tree_at, tree_of, trees_after, runs_of}
 use Rattle.spec.specs.Meaning as Meaning
 use Rattle.pools.specs.Pool.{Joined, RunsBelow, runs-below-tail, runs-below-cons, runs-below-nil, Formed, operation, literal, marked, NodeValid, PoolValid, numbered, tree-operation, tree-literal, tree-marked, op-valid, lit-valid, variants-valid, join-joined}
 use Rattle.pools.specs.Pool as P
-use Rattle.pools.specs.PoolTrees.{node-ext, tree_is, trees-apart}
-use Rattle.pools.specs.PoolIntern.{Extends, extends-refl, extends-trans, extends-length, extends-tree, extends-within, Interns, intern-there, intern-enters}
-use Rattle.laws.specs.Results.{bind_ok, ok-inj, refused-ok}
-use Rattle.formula.specs.Card.{Tree, lit, two, many, Trees, none, also, count, branches, spell, proper_mark, write}
-use Rattle.formula.specs.Card as C
+use Rattle.pools.specs.PoolTrees.{node-ext, tree_is}
+use Rattle.pools.specs.PoolIntern.{intern-there}
+use Rattle.laws.specs.Results.{ok-inj, refused-ok}
+use Rattle.formula.specs.Card.{Tree, Trees, none, also, count, branches, spell, proper_mark, write}
 use Rattle.formula.specs.Lexer.{times, of_children, spelled, spelled_runs, card_tree, write_card, marked_node, enter, enter_all, read_text, read_card}
 use Rattle.formula_laws.specs.Fewest.{Shaped, lit-shaped, two_shaped, many-shaped, marked-shaped, ShapedAll, none-shaped, also-shaped}
 use Rattle.formula_laws.specs.Texts.{text-read, card-text}

@@ -1,8 +1,7 @@
 -- What is written is a formula of the term, and no formula of the term has fewer brackets.
-use Rattle.std.specs.Prelude.{◌≡◌, refl, ◌≢◌, Bool, true, false, List, [], ◌∷◌, ◌++◌, ℕ, zero, suc, ◌+◌, ◌≤◌, ◌<◌, ltb}
-use Rattle.std.proofs.Common.{sym, ap, ◌∙◌, zero-le, le_refl, le_trans, le_of_eq, arith, ltb-false, le-ltb}
+use Rattle.std.specs.Prelude.{◌≡◌, refl, ◌≢◌, Bool, true, false, List, [], ◌∷◌, ◌++◌, ℕ, suc, ◌+◌, ◌≤◌, ltb}
+use Rattle.std.proofs.Common.{sym, ap, zero-le, le_of_eq, arith, ltb-false, le-ltb}
 use Rattle.formula.specs.Card.{Tree, lit, two, many, marked, Trees, none, also, count, branches, Mark, literal, between, list, next, close, opens, shuts, begin, or, end, prec_of, left_level, right_level, bracketed, write, write_all, Formula, aLiteral, aTwo, aList, aChoice, brackets, Items, nothing, single, more}
-use Rattle.formula.specs.Reader.{read_marks}
 
 -- ---- terms as they are: no list of two, and as many branches as a marked place has
 mutual

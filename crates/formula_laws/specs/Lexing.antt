@@ -1,14 +1,14 @@
 -- A text is cut into the marks that it was spelt from, and into nothing else.
-use Rattle.std.specs.Prelude.{◌≡◌, refl, ◌≢◌, ◌⊎◌, Bool, true, false, List, [], ◌∷◌, ◌++◌, ℕ, zero, suc, ◌+◌, ◌*◌, ◌-◌, ◌/◌, ◌%◌, ◌≤◌, ◌<◌, ltb, leb, eqb, length, get_or, drop}
-use Rattle.std.proofs.Common.{sym, ap, ◌∙◌, inl, inr, append_assoc, zero-le, le_refl, le_trans, not-suc-le-zero, arith, leb-true, leb-false, eqb-true, le-leb, eq-eqb, ne_eqb, lt-ltb, le-ltb, ltb-true, length-append}
-use Rattle.std.proofs.Math.Decide.{dec_lt, ℕ_discrete}
-use Rattle.std.proofs.lemmas.Bool.{eqb-false, lt-leb}
-use Rattle.spec.specs.Bytes.{pick, both, either, all, any, each, place, up_from, within, text, decimal, digits, Res, ok, refused, ◌>>=◌}
+use Rattle.std.specs.Prelude.{◌≡◌, refl, ◌⊎◌, Bool, true, false, List, [], ◌∷◌, ◌++◌, ℕ, zero, suc, ◌+◌, ◌*◌, ◌-◌, ◌/◌, ◌%◌, ◌≤◌, ◌<◌, ltb, leb, eqb, length, get_or, drop}
+use Rattle.std.proofs.Common.{sym, ap, ◌∙◌, inl, inr, append_assoc, zero-le, not-suc-le-zero, arith, leb-true, eqb-true, le-leb, eq-eqb, ne_eqb, lt-ltb, le-ltb, ltb-true, length-append}
+use Rattle.std.proofs.Math.Decide.{dec_lt}
+use Rattle.std.proofs.lemmas.Bool.{lt-leb}
+use Rattle.spec.specs.Bytes.{pick, both, either, all, any, place, up_from, within, text, decimal, digits, Res, ok, refused}
 use Rattle.laws.specs.Buffers.{up-length}
 use Rattle.laws.specs.Tests.{clash}
 use Rattle.laws.specs.Tests.{both_true}
 use Rattle.pools.specs.PoolIntern.{place-passes, place-first}
-use Rattle.formula.specs.Card.{operations, sign, letter, symbol, one_symbol, is_sign, same_bytes, has_sign, own, shares_sign, proper, prec_of, Mark, literal, between, list, next, close, opens, shuts, begin, or, end, spell_mark, spell, proper_mark}
+use Rattle.formula.specs.Card.{operations, sign, letter, symbol, one_symbol, is_sign, same_bytes, has_sign, own, shares_sign, proper, Mark, literal, between, list, next, close, opens, shuts, begin, or, end, spell_mark, spell, proper_mark}
 use Rattle.formula.specs.Lexer.{digit, sign_byte, starts_with, lead, literal_at, operation_at, spaced_at, mark_at, stands_at, is_nil, before, cut}
 
 -- ---- tests

@@ -1,5 +1,5 @@
 -- What lines that are read hold: a valid pool, whose marked places have two branches, within the limits.
-use Rattle.std.specs.Prelude.{◌≡◌, refl, ◌≢◌, ◌⊎◌, Bool, true, false, List, [], ◌∷◌, ◌++◌, map, ℕ, zero, suc, ◌+◌, ◌-◌, ◌≤◌, ◌<◌, ltb, leb, eqb, length, get_or, drop}
+use Rattle.std.specs.Prelude.{◌≡◌, refl, ◌≢◌, ◌⊎◌, Bool, true, false, List, [], ◌∷◌, ◌++◌, map, ℕ, zero, suc, ◌+◌, ◌-◌, ◌≤◌, ◌<◌, ltb, leb, eqb, length, drop}
 use Rattle.std.proofs.Common.{sym, ap, ◌∙◌, inl, inr, not-suc-le-zero, eq-or-lt_of_le, arith, length-append, ltb-true, leb-true, eqb-true}
 use Rattle.std.proofs.lemmas.List.{length-map}
 use Rattle.std.proofs.Math.ListN.{get_or-append}
@@ -7,14 +7,13 @@ use Rattle.std.proofs.lemmas.Bool.{eqb-false}
 use Rattle.spec.specs.Bytes.{pick, both, place, sum, Two, text, decimal, Limits, Res, ok, refused, rule, ◌>>=◌}
 use Rattle.spec.specs.Pool.{Pool, Node, node_at, OP, LIT, VARIANTS, RUNS, expanded_length, same_node, run_count, Interned, interned, intern}
 use Rattle.spec.specs.Meaning.{In, here, there, Term, Branched, AllBranched, no_branch, and_branch, at_literal, at_node, at_place, expand, tree_at, tree_of, trees_after, runs_of}
-use Rattle.laws.specs.Lists.{in-cons, in-nil}
 use Rattle.laws.specs.Tests.{both_true, clash}
 use Rattle.laws.specs.Results.{bind_ok, ok-inj, refused-ok}
 use Rattle.laws.specs.Bag.{map-append, sum-append}
 use Rattle.laws.specs.BagCount.{written, written-length}
 use Rattle.pools.specs.Pool.{Joined, none, one, more, RunsBelow, runs-below-nil, runs-below-cons, Formed, operation, literal, marked, NodeValid, PoolValid, empty-valid, get_d-last, numbered, tree-operation, tree-literal, tree-marked}
 use Rattle.pools.specs.PoolTrees.{tree_is, expand-runs}
-use Rattle.pools.specs.PoolIntern.{Extends, Interns, intern-enters}
+use Rattle.pools.specs.PoolIntern.{intern-enters}
 use Rattle.formula.specs.Lexer.{lead, starts_with, is_nil}
 use Rattle.formula.specs.Lines.{cut_word, cut_number, cut_runs, runs_at, cut_node, cut_line, add_lines, read_lines, CHILDREN}
 use Rattle.formula_laws.specs.Terms.{written_below}

@@ -1,24 +1,22 @@
 -- What is read means the text's term: the number that a tree is entered with stands for that tree.
-use Rattle.std.specs.Prelude.{◌≡◌, ◌≢◌, true, ℕ, suc, ◌≤◌, ◌<◌, length}
+use Rattle.std.specs.Prelude.{◌≡◌, ◌≢◌, ℕ, ◌<◌, length}
 use Rattle.std.proofs.Math.Path.{refl, ap}
-use Rattle.std.proofs.Common.{sym, ap₂, ◌∙◌, inl, inr, arith}
-use mathlib.Core.List.{List, [], ◌∷◌, ◌++◌}
-use Rattle.spec.specs.Bytes.{Limits, Two, Res, ok, refused, ◌>>=◌}
-use Rattle.spec.specs.Pool.{Pool, Node, Interned, Children, intern, op_node, lit_node, join_runs}
-use Rattle.spec.specs.Meaning.{In, here, there, Term, Runs, tree_at, tree_of, trees_after, runs_of}
-use Rattle.spec.specs.Meaning as Meaning
+use Rattle.std.proofs.Common.{ap₂, ◌∙◌, inl, inr, arith}
+use mathlib.Core.List.{List, [], ◌∷◌}
+use Rattle.spec.specs.Bytes.{Limits, Two, ok}
+use Rattle.spec.specs.Pool.{Pool, Interned, Children, intern, op_node, lit_node, join_runs}
+use Rattle.spec.specs.Meaning.{In, trees_after, runs_of}
 use Rattle.spec.specs.Monomial.{classes}
 use Rattle.laws.specs.Lists.{in-cons, in-nil}
 use Rattle.laws.specs.Results.{bind_ok, ok-inj}
-use Rattle.laws.specs.BagCount.{written, join_written, written-ones}
-use Rattle.pools.specs.Pool.{RunsBelow, runs-below-cons, runs-below-nil, NodeValid, PoolValid, operation, marked, join-below, join-joined, op-valid, lit-valid, tree-operation, tree-literal, tree-marked}
-use Rattle.pools.specs.PoolIntern.{Extends, extends-refl, extends-trans, extends-tree, extends-within, Interns, intern-enters}
+use Rattle.laws.specs.BagCount.{join_written, written-ones}
+use Rattle.pools.specs.Pool.{RunsBelow, runs-below-cons, runs-below-nil, NodeValid, PoolValid, marked, join-below, join-joined, op-valid, lit-valid, tree-operation, tree-literal, tree-marked}
+use Rattle.pools.specs.PoolIntern.{Extends, extends-refl, extends-trans, extends-tree, extends-within, intern-enters}
 use Rattle.formula.specs.Card.{Tree, lit, two, many, Trees, none, also, count, branches, Formula, aLiteral, aTwo, aList, aChoice, brackets, Items, nothing, single, more, FormulaText, next, or, Mark}
 use Rattle.formula.specs.Card as C
 use Rattle.formula.specs.Lexer.{of_children, spelled, spelled_runs, card_tree, marked_node, enter, enter_all, read_text, read_card}
 use Rattle.formula_laws.specs.Fewest.{Shaped, lit-shaped, two_shaped, many-shaped, marked-shaped, ShapedAll, none-shaped, also-shaped}
 use Rattle.formula_laws.specs.Terms.{trees_of, runs-trees}
-use Rattle.formula_laws.specs.Entering.{enter-children}
 use Rattle.formula_laws.specs.Texts.{read-text}
 
 -- ---- the term of a formula: no list of two, two branches at every marked place

@@ -2,13 +2,12 @@
 use Rattle.std.specs.Prelude.{◌≡◌, refl, ◌≢◌, ◌⊎◌, Bool, true, false, List, [], ◌∷◌, ◌++◌, ℕ, zero, suc, ◌+◌, ◌≤◌, ◌<◌, leb, ltb, length, drop}
 use Rattle.std.proofs.Common.{sym, ap, ◌∙◌, inl, inr, arith, le-leb}
 use Rattle.std.proofs.lemmas.Bool.{lt-leb}
-use Rattle.spec.specs.Bytes.{Limits, pick, both, all, place, Res, ok, refused, rule, ◌>>=◌}
-use Rattle.spec.specs.Pool.{Pool, Node, TERMS, RUNS, run_count, same_node, op_node, lit_node, Interned, interned, intern, Children}
-use Rattle.laws.specs.Results.{bind-refused, refused-inj, refused-ok, ok-inj}
-use Rattle.laws.specs.Tests.{clash}
+use Rattle.spec.specs.Bytes.{Limits, pick, both, all, place, Res, ok, refused, ◌>>=◌}
+use Rattle.spec.specs.Pool.{Pool, Node, run_count, same_node, op_node, lit_node, Interned, interned, intern}
+use Rattle.laws.specs.Results.{bind-refused, refused-inj, refused-ok}
 use Rattle.formula.specs.Card.{Tree, lit, two, many, marked, Trees, none, also, Mark, spell, spell_mark, proper_mark, write, FormulaText}
 use Rattle.formula.specs.Reader.{Frame, State, wants, has, wrong, reduce, alone, finish, run, read_marks}
-use Rattle.formula.specs.Lexer.{card_tree, write_card, marked_node, enter, enter_all, mark_at, stands_at, is_nil, before, cut, read_text, read_card}
+use Rattle.formula.specs.Lexer.{card_tree, write_card, marked_node, enter, enter_all, mark_at, stands_at, before, cut, read_text, read_card}
 use Rattle.formula_laws.specs.Texts.{text-read, read-text}
 
 ok-refused : {A : Type 0} {n : ℕ} {a : A} → ok a ≡ refused n → ⊥

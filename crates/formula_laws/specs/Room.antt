@@ -1,26 +1,25 @@
 -- A card written from a pool within the limits is read back into an empty pool without 13: what is entered are terms of that pool, each once.
-use Rattle.std.specs.Prelude.{◌≡◌, ◌⊎◌, true, false, ltb, leb, length, get_or}
+use Rattle.std.specs.Prelude.{◌≡◌, true, false, ltb, leb, length, get_or}
 use Rattle.std.proofs.Math.Path.{refl, ap}
 use Rattle.std.proofs.Common.{sym, ◌∙◌, inl, inr, arith, length-append, lt-ltb, le-leb}
 use Rattle.std.proofs.Math.Bool.{Bool}
 use mathlib.Core.List.{List, [], ◌∷◌, ◌++◌, map}
-use Prim.Native.Nat.{ℕ, zero, suc, ◌+◌, ◌≤◌, ◌<◌, zero-le}
+use Prim.Native.Nat.{ℕ, zero, suc, ◌+◌, ◌≤◌, ◌<◌}
 use Rattle.std.proofs.Math.Nat.{not-suc-le-zero}
 use Rattle.spec.specs.Bytes.{pick, both, place, sum, Limits, Two, Res, ok, refused, ◌>>=◌}
-use Rattle.spec.specs.Pool.{Pool, Node, node_at, OP, LIT, VARIANTS, run_count, same_node, join_runs, op_node, lit_node, Interned, interned, Children, intern}
+use Rattle.spec.specs.Pool.{Pool, Node, node_at, run_count, same_node, join_runs, op_node, lit_node, Interned, interned, Children, intern}
 use Rattle.spec.specs.Meaning.{In, here, there, Term, Runs, tree_at, tree_of, trees_after, runs_of}
 use Rattle.spec.specs.Meaning as Meaning
 use Rattle.laws.specs.Bag.{sum-append, map-append}
 use Rattle.laws.specs.Lists.{in-cons, in-nil, in-append, get_in, in-get, Distinct, none, more, pigeon}
 use Rattle.pools.specs.Pool.{RunsBelow, runs-below-tail, lit-valid, Formed, operation, literal, marked, NodeValid, PoolValid, empty-valid, trees-append, trees-length, tree-operation, tree-literal, tree-marked}
 use Rattle.pools.specs.PoolTrees.{tree_is, trees-apart}
-use Rattle.pools.specs.PoolIntern.{Interns, added, intern-enters}
-use Rattle.formula.specs.Card as C
-use Rattle.formula.specs.Card.{Tree, Trees, also}
+use Rattle.pools.specs.PoolIntern.{added}
+use Rattle.formula.specs.Card.{Tree, Trees}
 use Rattle.formula.specs.Lexer.{times, spelled, spelled_runs, card_tree, marked_node, enter, enter_all}
 use Rattle.formula_laws.specs.Entering.{repeat, children, enter-children, enter-own, join-ones}
 use Rattle.formula_laws.specs.Weights.{weighed}
-use Rattle.formula_laws.specs.Elsewhere.{Enters, RunsEnter, agree-runs, agree-below, agree-joined, runs-enter, enter-below}
+use Rattle.formula_laws.specs.Elsewhere.{RunsEnter, agree-runs, agree-below, agree-joined, runs-enter, enter-below}
 
 abbrev no_term : Term
 no_term = Meaning.lit 0 0

@@ -1,14 +1,14 @@
 -- "18 for an operation in the term without a proper sign of its own and precedence", over the pool's nodes: every mark of a card is proper exactly where every node in the term is.
-use Rattle.std.specs.Prelude.{◌≡◌, ◌⊎◌, Bool, ltb, leb, length}
+use Rattle.std.specs.Prelude.{◌≡◌, Bool, ltb, length}
 use Rattle.std.proofs.Math.Path.{refl}
 use Rattle.std.proofs.Common.{sym, ap, ◌∙◌, not-suc-le-zero, arith}
 use Rattle.std.proofs.Math.Logic.{inl, inr}
 use Rattle.std.proofs.Math.Bool.{true, false}
 use mathlib.Core.List.{List, [], ◌∷◌, ◌++◌}
-use Prim.Native.Nat.{ℕ, zero, suc, ◌+◌, ◌≤◌, ◌<◌}
+use Prim.Native.Nat.{ℕ, zero, suc, ◌<◌}
 use Rattle.std.proofs.Math.Dec.{eqb}
-use Rattle.spec.specs.Bytes.{all, both, Two}
-use Rattle.spec.specs.Pool.{Pool, Node, node_at, OP, LIT, VARIANTS, variants_node}
+use Rattle.spec.specs.Bytes.{all}
+use Rattle.spec.specs.Pool.{Pool, Node, node_at, OP, LIT, VARIANTS}
 use Rattle.spec.specs.Meaning.{In, here, there}
 use Rattle.laws.specs.Lists.{in-cons, in-nil}
 use Rattle.laws.specs.Tests.{clash}

@@ -1,12 +1,11 @@
 -- Reading takes nothing but formulas: what was read so far is the text of what stands on the stack.
-use Rattle.std.specs.Prelude.{◌≡◌, refl, ◌≢◌, Bool, true, false, List, [], ◌∷◌, ◌++◌, ℕ, zero, suc, ◌+◌, ◌≤◌, ◌<◌, leb, eqb}
-use Rattle.std.proofs.Common.{sym, ap, ◌∙◌, zero-le, le_refl, le_trans, not-suc-le-zero, arith, leb-true, leb-false}
+use Rattle.std.specs.Prelude.{◌≡◌, refl, ◌≢◌, Bool, true, false, List, [], ◌∷◌, ◌++◌, ℕ, suc, ◌≤◌, ◌<◌, leb, eqb}
+use Rattle.std.proofs.Common.{sym, ap, ◌∙◌, zero-le, arith, leb-true, leb-false}
 use Rattle.std.proofs.lemmas.Bool.{eqb-false}
-use Rattle.spec.specs.Bytes.{pick, Res, ok, refused}
-use Rattle.laws.specs.Tests.{clash}
-use Rattle.formula.specs.Card.{Tree, lit, two, many, marked, Trees, none, also, count, branches, Mark, literal, between, list, next, close, opens, shuts, begin, or, end, prec_of, left_level, right_level, Formula, aLiteral, aTwo, aList, aChoice, brackets, Items, nothing, single, more}
+use Rattle.spec.specs.Bytes.{pick, ok, refused}
+use Rattle.formula.specs.Card.{Tree, two, many, marked, Trees, none, also, count, branches, Mark, literal, between, list, next, close, opens, shuts, begin, or, end, prec_of, left_level, right_level, Formula, aLiteral, aTwo, aList, aChoice, brackets, Items, nothing, single, more}
 use Rattle.formula.specs.Reader.{snoc, Frame, bracket, left, in_list, in_marked, Top, top, State, wants, has, wrong, reduce, close_empty, next_item, close_list, next_branch, close_marked, close_bracket, step, run, finish, read_marks, alone}
-use Rattle.formula_laws.specs.Complete.{turn_on, join, snoc-join, join_one, complete}
+use Rattle.formula_laws.specs.Complete.{turn_on, join, snoc-join, join_one}
 
 app_assoc : {A : Type 0} (l m r : List A) → (l ++ m) ++ r ≡ l ++ (m ++ r)
 app_assoc [] m r = refl

@@ -1,7 +1,7 @@
 -- The first pass of reading: whether a text is a formula, with no term in sight and no precedence. An infix sign needs no frame; only "right behind `[`" must be told from "a child is wanted", or `a[1#0 + ]` would pass.
-use Rattle.std.specs.Prelude.{◌≡◌, refl, ◌⊎◌, Bool, true, false, List, [], ◌∷◌, ◌++◌, ℕ, zero, suc, ◌+◌, ◌≤◌, leb, eqb}
-use Rattle.std.proofs.Common.{sym, ap, ◌∙◌, inl, inr, zero-le, arith, le-leb}
-use Rattle.spec.specs.Bytes.{pick, Res, ok, refused}
+use Rattle.std.specs.Prelude.{◌≡◌, refl, Bool, true, false, List, [], ◌∷◌, ℕ, suc, leb, eqb}
+use Rattle.std.proofs.Common.{sym, ap, ◌∙◌, zero-le, arith, le-leb}
+use Rattle.spec.specs.Bytes.{pick, ok}
 use Rattle.laws.specs.Results.{refused-ok}
 use Rattle.formula.specs.Card.{Tree, two, many, marked, Trees, none, also, count, branches, Mark, literal, between, list, next, close, opens, shuts, begin, or, end, prec_of, left_level}
 use Rattle.formula.specs.Reader.{snoc, Frame, bracket, left, in_list, in_marked, Top, State, wants, has, wrong, reduce, close_empty, next_item, close_list, next_branch, close_marked, close_bracket, step, run, finish, read_marks, alone}

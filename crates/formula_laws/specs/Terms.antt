@@ -1,15 +1,14 @@
 -- The writer as the code has it: over pool numbers, calling itself on children, whose numbers are lower, with the surrounding precedence.
-use Rattle.std.specs.Prelude.{◌≡◌, refl, ◌⊎◌, Bool, true, false, List, [], ◌∷◌, ◌++◌, ltb, eqb, length, replicate}
-use Rattle.std.proofs.Common.{sym, ap, ap₂, ◌∙◌, inl, inr, not-suc-le-zero, arith, eqb-true}
-use Prim.Native.Nat.{ℕ, zero, suc, ◌+◌, ◌≤◌, ◌<◌}
-use Rattle.spec.specs.Bytes.{Two, pick}
-use Rattle.spec.specs.Pool.{Pool, Node, node_at, OP, LIT, VARIANTS, join_runs, variants_node}
-use Rattle.spec.specs.Meaning.{In, here, there, Term, Runs, tree_at, tree_of, trees_after, runs_of}
-use Rattle.spec.specs.Meaning as Meaning
-use Rattle.laws.specs.Lists.{in-cons, in-nil, in-append, in_left, in_right}
+use Rattle.std.specs.Prelude.{◌≡◌, refl, Bool, true, false, List, [], ◌∷◌, ◌++◌, ltb, eqb, length, replicate}
+use Rattle.std.proofs.Common.{sym, ap, ap₂, ◌∙◌, inl, inr, not-suc-le-zero, arith}
+use Prim.Native.Nat.{ℕ, zero, suc, ◌<◌}
+use Rattle.spec.specs.Bytes.{Two}
+use Rattle.spec.specs.Pool.{Pool, Node, node_at, OP, LIT, VARIANTS}
+use Rattle.spec.specs.Meaning.{In, here, there, Term, tree_at, tree_of, trees_after, runs_of}
+use Rattle.laws.specs.Lists.{in-cons, in-nil, in-append}
 use Rattle.laws.specs.Tests.{clash}
 use Rattle.laws.specs.BagCount.{written}
-use Rattle.pools.specs.Pool.{RunsBelow, runs-below-tail, Formed, operation, literal, marked, NodeValid, PoolValid, numbered, tree-operation, tree-literal, tree-marked}
+use Rattle.pools.specs.Pool.{RunsBelow, runs-below-tail, Formed, operation, literal, marked, NodeValid, PoolValid, tree-operation, tree-literal, tree-marked}
 use Rattle.pools.specs.PoolTrees.{tree_is}
 use Rattle.formula.specs.Card.{Tree, two, many, Trees, none, also, Mark, between, list, next, close, begin, or, end, prec_of, left_level, right_level, bracketed, write, write_all}
 use Rattle.formula.specs.Card as C

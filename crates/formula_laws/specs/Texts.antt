@@ -1,18 +1,18 @@
 -- Paper 1's claims on texts: what is read is exactly the formulas, each has one term, a written card is read back, and none of its brackets can be left out.
-use Rattle.std.specs.Prelude.{◌≡◌, refl, ◌≢◌, ◌⊎◌, Bool, true, false, List, [], ◌∷◌, ◌++◌, ℕ, zero, suc, ◌+◌, ◌/◌, ◌%◌, ◌≤◌, ◌<◌, eqb, length}
-use Rattle.std.proofs.Common.{sym, ap, ◌∙◌, inl, inr, zero-le, le_refl, not-suc-le-zero, arith, ne_eqb}
+use Rattle.std.specs.Prelude.{◌≡◌, refl, ◌≢◌, true, false, List, [], ◌∷◌, ◌++◌, ℕ, zero, suc, ◌+◌, ◌/◌, ◌%◌, ◌≤◌, ◌<◌, eqb, length}
+use Rattle.std.proofs.Common.{sym, ap, ◌∙◌, not-suc-le-zero, arith, ne_eqb}
 use Rattle.std.proofs.Math.Decide.{dec_lt}
-use Rattle.spec.specs.Bytes.{pick, all, text, decimal, digits, Res, ok, refused, ◌>>=◌}
+use Rattle.spec.specs.Bytes.{all, decimal, digits, Res, ok, refused, ◌>>=◌}
 use Rattle.spec.specs.Meaning.{occurs}
 use Rattle.laws.specs.Tests.{clash}
 use Rattle.laws.specs.BagCount.{occurs-append}
 use Rattle.formula.specs.Card.{Tree, Mark, literal, between, list, next, close, opens, shuts, begin, or, end, sign, symbol, spell_mark, spell, proper_mark, write, Formula, FormulaText}
-use Rattle.formula.specs.Reader.{Frame, State, wants, has, wrong, step, run, read_marks, finish}
+use Rattle.formula.specs.Reader.{Frame, State, wants, has, wrong, step, run, read_marks}
 use Rattle.formula.specs.Lexer.{sign_byte, cut, read_text}
-use Rattle.formula_laws.specs.Complete.{complete, Reads, formula-reads}
+use Rattle.formula_laws.specs.Complete.{complete, formula-reads}
 use Rattle.formula_laws.specs.Sound.{sound}
 use Rattle.formula_laws.specs.Fewest.{Shaped, written, is_opening, bracket_pairs, fewest}
-use Rattle.formula_laws.specs.Lexing.{Sparse, no-mark, one-mark, two-marks, is_literal, cut-spelt, cut_right, spelt-length, all_cons, of-proper, sign-bytes, differs, digits-one, digits_step}
+use Rattle.formula_laws.specs.Lexing.{Sparse, no-mark, one-mark, two-marks, is_literal, cut-spelt, cut_right, spelt-length, all_cons, of-proper, sign-bytes, digits-one, digits_step}
 
 -- ---- a formula has no literal behind a literal, or reading would fail
 wrong_stays : (t : List ℕ) (s : List Mark) → run t wrong s ≡ wrong
