@@ -1,5 +1,5 @@
 -- A turn's mass is at most its size where it is so of all that it reads, and the size does not grow.
-use Rattle.std.specs.Prelude.{◌≡◌, ◌⊎◌, List, [], ◌∷◌, map, ℕ, zero, suc, ◌≤◌, ◌<◌}
+use Rattle.std.specs.Prelude.{◌≡◌, ◌⊎◌, List, [], ◌∷◌, map, ℕ, ◌≤◌, ◌<◌}
 use Rattle.std.proofs.Common.{inl, inr, mul-le-mul_right, arith}
 use Rattle.spec.specs.Bytes.{In, here, there, Two}
 use Rattle.spec.specs.Transport.{plan_size, plan_mass}

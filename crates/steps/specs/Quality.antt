@@ -100,6 +100,8 @@ pub data Below : List Two → List Two → Type 0 where
 pub total-⊑ : (x : List ℕ) (l m : List Two) → Below l m → Total x l ⊑ Total x m
 unfolding plan_size plan_mass
 total-⊑ [] l m b = ⊑_refl (0, 0)
+total-⊑ (n ∷ x) (a ∷ l) [] b = elim b [ ]
+total-⊑ (n ∷ x) [] (c ∷ m) b = elim b [ ]
 total-⊑ (n ∷ x) [] [] below-nil = ⊑_refl (0, 0)
 total-⊑ (n ∷ x) (a ∷ l) (c ∷ m) (below_next h b) = plus-⊑ n a.0 a.1 (plan_size x (cells_over l)) (plan_mass x (cells_over l)) c.0 c.1 (plan_size x (cells_over m)) (plan_mass x (cells_over m)) h (total-⊑ x l m b)
 

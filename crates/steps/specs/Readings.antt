@@ -59,6 +59,7 @@ module _ {N : Type 0} (S : System N) (M : Making N) (Okay : N → Type 0) (Good 
 
   holds-look : {pool : Pool} {ps : List N} {qs : List Two} {l : List ℕ} → Holds Good pool ps qs l → (c : N) → In c ps → TermAt Good pool (look_up S.same (0, 0) ps qs) (look_up S.same 0 ps l) c
   unfolding place
+  holds-look {pool = pool} no_node c i = elim i [ ]
   holds-look {pool} (node {p = p} {q = q} {a = a} {ps = ps} {qs = qs} {l = l} h k hs) c i = go (S.same c p) refl (in-cons i) (λ j. holds-look hs c j)
     where
       go : (b : Bool) → S.same c p ≡ b → (c ≡ p) ⊎ In c ps → (In c ps → TermAt Good pool (look_up S.same (0, 0) ps qs) (look_up S.same 0 ps l) c) → TermAt Good pool (look_up S.same (0, 0) (p ∷ ps) (q ∷ qs)) (look_up S.same 0 (p ∷ ps) (a ∷ l)) c

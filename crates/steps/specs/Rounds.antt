@@ -181,6 +181,8 @@ module _ {N : Type 0} (S : System N) (Move : N → List N → List ℕ → Type 
   places_of h q (c ∷ cs) f = let d = f c here in and_place d.1 d.2 (places_of h q cs (λ e k. f e (there k)))
 
   below-places : (h r : ℕ) (q : N → Two) (cs : List N) (zs : List Two) → h ≤ r → Places S Move h cs zs → ((c : N) (z : Two) → In c cs → AtMost S Move r c z → q c ⊑ z) → Below (map q cs) zs
+  below-places h r q (c ∷ cs) [] le x5 g = elim x5 [ ]
+  below-places h r q [] (z ∷ zs) le x6 g = elim x6 [ ]
   below-places h r q [] [] le no_place g = below-nil
   below-places h r q (c ∷ cs) (z ∷ zs) le (and_place {k = k} s d rest) g = below_next (g c z here (k, le_trans s le, d)) (below-places h r q cs zs le rest (λ e y i. g e y (there i)))
 

@@ -59,6 +59,7 @@ module _ {N : Type 0} (S : System N) (q : N → Two) where
 
   pub all_new : (l : List (Act N)) (w : Turn N) (a : Act N) → In a l → (offer_all S q l w).quality ⊑ worth S q a
   unfolding offer_all
+  all_new [] w a x' = elim x' [ ]
   all_new (b ∷ l) w a here = ⊑_trans (offer_all S q l (offer S q a w)).quality (offer S q a w).quality (worth S q a) (all_old l (offer S q a w)) (offer-new a w)
   all_new (b ∷ l) w a (there i) = all_new l (offer S q b w) a i
 
