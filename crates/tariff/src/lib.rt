@@ -1,5 +1,6 @@
-// The merge for other languages: calls with the C interface, and the lengths of the work buffers.
+// The merge for other languages: calls that pass numbers and slices alone, and the lengths of the work buffers. Crate `tariff_c` gives each its C symbol.
 #![tactic(auto)]
+
 ghost use Rattle.std.specs.Prelude.{◌≡◌, length};
 ghost use Rattle.spec.specs.declared.Caller.TheVariants.{Page, Desk};
 ghost use Rattle.card_contract.specs.Calls as card;
@@ -15,8 +16,7 @@ use query::Query;
 use returned::{AddedChild, CardLengths, Lengths, NarrowedList, Returned};
 use spec::Caller;
 
-#[unsafe(no_mangle)]
-pub extern "C" fn tariff_lengths() -> Lengths
+pub fn tariff_lengths() -> Lengths
     ensures { result ≡ lengths }
 {
     returned::buffer_lengths()
@@ -35,8 +35,7 @@ fn asked(left: u16, right: u16, budget: u32, caller: Caller) -> Query
 }
 
 // The account desk's call: `merge_plain` of crate `au`, with 4,096 pairs.
-#[unsafe(no_mangle)]
-pub extern "C" fn tariff_merge(
+pub fn tariff_merge(
     image: &[u8],
     left: u16,
     right: u16,
@@ -59,8 +58,7 @@ pub extern "C" fn tariff_merge(
 }
 
 // The quote page's call: the same with 256 pairs.
-#[unsafe(no_mangle)]
-pub extern "C" fn tariff_quote(
+pub fn tariff_quote(
     image: &[u8],
     left: u16,
     right: u16,
@@ -83,13 +81,7 @@ pub extern "C" fn tariff_quote(
 }
 
 // A child in a list of so many terms: `add_child` of crate `child_list`.
-#[unsafe(no_mangle)]
-pub extern "C" fn tariff_add_child(
-    list: &mut [u64],
-    terms: usize,
-    class: u16,
-    count: u64,
-) -> AddedChild
+pub fn tariff_add_child(list: &mut [u64], terms: usize, class: u16, count: u64) -> AddedChild
     ensures { ReturnsAdded terms class count list.old list.new result }
 {
     let a = child_list::add_child(list, terms, long_size(size_u16(class)), count);
@@ -97,24 +89,21 @@ pub extern "C" fn tariff_add_child(
 }
 
 // Whether the counts of a list of so many terms fit 32 bits: `narrow` of crate `narrowing`.
-#[unsafe(no_mangle)]
-pub extern "C" fn tariff_narrow(list: &[u64], terms: usize) -> NarrowedList
+pub fn tariff_narrow(list: &[u64], terms: usize) -> NarrowedList
     ensures { ReturnsNarrowed terms list.now result }
 {
     let a = narrowing::narrow(list, terms);
     returned::numbers_of_narrowed(a)
 }
 
-#[unsafe(no_mangle)]
-pub extern "C" fn tariff_card_lengths() -> CardLengths
+pub fn tariff_card_lengths() -> CardLengths
     ensures { result ≡ card_lengths }
 {
     returned::card_lengths()
 }
 
 // The card of a listing's lines: `card_of_lines` of crate `lines_to_card`.
-#[unsafe(no_mangle)]
-pub extern "C" fn tariff_card(
+pub fn tariff_card(
     table: &[u8],
     lines: &[u8],
     frames: &mut [u64],
@@ -132,8 +121,7 @@ pub extern "C" fn tariff_card(
 }
 
 // The lines of a card: `lines_of_card` of crate `card_to_lines`.
-#[unsafe(no_mangle)]
-pub extern "C" fn tariff_read_card(
+pub fn tariff_read_card(
     table: &[u8],
     text: &[u8],
     frames: &mut [u64],

@@ -1,0 +1,133 @@
+// The static library for C: each call of crate `tariff` under its C symbol, with its clauses.
+#![tactic(auto)]
+
+ghost use Rattle.std.specs.Prelude.{◌≡◌, length};
+ghost use Rattle.spec.specs.declared.Caller.TheVariants.{Page, Desk};
+ghost use Rattle.card_contract.specs.Calls as card;
+ghost use Rattle.contract.specs.Merges.{fit_of};
+ghost use Rattle.contract.specs.Answers.{Cleared};
+ghost use Rattle.returned.specs.Cards.{card_lengths, ReturnsCard, ReturnsRead};
+ghost use Rattle.returned.specs.Children.{ReturnsAdded};
+ghost use Rattle.returned.specs.Narrows.{ReturnsNarrowed};
+ghost use Rattle.returned.specs.Returns.{lengths, Returns};
+
+use returned::{AddedChild, CardLengths, Lengths, NarrowedList, Returned};
+
+#[unsafe(no_mangle)]
+pub extern "C" fn tariff_lengths() -> Lengths
+    ensures { result ≡ lengths }
+{
+    tariff::tariff_lengths()
+}
+
+// The account desk's call: `merge_plain` of crate `au`, with 4,096 pairs.
+#[unsafe(no_mangle)]
+pub extern "C" fn tariff_merge(
+    image: &[u8],
+    left: u16,
+    right: u16,
+    budget: u32,
+    graph: &mut [u16],
+    pairs: &mut [u32],
+    work: &mut [u64],
+    flow: &mut [u64],
+    terms: &mut [u32],
+    runs: &mut [u64],
+    out: &mut [u8],
+) -> Returned
+    ensures* { do
+      let fit = fit_of 256 (length graph.old) (length pairs.old) (length work.old) (length flow.old) (length terms.old) (length runs.old)
+      ⌜ Returns Desk image.now left right budget fit out.old out.new result × Cleared fit graph.old graph.new pairs.old pairs.new work.old work.new flow.old flow.new terms.old terms.new runs.old runs.new ⌝ }
+{
+    tariff::tariff_merge(
+        image, left, right, budget, graph, pairs, work, flow, terms, runs, out,
+    )
+}
+
+// The quote page's call: the same with 256 pairs.
+#[unsafe(no_mangle)]
+pub extern "C" fn tariff_quote(
+    image: &[u8],
+    left: u16,
+    right: u16,
+    budget: u32,
+    graph: &mut [u16],
+    pairs: &mut [u32],
+    work: &mut [u64],
+    flow: &mut [u64],
+    terms: &mut [u32],
+    runs: &mut [u64],
+    out: &mut [u8],
+) -> Returned
+    ensures* { do
+      let fit = fit_of 256 (length graph.old) (length pairs.old) (length work.old) (length flow.old) (length terms.old) (length runs.old)
+      ⌜ Returns Page image.now left right budget fit out.old out.new result × Cleared fit graph.old graph.new pairs.old pairs.new work.old work.new flow.old flow.new terms.old terms.new runs.old runs.new ⌝ }
+{
+    tariff::tariff_quote(
+        image, left, right, budget, graph, pairs, work, flow, terms, runs, out,
+    )
+}
+
+// A child in a list of so many terms: `add_child` of crate `child_list`.
+#[unsafe(no_mangle)]
+pub extern "C" fn tariff_add_child(
+    list: &mut [u64],
+    terms: usize,
+    class: u16,
+    count: u64,
+) -> AddedChild
+    ensures { ReturnsAdded terms class count list.old list.new result }
+{
+    tariff::tariff_add_child(list, terms, class, count)
+}
+
+// Whether the counts of a list of so many terms fit 32 bits: `narrow` of crate `narrowing`.
+#[unsafe(no_mangle)]
+pub extern "C" fn tariff_narrow(list: &[u64], terms: usize) -> NarrowedList
+    ensures { ReturnsNarrowed terms list.now result }
+{
+    tariff::tariff_narrow(list, terms)
+}
+
+#[unsafe(no_mangle)]
+pub extern "C" fn tariff_card_lengths() -> CardLengths
+    ensures { result ≡ card_lengths }
+{
+    tariff::tariff_card_lengths()
+}
+
+// The card of a listing's lines: `card_of_lines` of crate `lines_to_card`.
+#[unsafe(no_mangle)]
+pub extern "C" fn tariff_card(
+    table: &[u8],
+    lines: &[u8],
+    frames: &mut [u64],
+    marks: &mut [u16],
+    terms: &mut [u32],
+    runs: &mut [u64],
+    out: &mut [u8],
+) -> Returned
+    ensures* { do
+      let fit = card.fits_lines frames.old marks.old terms.old runs.old
+      ⌜ ReturnsCard table.now lines.now fit out.old out.new result × card.Cleared fit frames.old frames.new marks.old marks.new terms.old terms.new runs.old runs.new ⌝ }
+{
+    tariff::tariff_card(table, lines, frames, marks, terms, runs, out)
+}
+
+// The lines of a card: `lines_of_card` of crate `card_to_lines`.
+#[unsafe(no_mangle)]
+pub extern "C" fn tariff_read_card(
+    table: &[u8],
+    text: &[u8],
+    frames: &mut [u64],
+    marks: &mut [u16],
+    terms: &mut [u32],
+    runs: &mut [u64],
+    out: &mut [u8],
+) -> Returned
+    ensures* { do
+      let fit = card.fits_text text.now frames.old marks.old terms.old runs.old
+      ⌜ ReturnsRead table.now text.now fit out.old out.new result × card.Cleared fit frames.old frames.new marks.old marks.new terms.old terms.new runs.old runs.new ⌝ }
+{
+    tariff::tariff_read_card(table, text, frames, marks, terms, runs, out)
+}
