@@ -23,9 +23,7 @@ fn ask(
     out: &mut [u8],
 ) -> Answer
     requires { framed input.now ≡ true }
-    ensures* { do
-      let fit = fit_of 256 (length graph.old) (length pairs.old) (length work.old) (length flow.old) (length terms.old) (length runs.old)
-      ⌜ Asks input.now fit out.old out.new result × Cleared fit graph.old graph.new pairs.old pairs.new work.old work.new flow.old flow.new terms.old terms.new runs.old runs.new ⌝ }
+    ensures { let fit = fit_of 256 (length graph.old) (length pairs.old) (length work.old) (length flow.old) (length terms.old) (length runs.old) in Asks input.now fit out.old out.new result × Cleared fit graph.old graph.new pairs.old pairs.new work.old work.new flow.old flow.new terms.old terms.new runs.old runs.new }
 {
     let n = image_length(input);
     let q = query_of(input);

@@ -4,7 +4,7 @@ use Rattle.std.proofs.Common.{sym, ap, ap₂, ◌∙◌, not-suc-le-zero, mul-le
 use Rattle.std.proofs.Math.ListN.{length-set}
 use Rattle.std.proofs.Math.Seq.{get_or-set_same, get_or-set_other}
 use Rattle.spec.specs.Bytes.{Two}
-use Rattle.arrays.specs.Arrays.{place_of, number_in, key_of, unkey, unkeyed, WIDTH, NEW, qualities_from, terms_from, qualities_in, terms_in, given, quality_in, term_in, Known}
+use Rattle.arrays.specs.Arrays.{number_in, key_of, unkey, unkeyed, qualities_from, terms_from, qualities_in, terms_in, given, quality_in, Known}
 
 -- ---- places and keys
 -- a pair of classes has its place in the index

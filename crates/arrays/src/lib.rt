@@ -1,5 +1,6 @@
 // The arrays of a run: the graph's pairs with an index, and what is known of each pair (`PairGraph` and the qualities of exact_fixed.rs over plain arrays).
 #![tactic(auto)]
+
 ghost use Rattle.std.specs.Prelude.{◌≡◌, ◌+◌, ◌*◌, ◌/◌, ◌%◌, ◌≤◌, ◌<◌, length, get_or};
 ghost use Rattle.arrays.specs.Arrays.{place_of, number_in, key_of, unkey, quality_in, term_in, Known};
 

@@ -39,9 +39,7 @@ pub fn merge(
     runs: &mut [u64],
     out: &mut [u8],
 ) -> Answer
-    ensures* { do
-      let fit = fits table.old graph.old pairs.old work.old flow.old terms.old runs.old
-      ⌜ Merges Desk s.now left right budget fit out.old out.new result × Table fit table.old table.new × Cleared fit graph.old graph.new pairs.old pairs.new work.old work.new flow.old flow.new terms.old terms.new runs.old runs.new ⌝ }
+    ensures { let fit = fits table.old graph.old pairs.old work.old flow.old terms.old runs.old in Merges Desk s.now left right budget fit out.old out.new result × Table fit table.old table.new × Cleared fit graph.old graph.new pairs.old pairs.new work.old work.new flow.old flow.new terms.old terms.new runs.old runs.new }
 {
     let q = asked(left, right, budget);
     merge_query(s, q, table, graph, pairs, work, flow, terms, runs, out)
@@ -66,9 +64,7 @@ pub fn merge_plain(
     runs: &mut [u64],
     out: &mut [u8],
 ) -> Answer
-    ensures* { do
-      let fit = fit_of 256 (length graph.old) (length pairs.old) (length work.old) (length flow.old) (length terms.old) (length runs.old)
-      ⌜ Merges q.caller s.now q.left q.right q.budget fit out.old out.new result × Cleared fit graph.old graph.new pairs.old pairs.new work.old work.new flow.old flow.new terms.old terms.new runs.old runs.new ⌝ }
+    ensures { let fit = fit_of 256 (length graph.old) (length pairs.old) (length work.old) (length flow.old) (length terms.old) (length runs.old) in Merges q.caller s.now q.left q.right q.budget fit out.old out.new result × Cleared fit graph.old graph.new pairs.old pairs.new work.old work.new flow.old flow.new terms.old terms.new runs.old runs.new }
 {
     let mut table = empty();
     merge_query(s, q, &mut table, graph, pairs, work, flow, terms, runs, out)

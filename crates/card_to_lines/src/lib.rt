@@ -85,9 +85,7 @@ pub fn lines_of_card(
     runs: &mut [u64],
     out: &mut [u8],
 ) -> Answer
-    ensures* { do
-      let fit = fits_text text.now frames.old marks.old terms.old runs.old
-      ⌜ Reads table.now text.now fit out.old out.new result × Cleared fit frames.old frames.new marks.old marks.new terms.old terms.new runs.old runs.new ⌝ }
+    ensures { let fit = fits_text text.now frames.old marks.old terms.old runs.old in Reads table.now text.now fit out.old out.new result × Cleared fit frames.old frames.new marks.old marks.new terms.old terms.new runs.old runs.new }
 {
     if too_short(
         text.len(),

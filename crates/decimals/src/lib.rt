@@ -1,5 +1,6 @@
 // Numbers in decimal, and texts: how many digits, and bytes written at a place.
 #![tactic(auto)]
+
 ghost use Rattle.std.specs.Prelude.{◌≡◌, ◌++◌, ◌+◌, ◌≤◌, ◌<◌, length, set};
 ghost use Rattle.spec.specs.Bytes.{decimal};
 ghost use Rattle.decimals.specs.Writing.{Wrote};

@@ -53,9 +53,7 @@ pub fn card_of_lines(
     runs: &mut [u64],
     out: &mut [u8],
 ) -> Answer
-    ensures* { do
-      let fit = fits_lines frames.old marks.old terms.old runs.old
-      ⌜ Cards table.now lines.now fit out.old out.new result × Cleared fit frames.old frames.new marks.old marks.new terms.old terms.new runs.old runs.new ⌝ }
+    ensures { let fit = fits_lines frames.old marks.old terms.old runs.old in Cards table.now lines.now fit out.old out.new result × Cleared fit frames.old frames.new marks.old marks.new terms.old terms.new runs.old runs.new }
 {
     if short(RUNS, frames.len(), marks.len(), terms.len(), runs.len()) {
         return refuse(1);

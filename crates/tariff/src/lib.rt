@@ -48,9 +48,7 @@ pub fn tariff_merge(
     runs: &mut [u64],
     out: &mut [u8],
 ) -> Returned
-    ensures* { do
-      let fit = fit_of 256 (length graph.old) (length pairs.old) (length work.old) (length flow.old) (length terms.old) (length runs.old)
-      ⌜ Returns Desk image.now left right budget fit out.old out.new result × Cleared fit graph.old graph.new pairs.old pairs.new work.old work.new flow.old flow.new terms.old terms.new runs.old runs.new ⌝ }
+    ensures { let fit = fit_of 256 (length graph.old) (length pairs.old) (length work.old) (length flow.old) (length terms.old) (length runs.old) in Returns Desk image.now left right budget fit out.old out.new result × Cleared fit graph.old graph.new pairs.old pairs.new work.old work.new flow.old flow.new terms.old terms.new runs.old runs.new }
 {
     let q = asked(left, right, budget, Caller::Desk);
     let a = au::merge_plain(image, q, graph, pairs, work, flow, terms, runs, out);
@@ -71,9 +69,7 @@ pub fn tariff_quote(
     runs: &mut [u64],
     out: &mut [u8],
 ) -> Returned
-    ensures* { do
-      let fit = fit_of 256 (length graph.old) (length pairs.old) (length work.old) (length flow.old) (length terms.old) (length runs.old)
-      ⌜ Returns Page image.now left right budget fit out.old out.new result × Cleared fit graph.old graph.new pairs.old pairs.new work.old work.new flow.old flow.new terms.old terms.new runs.old runs.new ⌝ }
+    ensures { let fit = fit_of 256 (length graph.old) (length pairs.old) (length work.old) (length flow.old) (length terms.old) (length runs.old) in Returns Page image.now left right budget fit out.old out.new result × Cleared fit graph.old graph.new pairs.old pairs.new work.old work.new flow.old flow.new terms.old terms.new runs.old runs.new }
 {
     let q = asked(left, right, budget, Caller::Page);
     let a = au::merge_plain(image, q, graph, pairs, work, flow, terms, runs, out);
@@ -112,9 +108,7 @@ pub fn tariff_card(
     runs: &mut [u64],
     out: &mut [u8],
 ) -> Returned
-    ensures* { do
-      let fit = card.fits_lines frames.old marks.old terms.old runs.old
-      ⌜ ReturnsCard table.now lines.now fit out.old out.new result × card.Cleared fit frames.old frames.new marks.old marks.new terms.old terms.new runs.old runs.new ⌝ }
+    ensures { let fit = card.fits_lines frames.old marks.old terms.old runs.old in ReturnsCard table.now lines.now fit out.old out.new result × card.Cleared fit frames.old frames.new marks.old marks.new terms.old terms.new runs.old runs.new }
 {
     let a = lines_to_card::card_of_lines(table, lines, frames, marks, terms, runs, out);
     returned::numbers_of_card(a)
@@ -130,9 +124,7 @@ pub fn tariff_read_card(
     runs: &mut [u64],
     out: &mut [u8],
 ) -> Returned
-    ensures* { do
-      let fit = card.fits_text text.now frames.old marks.old terms.old runs.old
-      ⌜ ReturnsRead table.now text.now fit out.old out.new result × card.Cleared fit frames.old frames.new marks.old marks.new terms.old terms.new runs.old runs.new ⌝ }
+    ensures { let fit = card.fits_text text.now frames.old marks.old terms.old runs.old in ReturnsRead table.now text.now fit out.old out.new result × card.Cleared fit frames.old frames.new marks.old marks.new terms.old terms.new runs.old runs.new }
 {
     let a = card_to_lines::lines_of_card(table, text, frames, marks, terms, runs, out);
     returned::numbers_of_card(a)

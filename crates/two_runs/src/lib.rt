@@ -79,9 +79,7 @@ pub fn merge_query(
     runs: &mut [u64],
     out: &mut [u8],
 ) -> Answer
-    ensures* { do
-      let fit = fits table.old graph.old pairs.old work.old flow.old terms.old runs.old
-      ⌜ Merges q.caller s.now q.left q.right q.budget fit out.old out.new result × Table fit table.old table.new × Cleared fit graph.old graph.new pairs.old pairs.new work.old work.new flow.old flow.new terms.old terms.new runs.old runs.new ⌝ }
+    ensures { let fit = fits table.old graph.old pairs.old work.old flow.old terms.old runs.old in Merges q.caller s.now q.left q.right q.budget fit out.old out.new result × Table fit table.old table.new × Cleared fit graph.old graph.new pairs.old pairs.new work.old work.new flow.old flow.new terms.old terms.new runs.old runs.new }
 {
     if short(
         table.len(),

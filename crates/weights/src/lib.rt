@@ -1,5 +1,6 @@
 // The numbers of a transport's costs (transport.rs): F, V and W = F * V + 1, and what a cell costs, size * W + mass.
 #![tactic(auto)]
+
 ghost use Rattle.std.specs.Prelude.{◌≡◌, ◌+◌, ◌*◌, ◌^◌, ◌≤◌, ◌<◌, min, max, eqb, length};
 ghost use Rattle.spec.specs.Bytes.{sum, pick};
 ghost use Rattle.spec.specs.Transport.{WIDEST};

@@ -1,10 +1,9 @@
 use Rattle.arrays.specs.Arrays.{number_in}
 use Rattle.arrays.specs.ArrayLaws.{known-below}
-use Prim.Native.Nat.{ℕ, ◌-◌, ◌*◌}
+use Prim.Native.Nat.{ℕ, ◌*◌}
 use native.Mathlib.Omega.{arith}
 use mathlib.Core.Path.{◌≡◌, ap, ◌∙◌}
 use lib.ListN.{get_or}
-use borrow.Author.Rules.{rules}
 use Rattle.arrays.proofs.begin_of.Goals as goal
 
 pub returns : goal.returns

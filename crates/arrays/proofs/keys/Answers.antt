@@ -1,5 +1,4 @@
 use Rattle.arrays.specs.ArrayLaws.{square}
-use Prim.Native.Nat.{◌-◌}
 use native.Mathlib.Omega.{arith}
 use mathlib.Core.Path.{refl}
 use Rattle.arrays.proofs.keys.Goals as goal

@@ -1,5 +1,4 @@
 use Rattle.arrays.specs.ArrayLaws.{place-lt, square}
-use Prim.Native.Nat.{◌-◌}
 use native.Mathlib.Omega.{arith}
 use mathlib.Core.Path.{refl}
 use Rattle.arrays.proofs.place.Goals as goal

@@ -1,6 +1,5 @@
-use Rattle.spec.specs.Bytes.{text, decimal}
+use Rattle.spec.specs.Bytes.{decimal}
 use Rattle.decimals.specs.WriteLaws.{room-first, room-second, wrote-both}
-use borrow.Author.Rules.{rules}
 use Rattle.decimals.proofs.labelled.Goals as goal
 
 pub text-a-requires : goal.text-a-requires

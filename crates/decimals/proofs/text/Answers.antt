@@ -1,10 +1,9 @@
 use Rattle.decimals.specs.WriteLaws.{wrote-all}
-use lib.Seq.{paste, paste-zero, paste-suc}
-use borrow.Author.Rules.{rules}
-use Prim.Native.Nat.{suc, ◌≤◌, ◌-◌, ◌+◌}
+use lib.Seq.{paste-zero, paste-suc}
+use Prim.Native.Nat.{suc, ◌+◌}
 use native.Mathlib.Omega.{arith}
 use mathlib.Core.Path.{◌≡◌, refl}
-use lib.ListN.{length, length-set}
+use lib.ListN.{length-set}
 use Rattle.decimals.proofs.text.Goals as goal
 
 pub loop-i-init : goal.loop-i-init

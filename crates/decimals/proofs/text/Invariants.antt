@@ -1,10 +1,7 @@
-use Rattle.decimals.specs.WriteLaws.{wrote-all}
-use lib.Seq.{paste, paste-zero, paste-suc}
-use borrow.Author.Rules.{rules}
-use Prim.Native.Nat.{suc, ◌≤◌, ◌-◌, ◌+◌}
-use native.Mathlib.Omega.{arith}
-use mathlib.Core.Path.{◌≡◌, refl}
-use lib.ListN.{length, length-set}
+use lib.Seq.{paste}
+use Prim.Native.Nat.{◌≤◌, ◌-◌}
+use mathlib.Core.Path.{◌≡◌}
+use lib.ListN.{length}
 use Rattle.decimals.proofs.text.Given as goal
 
 abbrev pub invariant-loop-i : goal.invariant-loop-i

@@ -1,11 +1,5 @@
 use Rattle.weights.proofs.Totals.{sum-start, sum-next, sum-end}
-use Rattle.spec.specs.Bytes.{sum}
-use lib.ListN.{drop}
-use borrow.Author.Rules.{rules}
-use Prim.Native.Nat.{◌≤◌, ◌-◌, ◌+◌, ◌*◌, ◌^◌}
 use native.Mathlib.Omega.{arith}
-use mathlib.Core.Path.{◌≡◌}
-use lib.ListN.{length}
 use Rattle.weights.proofs.total.Goals as goal
 
 pub loop-i-init : goal.loop-i-init

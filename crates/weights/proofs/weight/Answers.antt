@@ -1,6 +1,5 @@
 use Rattle.weights.proofs.Totals.{weight_is}
 use native.Mathlib.Omega.{arith}
-use borrow.Author.Rules.{rules}
 use Rattle.weights.proofs.weight.Goals as goal
 
 pub returns : goal.returns
