@@ -1,5 +1,6 @@
 // The pairs of a graph entered into the pair table, and counted from the queried pair on.
 #![tactic(auto)]
+
 ghost use Rattle.std.specs.Prelude.{◌≡◌, ◌+◌, ◌-◌, get_or};
 ghost use Rattle.pair_count.specs.Counted.{not_new, pair_at, entered_of, counted_of};
 
