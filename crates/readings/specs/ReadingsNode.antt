@@ -153,14 +153,14 @@ module _ (t : Tables) {N : Type 0} (ways : ℕ) (class : N → ℕ → ℕ) wher
   sizes [] no_term = refl
   sizes (n ∷ x) no_term = refl
   sizes [] (and_term g gs) = refl
-  sizes (n ∷ x) (and_term {a = a} {ts = ts} g gs) = omega (arith, sum-spread size a n (spread ts x), sizes x gs, ap (λ (z : Two). n * z.0) g.quality)
+  sizes (n ∷ x) (and_term {p = p} {q = q} {a = a} {ps = ps} {qs = qs} {ts = ts} g gs) = omega (arith, sum-spread size a n (spread ts x), sizes {ps = ps} {qs = qs} {ts = ts} x gs, ap (λ (z : Two). n * z.0) g.quality)
 
   masses : {ps : List N} {qs : List Two} {ts : List Term} (x : List ℕ) → TermsFor ps qs ts → sum (map mass (spread ts x)) ≡ plan_mass x (cells_over qs)
   unfolding spread sum plan_mass
   masses [] no_term = refl
   masses (n ∷ x) no_term = refl
   masses [] (and_term g gs) = refl
-  masses (n ∷ x) (and_term {a = a} {ts = ts} g gs) = omega (arith, sum-spread mass a n (spread ts x), masses x gs, ap (λ (z : Two). n * z.1) g.quality)
+  masses (n ∷ x) (and_term {p = p} {q = q} {a = a} {ps = ps} {qs = qs} {ts = ts} g gs) = omega (arith, sum-spread mass a n (spread ts x), masses {ps = ps} {qs = qs} {ts = ts} x gs, ap (λ (z : Two). n * z.1) g.quality)
 
   -- An operation over places with counts x: "1 plus the sum of count × size, and the sum of count × mass", and it belongs, read in every way.
   pub good-node : (p : N) (o : ℕ) (ps : List N) (qs : List Two) (ts : List Term) (x : List ℕ) (r : Runs) → TermsFor ps qs ts
