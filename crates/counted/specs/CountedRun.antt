@@ -44,6 +44,7 @@ data Holds (pool : Pool) (f : Two → Term) : List Two → List ℕ → Type 0 w
 
 holds-look : {pool : Pool} {f : Two → Term} {cs : List Two} {l : List ℕ} → Holds pool f cs l → (c : Two) → In c cs → Stands pool (look_up 0 cs l) f c
 unfolding place
+holds-look {pool = pool} {f = f} no_pair c i = elim i [ ]
 holds-look {pool} {f} (pair {c = d} {a = a} {cs = cs} {l = l} h k hs) c i = go (same_two c d) refl (in-cons i) (λ j. holds-look hs c j)
   where
     go : (b : Bool) → same_two c d ≡ b → (c ≡ d) ⊎ In c cs → (In c cs → Stands pool (look_up 0 cs l) f c) → Stands pool (look_up 0 (d ∷ cs) (a ∷ l)) f c

@@ -61,6 +61,7 @@ ends-pairs who t p B C ps e b k q i m l = go (dec_lt k (length ps))
 -- at most as many as the places that the pair's actions join
 each-longer : {A B : Type 0} (f : A → List B) (l : List A) (x : A) → In x l → length (f x) ≤ length (each f l)
 unfolding each
+each-longer {A = A} {B = B} f mathlib.Core.List.[] x x3 = elim x3 [ ]
 each-longer f (y ∷ l) x here = omega (arith, length-append (f x) (each f l))
 each-longer f (y ∷ l) x (there i) = omega (arith, length-append (f y) (each f l), each-longer f l x i)
 
