@@ -1,5 +1,6 @@
 // A pair given its size, mass and term: what a round starts from, or what the round at hand gives it.
 #![tactic(auto)]
+
 ghost use Rattle.std.specs.Prelude.{◌≡◌, ◌+◌, ◌<◌, length};
 ghost use Rattle.arrays.specs.Arrays.{given};
 

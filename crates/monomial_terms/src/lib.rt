@@ -1,5 +1,6 @@
 // The terms of a monomial in a lent buffer: each term's class and its count.
 #![tactic(auto)]
+
 ghost use Rattle.std.specs.Prelude.{◌≡◌, ◌+◌, ◌*◌, ◌<◌, length, get_or};
 ghost use Rattle.monomial_terms.specs.Terms.{terms};
 

@@ -2,7 +2,6 @@ use Rattle.monomial_terms.specs.TermLaws.{terms-at}
 use Rattle.spec.specs.Bytes.{Two}
 use native.Mathlib.Omega.{arith}
 use mathlib.Core.Path.{ap, sym}
-use borrow.Author.Rules.{rules}
 use Rattle.monomial_terms.proofs.count_at.Goals as goal
 
 pub returns : goal.returns
