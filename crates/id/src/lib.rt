@@ -1,6 +1,7 @@
 // The ten node kinds by the Rust's numbers (id.rs), and the width of a count (multiplicity.rs).
 // 0 Plain0, 1 Plain1, 2 Plain2, 3 Plain3, 4 PlainN, 5 SPair, 6 Seq, 7 MSet, 8 Set, 9 Lit
 #![tactic(auto)]
+
 ghost use Rattle.std.specs.Prelude.{◌≡◌, ◌<◌, get_or};
 ghost use Rattle.spec.specs.Image.{arities, arity_right, is_ac, is_commutative};
 ghost use Rattle.spec.specs.Image as Image;

@@ -1,5 +1,5 @@
 -- The settings of a call, as the definitions take them.
-use Rattle.std.specs.Prelude.{ℕ, ◌≤◌}
+use Rattle.std.specs.Prelude.{◌≤◌}
 use Rattle.spec.specs.Bytes as bytes
 use Rattle.spec.specs.Bytes.{Two}
 use Rattle.query.specs.declared.Limits.{Limits}

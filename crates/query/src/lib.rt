@@ -1,5 +1,6 @@
 // What a call is asked and how much it may enter: settings that travel by value.
 #![tactic(auto)]
+
 ghost use Rattle.std.specs.Prelude.{◌≡◌};
 ghost use Rattle.spec.specs.Run.{limit_of, limits_for};
 ghost use Rattle.query.specs.Settings.{limits_of};

@@ -9,12 +9,6 @@ use Rattle.cost_matrix.specs.Matrix.{cap_of}
 use Rattle.augmenting_path.proofs.left_on.Goals as goal
 
 -- the cell of a step is one of the problem's
-forward-cell : (d : goal.After-place-k) → d.place-k.result < d.args.r * d.args.c
-forward-cell d = let h = d.requires.4.from_row (omega arith) d.if-u-r.true in rw d.place-k.ensures (digits_lt (omega arith) (omega arith))
-
-back-cell : (d : goal.After-place-k-2) → d.place-k-2.result < d.args.r * d.args.c
-back-cell d = let h = d.requires.4.from_column (omega arith) in let q = d.requires.4.to_row (omega arith) d.if-v-r.false in rw d.place-k-2.ensures (digits_lt (omega arith) (omega arith))
-
 pub overflow_sub-result : goal.overflow_sub-result
 overflow_sub-result c = let h = c.requires.4.from_source c.if-u-eq0.true in search rules
 
@@ -37,22 +31,22 @@ pub place-k-requires : goal.place-k-requires
 place-k-requires c = let h = c.requires.4.from_row (omega arith) c.if-u-r.true in (omega arith, omega arith, omega arith)
 
 pub overflow_mul-k : goal.overflow_mul-k
-overflow_mul-k c = let h = forward-cell c in search rules
+overflow_mul-k c = let h = (let it : c.place-k.result < c.args.r * c.args.c = let h = c.requires.4.from_row (omega arith) c.if-u-r.true in rw c.place-k.ensures (digits_lt (omega arith) (omega arith)) in it) in search rules
 
 pub overflow_add-k : goal.overflow_add-k
-overflow_add-k c = let h = forward-cell c in search rules
+overflow_add-k c = let h = (let it : c.place-k.result < c.args.r * c.args.c = let h = c.requires.4.from_row (omega arith) c.if-u-r.true in rw c.place-k.ensures (digits_lt (omega arith) (omega arith)) in it) in search rules
 
 pub offset_bounds-costs-k : goal.offset_bounds-costs-k
-offset_bounds-costs-k c = let h = forward-cell c in search rules
+offset_bounds-costs-k c = let h = (let it : c.place-k.result < c.args.r * c.args.c = let h = c.requires.4.from_row (omega arith) c.if-u-r.true in rw c.place-k.ensures (digits_lt (omega arith) (omega arith)) in it) in search rules
 
 pub bounds-costs-k : goal.bounds-costs-k
-bounds-costs-k c = let h = forward-cell c.before in search rules
+bounds-costs-k c = let h = (let it : c.place-k.result < c.args.r * c.args.c = let h = c.requires.4.from_row (omega arith) c.if-u-r.true in rw c.place-k.ensures (digits_lt (omega arith) (omega arith)) in it) in search rules
 
 pub offset_bounds-flow-k : goal.offset_bounds-flow-k
-offset_bounds-flow-k c = let h = forward-cell c.before in search rules
+offset_bounds-flow-k c = let h = (let it : c.place-k.result < c.args.r * c.args.c = let h = c.requires.4.from_row (omega arith) c.if-u-r.true in rw c.place-k.ensures (digits_lt (omega arith) (omega arith)) in it) in search rules
 
 pub bounds-flow-k : goal.bounds-flow-k
-bounds-flow-k c = let h = forward-cell c.before.before in search rules
+bounds-flow-k c = let h = (let it : c.place-k.result < c.args.r * c.args.c = let h = c.requires.4.from_row (omega arith) c.if-u-r.true in rw c.place-k.ensures (digits_lt (omega arith) (omega arith)) in it) in search rules
 
 pub returns-then-u-r : goal.returns-then-u-r
 returns-then-u-r c = let a = c.args in
@@ -77,10 +71,10 @@ pub place-k-requires-2 : goal.place-k-requires-2
 place-k-requires-2 c = let h = c.requires.4.from_column (omega arith) in let q = c.requires.4.to_row (omega arith) c.if-v-r.false in (omega arith, omega arith, omega arith)
 
 pub offset_bounds-flow-k-2 : goal.offset_bounds-flow-k-2
-offset_bounds-flow-k-2 c = let h = back-cell c in search rules
+offset_bounds-flow-k-2 c = let h = (let it : c.place-k-2.result < c.args.r * c.args.c = let h = c.requires.4.from_column (omega arith) in let q = c.requires.4.to_row (omega arith) c.if-v-r.false in rw c.place-k-2.ensures (digits_lt (omega arith) (omega arith)) in it) in search rules
 
 pub bounds-flow-k-2 : goal.bounds-flow-k-2
-bounds-flow-k-2 c = let h = back-cell c.before in search rules
+bounds-flow-k-2 c = let h = (let it : c.place-k-2.result < c.args.r * c.args.c = let h = c.requires.4.from_column (omega arith) in let q = c.requires.4.to_row (omega arith) c.if-v-r.false in rw c.place-k-2.ensures (digits_lt (omega arith) (omega arith)) in it) in search rules
 
 pub returns : goal.returns
 returns c = let a = c.args in

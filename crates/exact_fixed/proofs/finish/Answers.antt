@@ -17,10 +17,7 @@ use Prim.Native.Nat.{ℕ}
 use borrow.Author.Rules.{rules}
 use Rattle.exact_fixed.proofs.finish.Goals as goal
 
-abbrev run-of : goal.Start → Res Outcome
-run-of b = run_of (limits_of b.args.lim) (tables_of b.args.s.now) (asked_of b.args.q) b.args.q.budget
-
-told : (b : goal.Start) (j : ℕ) → j ≡ skipped_of b.args.b → {out out' : List ℕ} {r : Answer} → Answers j (run-of b) out out' r → Answers (skipped_in (limits_of b.args.lim) (tables_of b.args.s.now) (asked_of b.args.q) b.args.q.budget) (run-of b) out out' r
+told : (b : goal.Start) (j : ℕ) → j ≡ skipped_of b.args.b → {out out' : List ℕ} {r : Answer} → Answers j ((run_of (limits_of b.args.lim) (tables_of b.args.s.now) (asked_of b.args.q) b.args.q.budget)) out out' r → Answers (skipped_in (limits_of b.args.lim) (tables_of b.args.s.now) (asked_of b.args.q) b.args.q.budget) ((run_of (limits_of b.args.lim) (tables_of b.args.s.now) (asked_of b.args.q) b.args.q.budget)) out out' r
 told b j e {out = out} {out' = out'} {r = r} Z = finish-answers (limits_of b.args.lim) (tables_of b.args.s.now) (asked_of b.args.q) b.args.q.budget b.args.im.classes b.args.graph.now b.args.terms.now b.args.runs.now b.args.b b.requires.5 j e out out' r Z
 
 pub start-x-requires : goal.start-x-requires
@@ -34,7 +31,7 @@ conclude-requires c =
     let s = c.start-x in
     let z = s.new.pairs in
     let e = c.in-Ended.is in
-    ran-listable (run-of c) a.graph.now c.start-x.new.terms c.start-x.new.runs c.in-Ended.y (follows-ended (limits_of a.lim) (tables_of a.s.now) (run-of c) a.q.budget a.im.classes a.graph.now z c.start-x.new.terms c.start-x.new.runs s.result s.ensures _ e)
+    ran-listable ((run_of (limits_of c.args.lim) (tables_of c.args.s.now) (asked_of c.args.q) c.args.q.budget)) a.graph.now c.start-x.new.terms c.start-x.new.runs c.in-Ended.y (follows-ended (limits_of a.lim) (tables_of a.s.now) ((run_of (limits_of c.args.lim) (tables_of c.args.s.now) (asked_of c.args.q) c.args.q.budget)) a.q.budget a.im.classes a.graph.now z c.start-x.new.terms c.start-x.new.runs s.result s.ensures _ e)
 
 pub shape_of-graph-in-Ended : goal.shape_of-graph-in-Ended
 shape_of-graph-in-Ended c = omega (arith, c.conclude.auto, c.start-x.auto)
@@ -64,7 +61,7 @@ returns-in-Ended c =
     let z = s.new.pairs in
     let e = c.in-Ended.is in
     let o = c.conclude in
-    (told c c.skipped_of-k.result c.skipped_of-k.ensures (ran-answers (run-of c) a.graph.now c.start-x.new.terms c.start-x.new.runs c.skipped_of-k.result c.in-Ended.y a.out.now _ _ (follows-ended (limits_of a.lim) (tables_of a.s.now) (run-of c) a.q.budget a.im.classes a.graph.now z c.start-x.new.terms c.start-x.new.runs s.result s.ensures _ e) o.ensures.0), cleared-same o.ensures.1 refl (omega (arith, s.auto)) refl refl (omega (arith, s.auto)) (omega (arith, s.auto)))
+    (told c c.skipped_of-k.result c.skipped_of-k.ensures (ran-answers ((run_of (limits_of c.args.lim) (tables_of c.args.s.now) (asked_of c.args.q) c.args.q.budget)) a.graph.now c.start-x.new.terms c.start-x.new.runs c.skipped_of-k.result c.in-Ended.y a.out.now _ _ (follows-ended (limits_of a.lim) (tables_of a.s.now) ((run_of (limits_of c.args.lim) (tables_of c.args.s.now) (asked_of c.args.q) c.args.q.budget)) a.q.budget a.im.classes a.graph.now z c.start-x.new.terms c.start-x.new.runs s.result s.ensures _ e) o.ensures.0), cleared-same o.ensures.1 refl (omega (arith, s.auto)) refl refl (omega (arith, s.auto)) (omega (arith, s.auto)))
 
 pub run_rounds-requires : goal.run_rounds-requires
 run_rounds-requires c =
@@ -74,7 +71,7 @@ run_rounds-requires c =
     let e = c.in-Rounds.is in
     let L = c.requires.4 in
     let u = L.rooms in
-    let T = follows-rounds (limits_of a.lim) (tables_of a.s.now) (run-of c) a.q.budget a.im.classes a.graph.now z c.start-x.new.terms c.start-x.new.runs s.result s.ensures _ _ e in
+    let T = follows-rounds (limits_of a.lim) (tables_of a.s.now) ((run_of (limits_of c.args.lim) (tables_of c.args.s.now) (asked_of c.args.q) c.args.q.budget)) a.q.budget a.im.classes a.graph.now z c.start-x.new.terms c.start-x.new.runs s.result s.ensures _ _ e in
     (c.requires.0, c.requires.1, T.graphs, omega (arith, L.numbers, s.auto), L.marks, L.scratch, T.holds, record { few = u.few; ends = u.ends; long = omega (arith, u.long, s.auto); roomy = omega (arith, u.roomy, s.auto) }, T.within, T.stands, T.left)
 
 pub shape_of-graph-in-Rounds : goal.shape_of-graph-in-Rounds
@@ -105,4 +102,4 @@ returns-in-Rounds c =
     let z = s.new.pairs in
     let e = c.in-Rounds.is in
     let o = c.run_rounds in
-    (told c c.skipped_of-k.result c.skipped_of-k.ensures (rounds-answer (follows-rounds (limits_of a.lim) (tables_of a.s.now) (run-of c) a.q.budget a.im.classes a.graph.now z c.start-x.new.terms c.start-x.new.runs s.result s.ensures _ _ e) c.skipped_of-k.result a.out.now _ _ o.ensures.0), cleared-same o.ensures.1 refl (omega (arith, s.auto)) refl refl (omega (arith, s.auto)) (omega (arith, s.auto)))
+    (told c c.skipped_of-k.result c.skipped_of-k.ensures (rounds-answer (follows-rounds (limits_of a.lim) (tables_of a.s.now) ((run_of (limits_of c.args.lim) (tables_of c.args.s.now) (asked_of c.args.q) c.args.q.budget)) a.q.budget a.im.classes a.graph.now z c.start-x.new.terms c.start-x.new.runs s.result s.ensures _ _ e) c.skipped_of-k.result a.out.now _ _ o.ensures.0), cleared-same o.ensures.1 refl (omega (arith, s.auto)) refl refl (omega (arith, s.auto)) (omega (arith, s.auto)))

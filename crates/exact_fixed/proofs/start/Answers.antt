@@ -7,11 +7,6 @@ use native.Mathlib.Omega.{arith}
 use borrow.Author.Rules.{rules}
 use Rattle.exact_fixed.proofs.start.Goals as goal
 
-asked : (b : goal.Start) → IsPair (tables_of b.args.s.now) (asked_of b.args.q)
-asked b =
-    let n = classes-many b.args.s.now b.args.im b.requires.0 in
-    (omega (arith, b.requires.2, n), omega (arith, b.requires.3, n))
-
 pub returns-in-Stopped : goal.returns-in-Stopped
 returns-in-Stopped c =
     let a = c.args in
@@ -20,14 +15,14 @@ returns-in-Stopped c =
 pub returns-in-Cut : goal.returns-in-Cut
 returns-in-Cut c =
     let a = c.args in
-    finish-cut (limits_of a.lim) (tables_of a.s.now) (asked_of a.q) a.q.budget a.im.classes a.graph.now a.terms.now a.runs.now c.requires.1 (asked c) c.requires.5 _ _ a.b c.in-Cut.is c.requires.9 c.report_started-o.result c.report_started-o.ensures
+    finish-cut (limits_of a.lim) (tables_of a.s.now) (asked_of a.q) a.q.budget a.im.classes a.graph.now a.terms.now a.runs.now c.requires.1 ((let it : IsPair (tables_of c.args.s.now) (asked_of c.args.q) = let n = classes-many c.args.s.now c.args.im c.requires.0 in (omega (arith, c.requires.2, n), omega (arith, c.requires.3, n)) in it)) c.requires.5 _ _ a.b c.in-Cut.is c.requires.9 c.report_started-o.result c.report_started-o.ensures
 
 pub start_all-x-requires : goal.start_all-x-requires
 start_all-x-requires c =
     let a = c.args in
     let e = c.in-All.is in
-    let G = all-graphs (limits_of a.lim) (tables_of a.s.now) (asked_of a.q) a.q.budget a.im.classes a.graph.now a.terms.now a.runs.now c.requires.1 (asked c) _ _ _ _ a.b e c.requires.9 (classes-many a.s.now a.im c.requires.0) c.requires.4 in
-    (c.requires.0, c.requires.1, omega (arith, G.few, c.requires.6), omega (arith, G.few, c.requires.4), G.pairs, omega (arith, G.few, c.requires.7), all-holds (limits_of a.lim) (tables_of a.s.now) (asked_of a.q) a.q.budget a.im.classes a.graph.now a.terms.now a.runs.now c.requires.1 (asked c) _ _ _ _ a.b e c.requires.9, c.requires.8, all-within (limits_of a.lim) (tables_of a.s.now) (asked_of a.q) a.q.budget a.im.classes a.graph.now a.terms.now a.runs.now c.requires.1 (asked c) _ _ _ _ a.b e c.requires.9)
+    let G = all-graphs (limits_of a.lim) (tables_of a.s.now) (asked_of a.q) a.q.budget a.im.classes a.graph.now a.terms.now a.runs.now c.requires.1 ((let it : IsPair (tables_of c.args.s.now) (asked_of c.args.q) = let n = classes-many c.args.s.now c.args.im c.requires.0 in (omega (arith, c.requires.2, n), omega (arith, c.requires.3, n)) in it)) _ _ _ _ a.b e c.requires.9 (classes-many a.s.now a.im c.requires.0) c.requires.4 in
+    (c.requires.0, c.requires.1, omega (arith, G.few, c.requires.6), omega (arith, G.few, c.requires.4), G.pairs, omega (arith, G.few, c.requires.7), all-holds (limits_of a.lim) (tables_of a.s.now) (asked_of a.q) a.q.budget a.im.classes a.graph.now a.terms.now a.runs.now c.requires.1 ((let it : IsPair (tables_of c.args.s.now) (asked_of c.args.q) = let n = classes-many c.args.s.now c.args.im c.requires.0 in (omega (arith, c.requires.2, n), omega (arith, c.requires.3, n)) in it)) _ _ _ _ a.b e c.requires.9, c.requires.8, all-within (limits_of a.lim) (tables_of a.s.now) (asked_of a.q) a.q.budget a.im.classes a.graph.now a.terms.now a.runs.now c.requires.1 ((let it : IsPair (tables_of c.args.s.now) (asked_of c.args.q) = let n = classes-many c.args.s.now c.args.im c.requires.0 in (omega (arith, c.requires.2, n), omega (arith, c.requires.3, n)) in it)) _ _ _ _ a.b e c.requires.9)
 
 pub returns-in-Full : goal.returns-in-Full
 returns-in-Full c =
@@ -35,7 +30,7 @@ returns-in-Full c =
     let e = c.in-All.is in
     let s = c.start_all-x in
     let z = s.new.pairs in
-    all-full (limits_of a.lim) (tables_of a.s.now) (asked_of a.q) a.q.budget a.im.classes a.graph.now a.terms.now a.runs.now c.requires.1 (asked c) _ _ _ _ a.b e c.requires.9 (classes-many a.s.now a.im c.requires.0) c.requires.4 z c.start_all-x.new.terms c.start_all-x.new.runs s.result s.ensures c.in-Full.is
+    all-full (limits_of a.lim) (tables_of a.s.now) (asked_of a.q) a.q.budget a.im.classes a.graph.now a.terms.now a.runs.now c.requires.1 ((let it : IsPair (tables_of c.args.s.now) (asked_of c.args.q) = let n = classes-many c.args.s.now c.args.im c.requires.0 in (omega (arith, c.requires.2, n), omega (arith, c.requires.3, n)) in it)) _ _ _ _ a.b e c.requires.9 (classes-many a.s.now a.im c.requires.0) c.requires.4 z c.start_all-x.new.terms c.start_all-x.new.runs s.result s.ensures c.in-Full.is
 
 pub returns-in-Cut-x : goal.returns-in-Cut-x
 returns-in-Cut-x c =
@@ -43,7 +38,7 @@ returns-in-Cut-x c =
     let e = c.in-All.is in
     let s = c.start_all-x in
     let z = s.new.pairs in
-    all-cut (limits_of a.lim) (tables_of a.s.now) (asked_of a.q) a.q.budget a.im.classes a.graph.now a.terms.now a.runs.now c.requires.1 (asked c) _ _ _ _ a.b e c.requires.9 (classes-many a.s.now a.im c.requires.0) c.requires.4 z c.start_all-x.new.terms c.start_all-x.new.runs s.result s.ensures c.requires.5 c.in-Cut-x.is c.report_started-o-in-Cut-x.result c.report_started-o-in-Cut-x.ensures
+    all-cut (limits_of a.lim) (tables_of a.s.now) (asked_of a.q) a.q.budget a.im.classes a.graph.now a.terms.now a.runs.now c.requires.1 ((let it : IsPair (tables_of c.args.s.now) (asked_of c.args.q) = let n = classes-many c.args.s.now c.args.im c.requires.0 in (omega (arith, c.requires.2, n), omega (arith, c.requires.3, n)) in it)) _ _ _ _ a.b e c.requires.9 (classes-many a.s.now a.im c.requires.0) c.requires.4 z c.start_all-x.new.terms c.start_all-x.new.runs s.result s.ensures c.requires.5 c.in-Cut-x.is c.report_started-o-in-Cut-x.result c.report_started-o-in-Cut-x.ensures
 
 pub returns-in-All-x : goal.returns-in-All-x
 returns-in-All-x c =
@@ -51,4 +46,4 @@ returns-in-All-x c =
     let e = c.in-All.is in
     let s = c.start_all-x in
     let z = s.new.pairs in
-    all-rounds (limits_of a.lim) (tables_of a.s.now) (asked_of a.q) a.q.budget a.im.classes a.graph.now a.terms.now a.runs.now c.requires.1 (asked c) _ _ _ _ a.b e c.requires.9 (classes-many a.s.now a.im c.requires.0) c.requires.4 z c.start_all-x.new.terms c.start_all-x.new.runs s.result s.ensures _ c.in-All-x.is
+    all-rounds (limits_of a.lim) (tables_of a.s.now) (asked_of a.q) a.q.budget a.im.classes a.graph.now a.terms.now a.runs.now c.requires.1 ((let it : IsPair (tables_of c.args.s.now) (asked_of c.args.q) = let n = classes-many c.args.s.now c.args.im c.requires.0 in (omega (arith, c.requires.2, n), omega (arith, c.requires.3, n)) in it)) _ _ _ _ a.b e c.requires.9 (classes-many a.s.now a.im c.requires.0) c.requires.4 z c.start_all-x.new.terms c.start_all-x.new.runs s.result s.ensures _ c.in-All-x.is

@@ -1,4 +1,3 @@
-use borrow.Author.Rules.{rules}
 use native.Mathlib.Omega.{arith}
 use Rattle.spec.specs.Image.{arities}
 use Rattle.id.proofs.Laws.{arity-in, arity-out}

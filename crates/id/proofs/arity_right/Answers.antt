@@ -1,4 +1,3 @@
-use borrow.Author.Rules.{rules}
 use Rattle.id.proofs.Laws.{right-free, right-fixed}
 use Rattle.id.proofs.arity_right.Goals as goal
 

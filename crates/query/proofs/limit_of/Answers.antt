@@ -1,4 +1,3 @@
-use borrow.Author.Rules.{rules}
 use mathlib.Core.Path.{ap, sym}
 use Rattle.spec.specs.Run.{limit_of}
 use Rattle.query.proofs.limit_of.Goals as goal

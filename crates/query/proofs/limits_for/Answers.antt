@@ -1,6 +1,5 @@
 use Prim.Native.Nat.{ℕ}
 use mathlib.Core.Path.{ap}
-use borrow.Author.Rules.{rules}
 use Rattle.spec.specs.Bytes.{Limits}
 use Rattle.query.proofs.limits_for.Goals as goal
 

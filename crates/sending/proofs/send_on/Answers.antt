@@ -8,12 +8,6 @@ use borrow.Author.Rules.{rules}
 use Rattle.sending.proofs.send_on.Goals as goal
 
 -- the cell of a step is one of the problem's
-forward-cell : (d : goal.After-place-k) → d.place-k.result < d.args.r * d.args.c
-forward-cell d = let h = d.requires.3.from_row (omega arith) d.if-u-r.true in rw d.place-k.ensures (digits_lt (omega arith) (omega arith))
-
-back-cell : (d : goal.After-place-k-2) → d.place-k-2.result < d.args.r * d.args.c
-back-cell d = let h = d.requires.3.from_column (omega arith) in let q = d.requires.3.to_row (omega arith) d.if-v-r.false in rw d.place-k-2.ensures (digits_lt (omega arith) (omega arith))
-
 pub returns-then-u-eq0 : goal.returns-then-u-eq0
 returns-then-u-eq0 c = let a = c.args in sent-source a.r a.c a.n a.u a.v a.flow.now c.if-u-eq0.true
 
@@ -27,16 +21,16 @@ pub place-k-requires : goal.place-k-requires
 place-k-requires c = let h = c.requires.3.from_row (omega arith) c.if-u-r.true in (omega arith, omega arith, omega arith)
 
 pub offset_bounds-flow-k : goal.offset_bounds-flow-k
-offset_bounds-flow-k c = let h = forward-cell c in search rules
+offset_bounds-flow-k c = let h = (let it : c.place-k.result < c.args.r * c.args.c = let h = c.requires.3.from_row (omega arith) c.if-u-r.true in rw c.place-k.ensures (digits_lt (omega arith) (omega arith)) in it) in search rules
 
 pub bounds-flow-k : goal.bounds-flow-k
-bounds-flow-k c = let h = forward-cell c.before in search rules
+bounds-flow-k c = let h = (let it : c.place-k.result < c.args.r * c.args.c = let h = c.requires.3.from_row (omega arith) c.if-u-r.true in rw c.place-k.ensures (digits_lt (omega arith) (omega arith)) in it) in search rules
 
 pub overflow_add-x : goal.overflow_add-x
-overflow_add-x c = record { fits = c.requires.4 c.place-k.result (forward-cell c.before) }
+overflow_add-x c = record { fits = c.requires.4 c.place-k.result ((let it : c.place-k.result < c.args.r * c.args.c = let h = c.requires.3.from_row (omega arith) c.if-u-r.true in rw c.place-k.ensures (digits_lt (omega arith) (omega arith)) in it)) }
 
 pub put_u64-requires : goal.put_u64-requires
-put_u64-requires c = let h = forward-cell c.before.before in search rules
+put_u64-requires c = let h = (let it : c.place-k.result < c.args.r * c.args.c = let h = c.requires.3.from_row (omega arith) c.if-u-r.true in rw c.place-k.ensures (digits_lt (omega arith) (omega arith)) in it) in search rules
 
 pub returns-then-u-r : goal.returns-then-u-r
 returns-then-u-r c = let a = c.args in
@@ -52,13 +46,13 @@ pub place-k-requires-2 : goal.place-k-requires-2
 place-k-requires-2 c = let h = c.requires.3.from_column (omega arith) in let q = c.requires.3.to_row (omega arith) c.if-v-r.false in (omega arith, omega arith, omega arith)
 
 pub offset_bounds-flow-k-2 : goal.offset_bounds-flow-k-2
-offset_bounds-flow-k-2 c = let h = back-cell c in search rules
+offset_bounds-flow-k-2 c = let h = (let it : c.place-k-2.result < c.args.r * c.args.c = let h = c.requires.3.from_column (omega arith) in let q = c.requires.3.to_row (omega arith) c.if-v-r.false in rw c.place-k-2.ensures (digits_lt (omega arith) (omega arith)) in it) in search rules
 
 pub bounds-flow-k-2 : goal.bounds-flow-k-2
-bounds-flow-k-2 c = let h = back-cell c.before in search rules
+bounds-flow-k-2 c = let h = (let it : c.place-k-2.result < c.args.r * c.args.c = let h = c.requires.3.from_column (omega arith) in let q = c.requires.3.to_row (omega arith) c.if-v-r.false in rw c.place-k-2.ensures (digits_lt (omega arith) (omega arith)) in it) in search rules
 
 pub put_u64-requires-2 : goal.put_u64-requires-2
-put_u64-requires-2 c = let h = back-cell c.before.before.before in search rules
+put_u64-requires-2 c = let h = (let it : c.place-k-2.result < c.args.r * c.args.c = let h = c.requires.3.from_column (omega arith) in let q = c.requires.3.to_row (omega arith) c.if-v-r.false in rw c.place-k-2.ensures (digits_lt (omega arith) (omega arith)) in it) in search rules
 
 pub returns : goal.returns
 returns c = let a = c.args in
