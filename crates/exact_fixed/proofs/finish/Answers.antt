@@ -17,9 +17,6 @@ use Prim.Native.Nat.{ℕ}
 use borrow.Author.Rules.{rules}
 use Rattle.exact_fixed.proofs.finish.Goals as goal
 
-told : (b : goal.Start) (j : ℕ) → j ≡ skipped_of b.args.b → {out out' : List ℕ} {r : Answer} → Answers j ((run_of (limits_of b.args.lim) (tables_of b.args.s.now) (asked_of b.args.q) b.args.q.budget)) out out' r → Answers (skipped_in (limits_of b.args.lim) (tables_of b.args.s.now) (asked_of b.args.q) b.args.q.budget) ((run_of (limits_of b.args.lim) (tables_of b.args.s.now) (asked_of b.args.q) b.args.q.budget)) out out' r
-told b j e {out = out} {out' = out'} {r = r} Z = finish-answers (limits_of b.args.lim) (tables_of b.args.s.now) (asked_of b.args.q) b.args.q.budget b.args.im.classes b.args.graph.now b.args.terms.now b.args.runs.now b.args.b b.requires.5 j e out out' r Z
-
 pub start-x-requires : goal.start-x-requires
 start-x-requires c =
     let L = c.requires.4 in
@@ -61,7 +58,7 @@ returns-in-Ended c =
     let z = s.new.pairs in
     let e = c.in-Ended.is in
     let o = c.conclude in
-    (told c c.skipped_of-k.result c.skipped_of-k.ensures (ran-answers ((run_of (limits_of c.args.lim) (tables_of c.args.s.now) (asked_of c.args.q) c.args.q.budget)) a.graph.now c.start-x.new.terms c.start-x.new.runs c.skipped_of-k.result c.in-Ended.y a.out.now _ _ (follows-ended (limits_of a.lim) (tables_of a.s.now) ((run_of (limits_of c.args.lim) (tables_of c.args.s.now) (asked_of c.args.q) c.args.q.budget)) a.q.budget a.im.classes a.graph.now z c.start-x.new.terms c.start-x.new.runs s.result s.ensures _ e) o.ensures.0), cleared-same o.ensures.1 refl (omega (arith, s.auto)) refl refl (omega (arith, s.auto)) (omega (arith, s.auto)))
+    (finish-answers (limits_of c.args.lim) (tables_of c.args.s.now) (asked_of c.args.q) c.args.q.budget c.args.im.classes c.args.graph.now c.args.terms.now c.args.runs.now c.args.b c.requires.5 c.skipped_of-k.result c.skipped_of-k.ensures _ _ _ (ran-answers ((run_of (limits_of c.args.lim) (tables_of c.args.s.now) (asked_of c.args.q) c.args.q.budget)) a.graph.now c.start-x.new.terms c.start-x.new.runs c.skipped_of-k.result c.in-Ended.y a.out.now _ _ (follows-ended (limits_of a.lim) (tables_of a.s.now) ((run_of (limits_of c.args.lim) (tables_of c.args.s.now) (asked_of c.args.q) c.args.q.budget)) a.q.budget a.im.classes a.graph.now z c.start-x.new.terms c.start-x.new.runs s.result s.ensures _ e) o.ensures.0), cleared-same o.ensures.1 refl (omega (arith, s.auto)) refl refl (omega (arith, s.auto)) (omega (arith, s.auto)))
 
 pub run_rounds-requires : goal.run_rounds-requires
 run_rounds-requires c =
@@ -102,4 +99,4 @@ returns-in-Rounds c =
     let z = s.new.pairs in
     let e = c.in-Rounds.is in
     let o = c.run_rounds in
-    (told c c.skipped_of-k.result c.skipped_of-k.ensures (rounds-answer (follows-rounds (limits_of a.lim) (tables_of a.s.now) ((run_of (limits_of c.args.lim) (tables_of c.args.s.now) (asked_of c.args.q) c.args.q.budget)) a.q.budget a.im.classes a.graph.now z c.start-x.new.terms c.start-x.new.runs s.result s.ensures _ _ e) c.skipped_of-k.result a.out.now _ _ o.ensures.0), cleared-same o.ensures.1 refl (omega (arith, s.auto)) refl refl (omega (arith, s.auto)) (omega (arith, s.auto)))
+    (finish-answers (limits_of c.args.lim) (tables_of c.args.s.now) (asked_of c.args.q) c.args.q.budget c.args.im.classes c.args.graph.now c.args.terms.now c.args.runs.now c.args.b c.requires.5 c.skipped_of-k.result c.skipped_of-k.ensures _ _ _ (rounds-answer (follows-rounds (limits_of a.lim) (tables_of a.s.now) ((run_of (limits_of c.args.lim) (tables_of c.args.s.now) (asked_of c.args.q) c.args.q.budget)) a.q.budget a.im.classes a.graph.now z c.start-x.new.terms c.start-x.new.runs s.result s.ensures _ _ e) c.skipped_of-k.result a.out.now _ _ o.ensures.0), cleared-same o.ensures.1 refl (omega (arith, s.auto)) refl refl (omega (arith, s.auto)) (omega (arith, s.auto)))

@@ -9,23 +9,19 @@ use Rattle.term_lines.specs.LoadLaws.{Loading, loading-start, loading-turn, load
 use Rattle.term_lines.specs.declared.Added.TheVariants as A
 use Rattle.term_lines.proofs.add_lines.Goals as goal
 
-added : (c : goal.In-Next-2)
-    → AddsLine (limits_of c.args.lim) c.args.text.now c.loop-at.at c.loop-at.terms c.loop-at.runs c.add_line.new.terms c.add_line.new.runs (A.Next c.in-Next.e)
-added c = rw c.in-Next.is at c.add_line.ensures
-
 pub loop-at-init : goal.loop-at-init
 loop-at-init c =
     let a = c.args in
     loading-start (limits_of a.lim) a.text.now a.list.now a.terms.now a.runs.now c.requires.1 c.requires.3
 
 pub loop-at-smaller : goal.loop-at-smaller
-loop-at-smaller c = omega (arith, (added c.before).behind)
+loop-at-smaller c = omega (arith, (let it : AddsLine (limits_of c.args.lim) c.args.text.now c.loop-at.at c.loop-at.terms c.loop-at.runs c.add_line.new.terms c.add_line.new.runs (A.Next c.in-Next.e) = rw c.in-Next.is at c.add_line.ensures in it).behind)
 
 pub loop-at-preserved : goal.loop-at-preserved
 loop-at-preserved c =
     let a = c.args in
     let l = c.loop-at in
-    loading-turn (limits_of a.lim) a.text.now a.list.now a.terms.now a.runs.now l.list l.terms l.runs l.at l.invariant (omega arith) (added c.before) (search rules) (search rules) (search rules)
+    loading-turn (limits_of a.lim) a.text.now a.list.now a.terms.now a.runs.now l.list l.terms l.runs l.at l.invariant (omega arith) (let it : AddsLine (limits_of c.args.lim) c.args.text.now c.loop-at.at c.loop-at.terms c.loop-at.runs c.add_line.new.terms c.add_line.new.runs (A.Next c.in-Next.e) = rw c.in-Next.is at c.add_line.ensures in it) (search rules) (search rules) (search rules)
 
 pub returns-in-Broken : goal.returns-in-Broken
 returns-in-Broken c =
