@@ -106,6 +106,7 @@ same_number = record { alike = λ a. eq-eqb a a refl; equal = λ a b e. eqb-true
 
 place_in : (x : ℕ) (l : List ℕ) → In x l → (place (eqb x) l < length l) × (get_or l (place (eqb x) l) 0 ≡ x)
 unfolding place
+place_in x [] i = elim i [ ]
 place_in x (y ∷ l) i = go (eqb x y) refl (in-cons i) (λ j. place_in x l j)
   where
     go : (b : Bool) → eqb x y ≡ b → (x ≡ y) ⊎ In x l → (In x l → (place (eqb x) l < length l) × (get_or l (place (eqb x) l) 0 ≡ x)) → (place (eqb x) (y ∷ l) < suc (length l)) × (get_or (y ∷ l) (place (eqb x) (y ∷ l)) 0 ≡ x)
@@ -115,6 +116,7 @@ place_in x (y ∷ l) i = go (eqb x y) refl (in-cons i) (λ j. place_in x l j)
 
 place-append : (x : ℕ) (l m : List ℕ) → In x l → place (eqb x) (l ++ m) ≡ place (eqb x) l
 unfolding place
+place-append x [] m i = elim i [ ]
 place-append x (y ∷ l) m i = go (eqb x y) refl (in-cons i) (λ j. place-append x l m j)
   where
     go : (b : Bool) → eqb x y ≡ b → (x ≡ y) ⊎ In x l → (In x l → place (eqb x) (l ++ m) ≡ place (eqb x) l) → place (eqb x) (y ∷ (l ++ m)) ≡ place (eqb x) (y ∷ l)
