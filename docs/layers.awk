@@ -1,19 +1,22 @@
 # The crates in layers, from crates.txt: a crate stands one layer above the highest crate that it needs. Libraries of the kit are left out.
 /^#/ || NF == 0 { next }
-# a crate that a program only waits for
-/# waits for / { sub(" " $NF " # waits for " $NF, "") }
 {
     name = $1
     sub(":", "", name)
     names[++n] = name
-    layer[name] = 1
-    needs[name] = ""
-    for (i = 2; i <= NF; i++)
-        if ($i in layer) {
-            if (layer[$i] + 1 > layer[name]) layer[name] = layer[$i] + 1
-            needs[name] = needs[name] " " $i
-        }
-    if (layer[name] > top) top = layer[name]
+    needs[name] = $0
+    sub("^[^:]*:", "", needs[name])
+}
+# one above the highest that it needs
+function layer_of(a,    i, k, list, l, top) {
+    if (a in layer) return layer[a]
+    k = split(needs[a], list, " ")
+    top = 0
+    for (i = 1; i <= k; i++) {
+        l = layer_of(list[i])
+        if (l > top) top = l
+    }
+    return layer[a] = top + 1
 }
 # the crates that are needed through another one already
 function through(a, b,    i, k, list) {
@@ -29,6 +32,16 @@ function reaches(a, b,    i, k, list) {
     return 0
 }
 END {
+    for (i = 1; i <= n; i++) {
+        k = split(needs[names[i]], list, " ")
+        needs[names[i]] = ""
+        for (j = 1; j <= k; j++)
+            for (m = 1; m <= n; m++)
+                if (names[m] == list[j]) needs[names[i]] = needs[names[i]] " " list[j]
+    }
+    top = 0
+    for (i = 1; i <= n; i++)
+        if (layer_of(names[i]) > top) top = layer[names[i]]
     print "# Layers\n\nMade by `make layers` from `crates.txt`: the uppermost layer first; behind each crate those that it needs directly, without those that it also needs through another.\n"
     for (l = top; l >= 1; l--) {
         printf "    %2d", l

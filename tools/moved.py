@@ -26,31 +26,31 @@ for d,_,fs in os.walk('crates'):
     for x in fs:
         if not x.endswith(('.rt','.antt')): continue
         q=d+'/'+x; me=d.split('/')[1]; t=open(q).read(); o=t
-        def path(c): return f'Rattle·{c}·' if c==me else f'Rattle·{c}.'
         def sp(m):
             c,n=m[1],m[2]
-            if n=='declared': return m[0]
+            if c not in crates: return m[0]
             k=one('mod',c,n,q,mods,me)
-            return f'Rattle·{k}·specs.specs.{n}' if k==me else f'Rattle·{k}.specs.{n}'
-        t=re.sub(r'Rattle·(\w+)(?:·specs)?\.specs\.(?!declared)(\w+)',sp,t)
+            return f'Rattle.{k}.specs.{n}'
+        t=re.sub(r'Rattle\.(\w+)\.specs\.(?!declared\b|contracts\b)(\w+)',sp,t)
         def de(m):
             c,n=m[1],m[2]
+            if c not in crates: return m[0]
             k=one('type',c,n,q,types,me)
-            return f'Rattle·{k}·specs.specs.declared.{n}' if k==me else f'Rattle·{k}.specs.declared.{n}'
-        t=re.sub(r'Rattle·(\w+)(?:·specs)?\.specs\.declared\.(\w+)',de,t)
+            return f'Rattle.{k}.specs.declared.{n}'
+        t=re.sub(r'Rattle\.(\w+)\.specs\.declared\.(\w+)',de,t)
         def pr(m):
             c,n=m[1],m[2]
-            if c not in crates: return m[0]
+            if c not in crates or c==me: return m[0]
             k=one('fn',c,n,q,fns,me)
-            return f'Rattle·{k}.proofs.{n}.' if k!=me else m[0]
-        t=re.sub(r'Rattle·(\w+)\.proofs\.(\w+)\.(?=Reads|Met|Symbol|Statement)',pr,t)
+            return f'Rattle.{k}.proofs.{n}.'
+        t=re.sub(r'Rattle\.(\w+)\.proofs\.(\w+)\.(?=Reads|Met|Symbol|Statement)',pr,t)
         if x.endswith('.rt'):
             def us(m):
                 c,n=m[1],m[2]
                 if c not in crates: return m[0]
                 k=one('use',c,n,q,{**fns,**types} if n not in fns or n not in types else fns,me)
                 return m[0] if k==c else f'{m[0].split(c)[0]}{k}::{n}'
-            t=re.sub(r'(?<![\w:·])(\w+)::(\w+)\b',lambda m: us(m),t)
+            t=re.sub(r'(?<![\w:.])(\w+)::(\w+)\b',lambda m: us(m),t)
         if t!=o:
             print('fixed',q)
             if write: open(q,'w').write(t)

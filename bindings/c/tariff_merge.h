@@ -1,6 +1,6 @@
 /* SPDX-License-Identifier: Apache-2.0 */
 /*
- * The tariff merge with a C interface: libtariff.a, made by `rt staticlib tariff`, for x86-64 Linux.
+ * The tariff merge with a C interface: libtariff.a, made by `make library`, for x86-64 Linux.
  *
  * `tariff_merge` merges two classes of an image into a listing, for the account desk; `tariff_quote` does
  * the same for the public quote page, which may hold fewer pairs; `tariff_add_child` adds up a member's

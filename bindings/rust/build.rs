@@ -1,5 +1,5 @@
 // SPDX-License-Identifier: Apache-2.0
-//! Links libtariff.a, made by `rt staticlib tariff`: from the folder that `TARIFF_LIB_DIR`
+//! Links libtariff.a, made by `make library`: from the folder that `TARIFF_LIB_DIR`
 //! names, else from `target/staticlib` of the repository.
 
 use std::path::PathBuf;
@@ -13,7 +13,7 @@ fn main() {
     let archive = folder.join("libtariff.a");
     println!("cargo::rerun-if-changed={}", archive.display());
     if !archive.exists() {
-        println!("cargo::error=no libtariff.a: run `rt staticlib tariff`, or set TARIFF_LIB_DIR");
+        println!("cargo::error=no libtariff.a: run `make library`, or set TARIFF_LIB_DIR");
         return;
     }
     println!("cargo::rustc-link-search=native={}", folder.display());

@@ -3,21 +3,18 @@
 Skipped.antt of crate samples from oracle/sample/skipped.txt (monomial pairs passed over),
 Checks.antt of crate samples from oracle/sample/checks.txt (checks spent, and queries turned round),
 Slips.antt of crate samples and Kept.antt of crate spec from oracle/sample/slips.txt (queries that tell the rules from a porter's slips).
-Run from the repository's root; then `rt fmt`."""
+Run from the repository's root; then `rt fmt` in crates/samples and crates/spec."""
 import re
 
 # the queries that stand in crate spec, since they refuse a must-fail edit of it that its other tests let pass: sorted_best_terms, structural_after_transport
 KEPT = ['slip: sorted best terms', 'slip: transport first']
 
-HEAD = '''use mathlib.Core.Path.{_≡_, refl}
-use mathlib.Core.List.{List, [], _∷_}
-use Prim.Native.Nat.{ℕ}
+HEAD = '''use Rattle.std.specs.Prelude.{◌≡◌, refl, List, [], ◌∷◌, ℕ}
 use Prim.Native.String.{String}
-use Rattle·spec.specs.Bytes.{text}
-use Rattle·spec.specs.Merge.{programOf}
-use Rattle·spec.specs.Asked.{Asked, asked, frame, answers, expected, hex}
+use Rattle.spec.specs.Bytes.{text}
+use Rattle.spec.specs.Merge.{program_of}
+use Rattle.spec.specs.Asked.{Asked, asked, frame, answers, expected, hex}
 '''
-INSIDE = HEAD.replace('Rattle·spec.', 'Rattle·spec·specs.')
 DAMAGED = HEAD.replace('frame, answers, expected, hex', 'cut, answers, expected, hex, put')
 
 def blocks(path):
@@ -67,7 +64,7 @@ def queries(path, heading, head, groups):
         out += [f'unfoldable {n} : List Asked', f'unfolding hex', f'{n} =']
         rows = [f'asked (frame {n}-image {num(f[-8:-6])} {num(f[-6:-4])} {num(f[-4:])}) "{a}"' for f, a in qs]
         out += ['    ' + ('∷ ' if i else '') + r for i, r in enumerate(rows)] + ['    ∷ []', '']
-        out += [f'{n}-holds : answers {n} ≡ expected {n}', f'unfolding programOf text answers expected {n}', f'{n}-holds = refl', '']
+        out += [f'{n}-holds : answers {n} ≡ expected {n}', f'unfolding program_of text answers expected {n}', f'{n}-holds = refl', '']
     open(path, 'w', encoding='utf-8').write('\n'.join(out).rstrip() + '\n')
 
 slips = grouped('oracle/sample/slips.txt').items()
@@ -77,7 +74,7 @@ queries('crates/samples/specs/Samples.antt', '-- Small queries for each feature,
 queries('crates/samples/specs/Skipped.antt', "-- (02, Paper 7) Monomial pairs passed over: answers of the listed Rust with its own count of checks, the number of skipped pairs from the model (oracle/sample/skipped.txt).", HEAD, skipped)
 queries('crates/samples/specs/Checks.antt', "-- (02, Paper 13) Checks that passed, and the two classes in either order: answers of the listed Rust with its own count of checks, the number of skipped pairs from the model (oracle/sample/checks.txt).", HEAD, checks)
 queries('crates/samples/specs/Slips.antt', "-- Queries whose answer tells the rules from a porter's slip: answers of the listed Rust with its own count of checks (oracle/sample/slips.txt).", HEAD, [(t, qs) for t, qs in slips if t not in KEPT])
-queries('crates/spec/specs/Kept.antt', "-- Two queries of crate samples' kind (oracle/sample/slips.txt) that stand here since they refuse a must-fail edit that no other test of this crate refuses.", INSIDE, [(t, qs) for t, qs in slips if t in KEPT])
+queries('crates/spec/specs/Kept.antt', "-- Two queries of crate samples' kind (oracle/sample/slips.txt) that stand here since they refuse a must-fail edit that no other test of this crate refuses.", HEAD, [(t, qs) for t, qs in slips if t in KEPT])
 
 out = ['-- A sound image, and a damaged one for each way to break a rule, refusals 2 to 11; images that break two rules show the order (oracle/sample/small.txt).', DAMAGED]
 out += ['-- five classes over Lit, Plain2, SPair and MSet, and a query', 'unfoldable sound : List ℕ', 'unfolding hex', f'sound = hex "{bytes(sound).hex()}"', '']
@@ -101,5 +98,5 @@ for key, rows in tables.items():
     out += [f'unfoldable {n} : List Asked', 'unfolding hex put sound', f'{n} =']
     for i, (t, e, a) in enumerate(rows):
         out += [f'    -- {t}', '    ' + ('∷ ' if i else '') + f'asked ({e}) "{a}"']
-    out += ['    ∷ []', '', f'{n}-holds : answers {n} ≡ expected {n}', f'unfolding programOf text answers expected {n}', f'{n}-holds = refl', '']
+    out += ['    ∷ []', '', f'{n}-holds : answers {n} ≡ expected {n}', f'unfolding program_of text answers expected {n}', f'{n}-holds = refl', '']
 open('crates/samples/specs/Refusals.antt', 'w', encoding='utf-8').write('\n'.join(out).rstrip() + '\n')

@@ -75,10 +75,9 @@ fn numbers(items: impl IntoIterator<Item = u64>) -> String {
 pub fn module(seed: u64, count: usize) -> String {
     let mut rng = Rng::new(seed);
     let mut text = "-- Drawn children, and the model's states after each: made by `harness children` of the oracle.\n\
-                    use mathlib.Core.Path.{_≡_, refl}\n\
-                    use mathlib.Core.List.{[], _∷_}\n\
-                    use Rattle·child_list·specs.specs.Adding.{addedOf, laid}\n\
-                    use Rattle·child_list·specs.specs.Trials.{stream}\n"
+                    use Rattle.std.specs.Prelude.{◌≡◌, refl, [], ◌∷◌}\n\
+                    use Rattle.child_list.specs.Adding.{added_of, laid}\n\
+                    use Rattle.child_list.specs.Trials.{stream}\n"
         .to_string();
     for at in 1..=count {
         let numbers_many = rng.below(12);
@@ -94,7 +93,7 @@ pub fn module(seed: u64, count: usize) -> String {
         }));
         let buffer = numbers(stream.buffer);
         text += &format!(
-            "\ndrawn-{at} : stream 0 {buffer} ({read}) ≡ ({states})\nunfolding addedOf laid\ndrawn-{at} = refl\n"
+            "\ndrawn-{at} : stream 0 {buffer} ({read}) ≡ ({states})\nunfolding added_of laid\ndrawn-{at} = refl\n"
         );
     }
     text

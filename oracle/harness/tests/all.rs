@@ -174,7 +174,7 @@ fn the_definitions_tests_of_both_callers() {
     };
     let mut met = [0; 2];
     for line in module.lines() {
-        let Some((_, call)) = line.split_once(" : mergeFor ") else {
+        let Some((_, call)) = line.split_once(" : merge_for ") else {
             continue;
         };
         let (call, answer) = call.split_once(" ≡ ").unwrap();
