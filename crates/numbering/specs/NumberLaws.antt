@@ -6,7 +6,7 @@ use Rattle.std.proofs.lemmas.List.{length-replicate, get_or-replicate}
 use Rattle.std.proofs.Math.ListN.{get_or-append, get_or-eq_default}
 use Rattle.spec.specs.Bytes.{any, place, up_from}
 use Rattle.spec.specs.Meaning.{In, here, there}
-use Rattle.laws.specs.Lists.{in-nil, in-cons, in_left, in_right, in-append, Distinct, none, more, distinct-last, pigeon}
+use Rattle.laws.specs.Lists.{in-nil, in-cons, in_left, in_right, in-append, Distinct, none, distinct-last, pigeon}
 use Rattle.pools.specs.Pool.{get_d-last}
 use Rattle.pools.specs.PoolIntern.{place-passes, place-first}
 use Rattle.numbering.specs.Numbering.{order_from, order_in, settle, settle_all, cleared, Numbered, Walk}
@@ -19,6 +19,7 @@ at_in (x ∷ l) zero h = here
 at_in (x ∷ l) (suc k) h = there (at_in l k (omega arith))
 
 in-at : (a : ℕ) (l : List ℕ) → In a l → (k : ℕ) × (k < length l) × (get_or l k 0 ≡ a)
+in-at a [] x' = elim x' [ ]
 in-at a (x ∷ l) here = (0, omega arith, refl)
 in-at a (x ∷ l) (there i) = let (k, h, e) = in-at a l i in (suc k, omega arith, e)
 

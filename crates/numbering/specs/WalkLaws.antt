@@ -54,6 +54,7 @@ module _ (f : ℕ → List ℕ → List ℕ) (i : ℕ) where
   runs-reach : ((c : ℕ) (l : List ℕ) (x : ℕ) → In x l → In x (f c l)) → ((c : ℕ) (l : List ℕ) → c < i → In c (f c l)) → (rs : List Two) → Runs i rs → (l : List ℕ)
       → (r : Two) → In r rs → In r.0 (visit_runs f rs l)
   unfolding visit_runs
+  runs-reach k h [] b l r x'' = elim x'' [ ]
   runs-reach k h (s ∷ rs) b l r here = runs-keep k rs (f r.0 l) r.0 (h r.0 l (b r here))
   runs-reach k h (s ∷ rs) b l r (there j) = runs-reach k h rs (λ z u. b z (there u)) (f s.0 l) r j
 

@@ -1,5 +1,6 @@
 // The subterms of a root numbered, "in the order a left-to-right walk finishes it".
 #![tactic(auto)]
+
 ghost use Rattle.std.specs.Prelude.{◌≡◌, suc, ◌+◌, ◌*◌, ◌-◌, ◌≤◌, ◌<◌, length, get_or};
 ghost use Rattle.spec.specs.Listing.{visit_term};
 ghost use Rattle.terms.specs.Buffers.{count_in, pool_of};

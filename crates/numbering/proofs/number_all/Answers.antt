@@ -1,4 +1,3 @@
-use borrow.Author.Rules.{rules}
 use Rattle.numbering.specs.VisitLaws.{root-start, root-finish}
 use Rattle.numbering.proofs.number_all.Goals as goal
 

@@ -1,7 +1,6 @@
 use Prim.Native.Nat.{◌*◌}
 use native.Mathlib.Omega.{arith}
 use Rattle.numbering.specs.NumberLaws.{at-within}
-use borrow.Author.Rules.{rules}
 use Rattle.numbering.proofs.number_of.Goals as goal
 
 pub overflow_mul-t : goal.overflow_mul-t
