@@ -15,7 +15,8 @@ use Rattle.spec.specs.Meaning.{In, here, there}
 use Rattle.laws.specs.Valid.{Valid}
 use Rattle.laws.specs.Results.{bind_ok, ok-inj}
 use Rattle.pools.specs.Pool.{RunsBelow, runs-below-nil, runs-below-cons, PoolValid, op-valid, lit-valid}
-use Rattle.pools.specs.PoolIntern.{Extends, extends-refl, extends-trans, extends-within, intern-enters, intern-there}
+use Rattle.pools.specs.PoolIntern.{Extends, extends-refl, extends-trans, extends-within}
+use Rattle.pools.proofs.PoolIntern.{intern-enters, intern-there}
 use Rattle.laws.specs.BestMembers.{best-in, best-falls, child-within, child-counted}
 use Rattle.pools.specs.BestFuel.{best-fuel}
 

@@ -11,7 +11,8 @@ use Rattle.spec.specs.Pool.{Pool, Node, variants_node, Interned, intern, best_te
 use Rattle.laws.specs.Valid.{Valid}
 use Rattle.laws.specs.Results.{refused-ok}
 use Rattle.pools.specs.Pool.{PoolValid, variants-valid}
-use Rattle.pools.specs.PoolIntern.{extends-within, intern-enters}
+use Rattle.pools.specs.PoolIntern.{extends-within}
+use Rattle.pools.proofs.PoolIntern.{intern-enters}
 use Rattle.terms.specs.Buffers.{pool_of, count_in}
 use Rattle.terms.specs.Chains.{Holds}
 use Rattle.interning.specs.Interning.{entered_of, pool_after}

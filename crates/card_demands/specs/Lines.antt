@@ -8,7 +8,7 @@ use Rattle.spec.specs.Listing.{reported, first_line, lines_of, listing_of}
 use Rattle.spec.specs.Meaning.{tree_at}
 use Rattle.pools.specs.Pool.{PoolValid}
 use Rattle.pools.specs.OrderPools.{Same}
-use Rattle.pools.specs.OrderListing.{listing-anywhere}
+use Rattle.pools.proofs.OrderListing.{listing-anywhere}
 use Rattle.demands.specs.ListingTells.{root-tree}
 
 -- an outcome that reports nothing, over a pool's term

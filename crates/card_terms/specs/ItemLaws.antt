@@ -5,7 +5,7 @@ use Rattle.std.proofs.Common.{sym, ap, ◌∙◌, inl, inr, arith}
 use Rattle.spec.specs.Bytes.{Limits, Two, Res, ok, refused, sum}
 use Rattle.spec.specs.Pool.{Pool, Node, Interned, intern, lit_node}
 use Rattle.pools.specs.Pool.{RunsBelow, NodeValid, Formed, operation, marked, join-below, join-joined, lit-valid}
-use Rattle.pools.specs.PoolIntern.{intern-enters}
+use Rattle.pools.proofs.PoolIntern.{intern-enters}
 use Rattle.terms.specs.Buffers.{count_in, part, unpack, node_of, pool_of}
 use Rattle.terms.specs.Chains.{Holds}
 use Rattle.terms.specs.PartLaws.{part-front}

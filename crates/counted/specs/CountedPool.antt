@@ -17,8 +17,9 @@ use Rattle.laws.specs.Valid.{Valid}
 use Rattle.laws.specs.Lists.{Distinct, none, more, in-get}
 use Rattle.laws.specs.Bag.{map-append, sum-append}
 use Rattle.pools.specs.Pool.{RunsBelow, runs-below-nil, runs-below-cons, NodeValid, PoolValid, op-valid, lit-valid, variants-valid, trees-length, tree-grows, tree-last, tree-literal}
-use Rattle.pools.specs.PoolTrees.{trees-apart}
-use Rattle.pools.specs.PoolIntern.{Extends, extends-refl, extends-trans, extends-within, extends-tree, Interns, intern-enters, added}
+use Rattle.pools.proofs.PoolTrees.{trees-apart}
+use Rattle.pools.specs.PoolIntern.{Extends, extends-refl, extends-trans, extends-within, extends-tree, Interns}
+use Rattle.pools.proofs.PoolIntern.{intern-enters, added}
 use Rattle.pools.specs.PoolSort.{action_runs}
 use Rattle.laws.specs.BestMembers.{IsClass, IsPair, best-in, best-falls, child-within, child-counted}
 use Rattle.counted.specs.Counted.{join_trees, child_trees, best_tree_in, best_tree, marked_tree, starting_tree, choice_tree, Beyond}

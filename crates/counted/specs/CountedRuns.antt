@@ -16,9 +16,12 @@ use Rattle.laws.specs.Valid.{Valid}
 use Rattle.laws.specs.Lists.{in-nil, in-cons, in_map, length-map, Distinct, none, more, pigeon}
 use Rattle.laws.specs.Bag.{perm-sym, perm_in}
 use Rattle.pools.specs.Pool.{RunsBelow, runs-below-tail, NodeValid, PoolValid, op-valid}
-use Rattle.pools.specs.PoolSort.{sort-perm, perm-below, plan-below, action_runs, action-perm}
-use Rattle.pools.specs.Order.{NotAfter, antisymmetric}
-use Rattle.pools.specs.OrderSort.{Sorted, sort_sorted, not-after-self, all-later}
+use Rattle.pools.specs.PoolSort.{sort-perm, perm-below, plan-below, action_runs}
+use Rattle.pools.proofs.PoolSort.{action-perm}
+use Rattle.pools.specs.Order.{NotAfter}
+use Rattle.pools.proofs.Order.{antisymmetric}
+use Rattle.pools.specs.OrderSort.{Sorted}
+use Rattle.pools.proofs.OrderSort.{sort_sorted, not-after-self, all-later}
 use Rattle.pools.specs.OrderSort as S
 use Rattle.steps.specs.Graph.{Closed}
 use Rattle.lgg.specs.TurnPlaces.{turn-choice, choice-joins, structural-made, children-few}

@@ -16,10 +16,11 @@ use Rattle.laws.specs.Tests.{both_true, clash}
 use Rattle.laws.specs.Lists.{length-map, in-append, in-nil}
 use Rattle.laws.specs.Bag.{replicate-in}
 use Rattle.pools.specs.Pool.{RunsBelow, runs-below-tail, runs-below-cons, runs-below-nil, Formed, operation, literal, marked, NodeValid, PoolValid, numbered, join-below, trees-length, tree-operation, tree-literal, tree-marked}
-use Rattle.pools.specs.PoolTrees.{tree_is, valid-below, trees-apart}
+use Rattle.pools.specs.PoolTrees.{tree_is, valid-below}
+use Rattle.pools.proofs.PoolTrees.{trees-apart}
 use Rattle.pools.specs.PoolSort.{sort-perm, perm-below, action_runs}
 use Rattle.pools.specs.OrderTerms.{head_of, op_of, value_of, expanded_children, lex, term_cmp}
-use Rattle.pools.specs.Order.{as-expanded, tree-fuel}
+use Rattle.pools.proofs.Order.{as-expanded, tree-fuel}
 use Rattle.counted.specs.Counted.{same_tree, same_runs, join_tree, join_trees, runs_in, tree_runs, places, places_in, tree_cmp, insert_tree, sort_trees, marked_tree, plan_trees}
 
 -- ---- the same tree

@@ -11,8 +11,10 @@ use Rattle.spec.specs.Meaning.{In, here, there, Term, Runs, Branched, tree_at, t
 use Rattle.spec.specs.Meaning as Meaning
 use Rattle.pools.specs.Pool.{Joined, RunsBelow, runs-below-tail, runs-below-cons, runs-below-nil, Formed, operation, literal, marked, NodeValid, PoolValid, numbered, tree-operation, tree-literal, tree-marked, op-valid, lit-valid, variants-valid, join-joined}
 use Rattle.pools.specs.Pool as P
-use Rattle.pools.specs.PoolTrees.{tree_is, trees-apart}
-use Rattle.pools.specs.PoolIntern.{Extends, extends-refl, extends-trans, extends-tree, extends-within, intern-enters}
+use Rattle.pools.specs.PoolTrees.{tree_is}
+use Rattle.pools.proofs.PoolTrees.{trees-apart}
+use Rattle.pools.specs.PoolIntern.{Extends, extends-refl, extends-trans, extends-tree, extends-within}
+use Rattle.pools.proofs.PoolIntern.{intern-enters}
 use Rattle.laws.specs.Results.{bind_ok, ok-inj}
 use Rattle.formula.specs.Card.{Tree, lit, two, many, Trees, none, also, count, branches, spell, proper_mark, write, Mark, FormulaText}
 use Rattle.formula.specs.Card as C

@@ -10,7 +10,7 @@ use Rattle.spec.specs.Meaning as Meaning
 use Rattle.pools.specs.Pool.{Joined, RunsBelow, runs-below-tail, runs-below-cons, runs-below-nil, Formed, operation, literal, marked, NodeValid, PoolValid, numbered, tree-operation, tree-literal, tree-marked, op-valid, lit-valid, variants-valid, join-joined}
 use Rattle.pools.specs.Pool as P
 use Rattle.pools.specs.PoolTrees.{node-ext, tree_is}
-use Rattle.pools.specs.PoolIntern.{intern-there}
+use Rattle.pools.proofs.PoolIntern.{intern-there}
 use Rattle.laws.specs.Results.{ok-inj, refused-ok}
 use Rattle.formula.specs.Card.{Tree, Trees, none, also, count, branches, spell, proper_mark, write}
 use Rattle.formula.specs.Lexer.{times, of_children, spelled, spelled_runs, card_tree, write_card, marked_node, enter, enter_all, read_text, read_card}

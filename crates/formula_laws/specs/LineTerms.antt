@@ -13,7 +13,7 @@ use Rattle.laws.specs.Bag.{map-append, sum-append}
 use Rattle.laws.specs.BagCount.{written, written-length}
 use Rattle.pools.specs.Pool.{Joined, none, one, more, RunsBelow, runs-below-nil, runs-below-cons, Formed, operation, literal, marked, NodeValid, PoolValid, empty-valid, get_d-last, numbered, tree-operation, tree-literal, tree-marked}
 use Rattle.pools.specs.PoolTrees.{tree_is, expand-runs}
-use Rattle.pools.specs.PoolIntern.{intern-enters}
+use Rattle.pools.proofs.PoolIntern.{intern-enters}
 use Rattle.formula.specs.Lexer.{lead, starts_with, is_nil}
 use Rattle.formula.specs.Lines.{cut_word, cut_number, cut_runs, runs_at, cut_node, cut_line, add_lines, read_lines, CHILDREN}
 use Rattle.formula_laws.specs.Terms.{written_below}

@@ -11,7 +11,8 @@ use Rattle.laws.specs.Lists.{in-cons, in-nil}
 use Rattle.laws.specs.Results.{bind_ok, ok-inj}
 use Rattle.laws.specs.BagCount.{join_written, written-ones}
 use Rattle.pools.specs.Pool.{RunsBelow, runs-below-cons, runs-below-nil, NodeValid, PoolValid, marked, join-below, join-joined, op-valid, lit-valid, tree-operation, tree-literal, tree-marked}
-use Rattle.pools.specs.PoolIntern.{Extends, extends-refl, extends-trans, extends-tree, extends-within, intern-enters}
+use Rattle.pools.specs.PoolIntern.{Extends, extends-refl, extends-trans, extends-tree, extends-within}
+use Rattle.pools.proofs.PoolIntern.{intern-enters}
 use Rattle.formula.specs.Card.{Tree, lit, two, many, Trees, none, also, count, branches, Formula, aLiteral, aTwo, aList, aChoice, brackets, Items, nothing, single, more, FormulaText, next, or, Mark}
 use Rattle.formula.specs.Card as C
 use Rattle.formula.specs.Lexer.{of_children, spelled, spelled_runs, card_tree, marked_node, enter, enter_all, read_text, read_card}

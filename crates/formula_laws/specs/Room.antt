@@ -13,8 +13,9 @@ use Rattle.spec.specs.Meaning as Meaning
 use Rattle.laws.specs.Bag.{sum-append, map-append}
 use Rattle.laws.specs.Lists.{in-cons, in-nil, in-append, get_in, in-get, Distinct, none, more, pigeon}
 use Rattle.pools.specs.Pool.{RunsBelow, runs-below-tail, lit-valid, Formed, operation, literal, marked, NodeValid, PoolValid, empty-valid, trees-append, trees-length, tree-operation, tree-literal, tree-marked}
-use Rattle.pools.specs.PoolTrees.{tree_is, trees-apart}
-use Rattle.pools.specs.PoolIntern.{added}
+use Rattle.pools.specs.PoolTrees.{tree_is}
+use Rattle.pools.proofs.PoolTrees.{trees-apart}
+use Rattle.pools.proofs.PoolIntern.{added}
 use Rattle.formula.specs.Card.{Tree, Trees}
 use Rattle.formula.specs.Lexer.{times, spelled, spelled_runs, card_tree, marked_node, enter, enter_all}
 use Rattle.formula_laws.specs.Entering.{repeat, children, enter-children, enter-own, join-ones}

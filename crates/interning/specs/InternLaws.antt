@@ -8,7 +8,8 @@ use Rattle.spec.specs.Pool.{Pool, Node, node_at, same_node, run_count, interned,
 use Rattle.laws.specs.Tests.{both_true}
 use Rattle.pools.specs.Pool.{PoolValid, NodeValid}
 use Rattle.pools.specs.PoolTrees.{node-ext}
-use Rattle.pools.specs.PoolIntern.{same-twos, place-passes, intern-there, intern-enters}
+use Rattle.pools.specs.PoolIntern.{same-twos, place-passes}
+use Rattle.pools.proofs.PoolIntern.{intern-there, intern-enters}
 use Rattle.terms.specs.Buffers.{BUCKETS, LEAST, part, unpack, node_of, node_in, nodes_in, pool_of, part_in, length_in, first_in, count_in}
 use Rattle.terms.specs.Chains.{key_of, Holds, Rooms}
 use Rattle.interning.specs.Interning.{Sought, pool_after, Interning}

@@ -5,7 +5,7 @@ use Rattle.spec.specs.Image.{Tables}
 use Rattle.spec.specs.Action.{joins}
 use Rattle.spec.specs.Pairs.{pairs, making}
 use Rattle.spec.specs.Round.{turn_of}
-use Rattle.pools.specs.PoolSort.{action-enters}
+use Rattle.pools.proofs.PoolSort.{action-enters}
 use Rattle.steps.specs.Bounds.{Low, over-low, turn_low, turn_small}
 use Rattle.steps.specs.Standing.{Keeps}
 use Rattle.lgg.specs.Moves.{pair_reads}

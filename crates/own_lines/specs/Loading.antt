@@ -10,7 +10,7 @@ use Rattle.spec.specs.Pool.{Pool, Node, node_at, same_node, run_count, interned,
 use Rattle.spec.specs.Run.{document_limits}
 use Rattle.laws.specs.Bag.{map-append, sum-append}
 use Rattle.pools.specs.Pool.{NodeValid, PoolValid}
-use Rattle.pools.specs.PoolIntern.{intern-enters}
+use Rattle.pools.proofs.PoolIntern.{intern-enters}
 use Rattle.formula.specs.Lexer.{is_nil}
 use Rattle.formula.specs.Lines.{cut_line, add_lines, read_lines}
 use Rattle.formula_laws.specs.LineTerms.{Read, Lined}

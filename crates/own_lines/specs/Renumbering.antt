@@ -16,8 +16,9 @@ use Rattle.laws.specs.Lists.{in-nil, in-cons, in-append, in_left, in_right, map-
 use Rattle.laws.specs.Bag.{map-append}
 use Rattle.pools.specs.Pool.{Joined, Formed, operation, literal, marked, NodeValid, PoolValid, empty-valid, get_d-last, tree-grows, tree-last, tree-operation, tree-literal, tree-marked}
 use Rattle.pools.specs.Pool as P
-use Rattle.pools.specs.PoolIntern.{added}
-use Rattle.pools.specs.PoolTrees.{tree_is, trees-apart, node-ext}
+use Rattle.pools.proofs.PoolIntern.{added}
+use Rattle.pools.specs.PoolTrees.{tree_is, node-ext}
+use Rattle.pools.proofs.PoolTrees.{trees-apart}
 use Rattle.formula_laws.specs.Weights.{weighed}
 use Rattle.own_lines.specs.Loading.{absent}
 

@@ -8,7 +8,8 @@ use Rattle.laws.specs.Lists.{in_right, in_map, length-map}
 use Rattle.laws.specs.BagCount.{written, written-length}
 use Rattle.pools.specs.Pool.{PoolValid}
 use Rattle.pools.specs.OrderTerms.{head_of, expanded_children}
-use Rattle.pools.specs.Order.{Parts, tree-parts}
+use Rattle.pools.specs.Order.{Parts}
+use Rattle.pools.proofs.Order.{tree-parts}
 use Rattle.readings.specs.ReadingsNode.{size, runs-size}
 
 -- ---- trees

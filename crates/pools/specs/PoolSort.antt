@@ -2,15 +2,14 @@
 use Rattle.std.specs.Prelude.{◌≡◌, refl, ◌≢◌, Bool, true, false, List, [], ◌∷◌, ◌++◌, map, ℕ, ◌<◌, eqb, length, replicate}
 use Rattle.std.proofs.Common.{ap, arith, eqb-true}
 use Rattle.std.proofs.lemmas.Bool.{eqb-false}
-use Rattle.spec.specs.Bytes.{Limits, Two, pick, ok}
+use Rattle.spec.specs.Bytes.{Two, pick}
 use Rattle.spec.specs.Image.{Tables, kind_of, is_commutative}
-use Rattle.spec.specs.Pool.{Pool, Interned, op_node, is_greater, structural_cmp, insert_run, sort_runs}
-use Rattle.spec.specs.Round.{plan_runs, action_term}
+use Rattle.spec.specs.Pool.{Pool, is_greater, structural_cmp, insert_run, sort_runs}
+use Rattle.spec.specs.Round.{plan_runs}
 use Rattle.spec.specs.Meaning.{In, here, there}
 use Rattle.laws.specs.Bag.{Perm, nil, skip, swap, both, perm-refl, perm-sym, perm_in}
 use Rattle.laws.specs.BagCount.{written, spread}
-use Rattle.pools.specs.Pool.{RunsBelow, runs-below-nil, runs-below-cons, PoolValid, op-valid}
-use Rattle.pools.specs.PoolIntern.{Interns, intern-enters}
+use Rattle.pools.specs.Pool.{RunsBelow, runs-below-nil, runs-below-cons}
 
 insert-perm : (p : Pool) (r : Two) (l : List Two) → Perm (r ∷ l) (insert_run p r l)
 unfolding insert_run
@@ -54,17 +53,5 @@ plan-below of i (p ∷ ps) (n ∷ x) h = go (eqb n 0) refl (plan-below of i ps x
 abbrev pub action_runs : Tables → Pool → ℕ → List Two → List Two
 action_runs t p o l = pick (is_commutative (kind_of t o)) (sort_runs p l) l
 
-pub action-perm : (t : Tables) (p : Pool) (o : ℕ) (l : List Two) → Perm l (action_runs t p o l)
-action-perm t p o l = go (is_commutative (kind_of t o))
-  where
-    go : (b : Bool) → Perm l (pick b (sort_runs p l) l)
-    go true = sort-perm p l
-    go false = perm-refl l
-
 pub action-kept : (t : Tables) (p : Pool) (o : ℕ) (l : List Two) → is_commutative (kind_of t o) ≡ false → action_runs t p o l ≡ l
 action-kept t p o l e = rw e refl
-
--- The term of an operation over terms of the pool is entered, and the pool stays valid.
-pub action-enters : (lim : Limits) (t : Tables) (p : Pool) → PoolValid p → (o : ℕ) (l : List Two) (r : Interned) → RunsBelow (length p) l → action_term lim t p o l ≡ ok r → Interns p (op_node o (action_runs t p o l)) r
-unfolding action_term
-action-enters lim t p v o l r b e = intern-enters lim p (op_node o (action_runs t p o l)) r v (op-valid (length p) o (action_runs t p o l) (perm-below (action-perm t p o l) b)) e

@@ -62,7 +62,7 @@ pub record NoLess (l m : Limits) : Type 0 where
   pub runs : l.runs ≤ m.runs
 
 -- the limits of terms and runs alone, since the pool does not read that of pairs
-module _ (l m : Limits) (terms : l.terms ≤ m.terms) (runs : l.runs ≤ m.runs) where
+module _ (l m : Limits) (h : l.terms ≤ m.terms) (k : l.runs ≤ m.runs) where
   pub intern-kept : (p : Pool) (n : Node) → Kept (intern l p n) (intern m p n)
   unfolding intern
   intern-kept p n = kept-room 13 (interned p (place (same_node n) p)) (interned (p ++ (n ∷ [])) (length p)) (ltb (place (same_node n) p) (length p)) (room l) (room m) (go (ltb (length p) l.terms) refl (leb (run_count p + length n.runs) l.runs) refl)
@@ -71,7 +71,7 @@ module _ (l m : Limits) (terms : l.terms ≤ m.terms) (runs : l.runs ≤ m.runs)
       room k = both (ltb (length p) k.terms) (leb (run_count p + length n.runs) k.runs)
 
       go : (x : Bool) → ltb (length p) l.terms ≡ x → (y : Bool) → leb (run_count p + length n.runs) l.runs ≡ y → both x y ≡ true → room m ≡ true
-      go true a true b e = rw (lt-ltb (length p) m.terms (omega (arith, ltb-true (length p) l.terms a, terms)), le-leb (run_count p + length n.runs) m.runs (omega (arith, leb-true (run_count p + length n.runs) l.runs b, runs))) refl
+      go true a true b e = rw (lt-ltb (length p) m.terms (omega (arith, ltb-true (length p) l.terms a, h)), le-leb (run_count p + length n.runs) m.runs (omega (arith, leb-true (run_count p + length n.runs) l.runs b, k))) refl
       go true a false b e = absurd (let z : ◌≡◌ {A = ℕ} 0 1 = cc in omega arith)
       go false a y b e = absurd (let z : ◌≡◌ {A = ℕ} 0 1 = cc in omega arith)
 
@@ -94,6 +94,7 @@ module _ (l m : Limits) (terms : l.terms ≤ m.terms) (runs : l.runs ≤ m.runs)
       go true ih = intern-kept p (lit_node e.op e.value)
       go false ih = kept-bind (child_terms (best_term_in l f t) p (children_of t e)) (child_terms (best_term_in m f t) p (children_of t e)) _ _ (child-kept (best_term_in l f t) (best_term_in m f t) ih p (children_of t e)) (λ k. intern-kept k.pool (op_node e.op k.runs))
 
+module _ (l m : Limits) (terms : l.terms ≤ m.terms) (runs : l.runs ≤ m.runs) where
   pub start-larger : (t : Tables) (p : Pool) (c : Two) → Kept (starting_term l t p c) (starting_term m t p c)
   unfolding starting_term
   start-larger t p c = go (eqb c.0 c.1)
@@ -101,11 +102,11 @@ module _ (l m : Limits) (terms : l.terms ≤ m.terms) (runs : l.runs ≤ m.runs)
       go : (x : Bool) → Kept {A = Interned}
           (elim x [ true ↦ best_term l t p c.0 | false ↦ (best_term l t p c.0 >>= λ a. best_term l t a.pool c.1 >>= λ b. intern l b.pool (variants_node a.term b.term)) ])
           (elim x [ true ↦ best_term m t p c.0 | false ↦ (best_term m t p c.0 >>= λ a. best_term m t a.pool c.1 >>= λ b. intern m b.pool (variants_node a.term b.term)) ])
-      go true = best-kept (best_size t c.0) t p c.0
+      go true = best-kept l m terms runs (best_size t c.0) t p c.0
       go false =
-          kept-bind (best_term l t p c.0) (best_term m t p c.0) _ _ (best-kept (best_size t c.0) t p c.0)
-          (λ a. kept-bind (best_term l t a.pool c.1) (best_term m t a.pool c.1) _ _ (best-kept (best_size t c.1) t a.pool c.1) (λ b. intern-kept b.pool (variants_node a.term b.term)))
+          kept-bind (best_term l t p c.0) (best_term m t p c.0) _ _ (best-kept l m terms runs (best_size t c.0) t p c.0)
+          (λ a. kept-bind (best_term l t a.pool c.1) (best_term m t a.pool c.1) _ _ (best-kept l m terms runs (best_size t c.1) t a.pool c.1) (λ b. intern-kept l m terms runs b.pool (variants_node a.term b.term)))
 
   pub action-larger : (t : Tables) (p : Pool) (o : ℕ) (r : List Two) → Kept (action_term l t p o r) (action_term m t p o r)
   unfolding action_term
-  action-larger t p o r = intern-kept p (op_node o (pick (is_commutative (kind_of t o)) (sort_runs p r) r))
+  action-larger t p o r = intern-kept l m terms runs p (op_node o (pick (is_commutative (kind_of t o)) (sort_runs p r) r))

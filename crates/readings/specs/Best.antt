@@ -18,7 +18,8 @@ use Rattle.laws.specs.Valid.{Valid}
 use Rattle.laws.specs.Bag.{perm-of-eq}
 use Rattle.laws.specs.BagCount.{written, spread, map-spread, spread_written, occurs-written, written-ones}
 use Rattle.pools.specs.Pool.{RunsBelow, runs-below-nil, runs-below-cons, PoolValid, op-valid, lit-valid, tree-literal}
-use Rattle.pools.specs.PoolIntern.{Extends, extends-refl, extends-trans, extends-within, extends-tree, Interns, intern-enters, op-means}
+use Rattle.pools.specs.PoolIntern.{Extends, extends-refl, extends-trans, extends-within, extends-tree, Interns, op-means}
+use Rattle.pools.proofs.PoolIntern.{intern-enters}
 use Rattle.steps.specs.Readings.{Makes}
 use Rattle.readings.specs.ReadingsNode.{Covers, in_order, any_order, TermFor, TermsFor, no_term, and_term, good-node}
 use Rattle.laws.specs.BestMembers.{best-in, best-falls, child-within, child-counted, child-single, member-arity}

@@ -11,7 +11,8 @@ use Rattle.laws.specs.Bag.{both, perm-of-eq, perm-map}
 use Rattle.laws.specs.BagCount.{written, spread, map-spread, written-perm}
 use Rattle.pools.specs.Pool.{PoolValid}
 use Rattle.pools.specs.PoolIntern.{Interns, OpMeans, op-means}
-use Rattle.pools.specs.PoolSort.{plan-written, plan-below, action_runs, action-perm, action-kept, action-enters}
+use Rattle.pools.specs.PoolSort.{plan-written, plan-below, action_runs, action-kept}
+use Rattle.pools.proofs.PoolSort.{action-perm, action-enters}
 use Rattle.steps.specs.Readings.{Makes, TermAt}
 use Rattle.readings.specs.ReadingsNode.{Covers, TermFor, TermsFor, no_term, and_term, good-node}
 

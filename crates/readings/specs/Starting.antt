@@ -14,7 +14,8 @@ use Rattle.spec.specs.Meaning.{Term, term_quality, runs_quality, reading, runs_o
 use Rattle.laws.specs.Valid.{Valid}
 use Rattle.laws.specs.Results.{bind_ok}
 use Rattle.pools.specs.Pool.{PoolValid, variants-valid, numbered, tree-marked}
-use Rattle.pools.specs.PoolIntern.{extends-trans, extends-within, extends-tree, intern-enters}
+use Rattle.pools.specs.PoolIntern.{extends-trans, extends-within, extends-tree}
+use Rattle.pools.proofs.PoolIntern.{intern-enters}
 use Rattle.laws.specs.BestMembers.{IsPair}
 use Rattle.steps.specs.Standing.{Begins}
 use Rattle.steps.specs.Readings.{Makes}

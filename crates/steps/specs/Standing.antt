@@ -11,7 +11,8 @@ use Rattle.laws.specs.Results.{ok-inj, refused-ok, passed-inj, cut-passed}
 use Rattle.pools.specs.Pool.{RunsBelow, PoolValid, get_d-last}
 use Rattle.pools.specs.PoolIntern.{Extends, extends-refl, extends-trans, extends-within}
 use Rattle.pools.specs.PoolSort.{plan-below}
-use Rattle.pools.specs.OrderListing.{over_pool, listing-larger}
+use Rattle.pools.specs.OrderListing.{over_pool}
+use Rattle.pools.proofs.OrderListing.{listing-larger}
 use Rattle.steps.specs.Graph.{Closed}
 use Rattle.steps.specs.Turn.{Inside, choice-joins}
 use Rattle.steps.specs.TurnsFrom.{turn-quality, turns-length, RoundAt, turn_term, round-begin, round-cut, round-turn, round-refused, round-end}
