@@ -79,6 +79,7 @@ module _ (runs : List ℕ) (from to : ℕ) where
 -- a run's child is written
 pub written_in : (r : Two) (l : List Two) → In r l → 1 ≤ r.1 → In r.0 (written l)
 unfolding written
+written_in r [] x'' h = elim x'' [ ]
 written_in r (s ∷ l) here h = let e : r.1 ≡ suc (r.1 - 1) = omega arith in rw e here
 written_in r (s ∷ l) (there i) h = in_right (replicate s.1 s.0) (written_in r l i h)
 
