@@ -1,5 +1,6 @@
 // "A budget of checks, a state passed by value whose one operation spends a check": `expired` of exact_fixed.rs; and that operation many times.
 #![tactic(auto)]
+
 ghost use Rattle.std.specs.Prelude.{◌≡◌};
 ghost use Rattle.budget.specs.Budget.{spend_of, spend_many_of};
 

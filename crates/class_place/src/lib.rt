@@ -1,5 +1,6 @@
 // Where a class stands in a list of terms, and whether a child of it has room there (02, Paper 6): its place in the rising order, its term, its count.
 #![tactic(auto)]
+
 ghost use Rattle.std.specs.Prelude.{◌≡◌, false, ◌+◌, ◌*◌, ◌≤◌, ◌^◌, leb, length};
 ghost use Rattle.spec.specs.Bytes.{pick};
 ghost use Rattle.monomial_terms.specs.Terms.{held, position};

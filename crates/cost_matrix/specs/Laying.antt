@@ -1,5 +1,5 @@
 -- Laying the cost matrix cell by cell, for whoever runs the loops: V, the largest mass, and W; then each cell. What is laid is in place for the solver.
-use Rattle.std.specs.Prelude.{◌≡◌, ◌≢◌, true, false, List, [], ◌∷◌, map, get_or, set, drop}
+use Rattle.std.specs.Prelude.{◌≡◌, ◌≢◌, List, map, get_or, set, drop}
 use Rattle.std.proofs.Math.Path.{refl, sym, ap}
 use Rattle.std.proofs.Common.{◌∙◌, zero-add, add-one, length-set, drop_of_length-le, get_or-set_same, get_or-set_other, drop-cons}
 use Prim.Native.Nat.{ℕ, zero, suc, ◌+◌, ◌-◌, ◌*◌, ◌/◌, ◌%◌, ◌^◌, ◌≤◌, ◌<◌, min, max}

@@ -1,5 +1,6 @@
 // The cost matrix of a transport (transport.rs): each cell's cost, size * W + mass, as a number of two words, and its capacity; three numbers a cell, row by row.
 #![tactic(auto)]
+
 ghost use Rattle.std.specs.Prelude.{◌≡◌, ◌+◌, ◌*◌, ◌^◌, ◌<◌, length};
 ghost use Rattle.spec.specs.Transport.{cost, WIDEST};
 ghost use Rattle.wide.specs.Value.{unsigned};

@@ -1,5 +1,6 @@
 // The first line of a listing: the status, then each number behind its name.
 #![tactic(auto)]
+
 ghost use Rattle.std.specs.Prelude.{◌+◌, ◌≤◌, length};
 ghost use Rattle.spec.specs.Listing.{status_of, report_line};
 ghost use Rattle.decimals.specs.Writing.{Wrote};

@@ -1,5 +1,5 @@
 -- What the readers ask: the bytes are long enough for the tables that the header counts, and the struct holds the header's counts and the tables' offsets.
-use Rattle.std.specs.Prelude.{◌≡◌, refl, List, ℕ, ◌+◌, ◌≤◌, length, get_or}
+use Rattle.std.specs.Prelude.{◌≡◌, refl, List, ℕ, ◌≤◌, length, get_or}
 use Rattle.std.proofs.Common.{sym, ◌∙◌}
 use Rattle.spec.specs.Bytes.{Two}
 use Rattle.spec.specs.Image.{Tables, tables_of, operation_count, class_count, member_count, child_count, classes_from, members_from, children_from, image_end}

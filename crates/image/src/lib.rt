@@ -1,5 +1,6 @@
 // The image: its type with limits and entry widths as constants, where its tables start, and its big-endian numbers.
 #![tactic(auto)]
+
 ghost use Rattle.std.specs.Prelude.{◌≡◌, ◌+◌, ◌≤◌, ◌<◌, length};
 ghost use Rattle.spec.specs.Bytes as b;
 ghost use Rattle.image.specs.Layout.{layout_of};

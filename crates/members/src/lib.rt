@@ -1,5 +1,6 @@
 // The readers of the image's tables of members and of children.
 #![tactic(auto)]
+
 ghost use Rattle.std.specs.Prelude.{◌≡◌, ◌<◌};
 ghost use Rattle.spec.specs.Image.{tables_of, the_member};
 ghost use Rattle.image.specs.Loaded.{Loaded, the_child};

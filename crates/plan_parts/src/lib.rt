@@ -1,5 +1,6 @@
 // Small parts of a transport's plan: what is left of a number; a cell's place; no units in any cell.
 #![tactic(auto)]
+
 ghost use Rattle.std.specs.Prelude.{◌≡◌, ◌+◌, ◌-◌, ◌*◌, ◌≤◌, ◌<◌, length, replicate};
 ghost use Rattle.spec.specs.Transport.{WIDEST};
 ghost use Rattle.laws.specs.Buffers.{over};

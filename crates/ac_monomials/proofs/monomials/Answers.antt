@@ -15,7 +15,7 @@ pub pad_pair-requires : goal.pad_pair-requires
 pad_pair-requires c =
     paddable _ _ c.args.left.now c.args.right.now
     c.of_place-n.new.mono c.of_place-m.new.mono c.of_place-n.result c.of_place-m.result
-    (c.of_place-n.auto.1.1.1.1.0 ∙ c.requires.5) (c.of_place-m.auto.1.1.1.1.0 ∙ c.requires.6) c.of_place-n.ensures c.of_place-m.ensures
+    (c.of_place-n.auto.mono ∙ c.requires.5) (c.of_place-m.auto.mono ∙ c.requires.6) c.of_place-n.ensures c.of_place-m.ensures
 
 pub returns : goal.returns
 returns c =

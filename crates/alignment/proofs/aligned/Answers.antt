@@ -11,8 +11,7 @@ let t = tables_of c.args.s.now in let x = the_member t c.args.a in let y = the_m
     other-op t x y (λ e. c.if-member_op-o.true (c.member_op.ensures.0 ∙ e ∙ sym c.member_op-o.ensures.0))
 
 pub kind-k-requires : goal.kind-k-requires
-kind-k-requires c =
-(c.requires.0, op-number c.args.s.now c.args.im c.requires.0 c.requires.1 c.args.a c.requires.2 c.member_op-o.ensures.0)
+kind-k-requires c = (c.requires.0, op-number c.args.s.now c.args.im c.requires.0 c.requires.1 c.args.a c.requires.2 c.member_op-o.ensures.0)
 
 pub both_ways-requires : goal.both_ways-requires
 both_ways-requires c =

@@ -10,12 +10,10 @@ use borrow.Author.Rules.{rules}
 use Rattle.best_aligned.proofs.best_aligned.Goals as goal
 
 pub size_of-requires : goal.size_of-requires
-size_of-requires c =
-(c.requires.4, c.requires.2, c.requires.3)
+size_of-requires c = (c.requires.4, c.requires.2, c.requires.3)
 
 pub mass_of-requires : goal.mass_of-requires
-mass_of-requires c =
-(c.requires.4, c.requires.2, c.requires.3)
+mass_of-requires c = (c.requires.4, c.requires.2, c.requires.3)
 
 pub loop-best-init : goal.loop-best-init
 loop-best-init c =

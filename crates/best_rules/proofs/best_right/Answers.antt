@@ -20,8 +20,7 @@ returns-then-size-gt-BEST_SIZE c =
     size-large (tables_of c.args.s.now) (the_class (tables_of c.args.s.now) c.args.c) c.first_member-from.ensures.0 c.best_member-b.ensures.0 c.if-b-from.false c.member_count.ensures.0 c.if-b-from-2.false c.best_size-size.ensures.0 c.if-size-lt1.false c.if-size-gt-BEST_SIZE.true
 
 pub size_right-requires : goal.size_right-requires
-size_right-requires c =
-(
+size_right-requires c = (
       c.requires.0,
       best-room c.args.s.now c.args.im c.requires.0 c.requires.2 c.requires.1 c.first_member-from.ensures.0 c.member_count.ensures.0 c.if-b-from-2.false,
       c.if-size-gt-BEST_SIZE.false,

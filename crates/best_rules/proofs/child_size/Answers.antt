@@ -7,8 +7,7 @@ use borrow.Author.Rules.{rules}
 use Rattle.best_rules.proofs.child_size.Goals as goal
 
 pub best_size-requires : goal.best_size-requires
-best_size-requires c =
-(c.requires.0, omega (arith, ap (λ (k : ℕ). k) c.child_class.ensures.0, c.requires.2))
+best_size-requires c = (c.requires.0, omega (arith, ap (λ (k : ℕ). k) c.child_class.ensures.0, c.requires.2))
 
 pub overflow_mul-result : goal.overflow_mul-result
 overflow_mul-result c =

@@ -21,8 +21,7 @@ loop-i-init c =
     )
 
 pub child_size-sum-requires : goal.child_size-sum-requires
-child_size-sum-requires c =
-(
+child_size-sum-requires c = (
       c.requires.0,
       omega arith,
       child-room c.args.s.now c.args.im c.requires.0 c.requires.3 c.requires.1 c.first_child-from.result c.loop-i.i c.requires.4

@@ -23,7 +23,7 @@ best_term-y-requires c =
     let a = c.args in
     let k = c.best_term-x in
     let x = rw c.in-Term.is at k.ensures in
-    (x.holds, c.requires.1, c.requires.2, c.requires.4, omega (arith, c.requires.5, k.auto), x.kept, rooms_same k.auto.1.1.1.0 k.auto.1.1.1.1.0 c.requires.7)
+    (x.holds, c.requires.1, c.requires.2, c.requires.4, omega (arith, c.requires.5, k.auto), x.kept, rooms_same k.auto.terms k.auto.runs c.requires.7)
 
 pub returns-in-Full-y : goal.returns-in-Full-y
 returns-in-Full-y c =
@@ -37,7 +37,7 @@ variants-requires c =
     let m = c.best_term-y in
     let y = rw c.in-Term-y.is at m.ensures in
     let w = start-within (limits_of a.lim) (tables_of a.s.now) a.terms.now a.runs.now a.best.now a.l a.r _ _ _ _ (rw c.in-Term.is at c.best_term-x.ensures) c.if-l-r.false _ _ _ c.requires.2 c.requires.0.valid (omega (arith, c.requires.3, classes-many a.s.now a.im c.requires.1)) (omega (arith, c.requires.4, classes-many a.s.now a.im c.requires.1)) _ y in
-    (y.holds, w.0, w.1, rooms_same (m.auto.1.1.1.0 ∙ k.auto.1.1.1.0) (m.auto.1.1.1.1.0 ∙ k.auto.1.1.1.1.0) c.requires.7)
+    (y.holds, w.0, w.1, rooms_same (m.auto.terms ∙ k.auto.terms) (m.auto.runs ∙ k.auto.runs) c.requires.7)
 
 pub returns-in-Term-y : goal.returns-in-Term-y
 returns-in-Term-y c =

@@ -56,7 +56,7 @@ returns-in-Pool c =
     let t = c.table_end-e in
     let T = sym c.is_tabled.ensures ∙ not-false _ c.if-not-is_tabled.false in
     let F = sym c.is_framed.ensures ∙ not-false _ c.if-not-is_framed.false in
-    card-written s t.result t.ensures.0 T _ (part_to_end s t.result) F _ _ _ c.load-m.ensures c.in-Pool.is c.args.out.now _ _ _ c.requires.1 refl c.write_last.auto.1.1.1.1.0 c.write_last.ensures.0
+    card-written s t.result t.ensures.0 T _ (part_to_end s t.result) F _ _ _ c.load-m.ensures c.in-Pool.is c.args.out.now _ _ _ c.requires.1 refl c.write_last.auto.out c.write_last.ensures.0
 
 -- src/lib.rt:113:1
 pub returns-in-Refused : goal.returns-in-Refused

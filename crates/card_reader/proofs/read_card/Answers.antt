@@ -18,7 +18,7 @@ returns-then-not-is_formula c =
 pub enter_terms-r-requires : goal.enter_terms-r-requires
 enter_terms-r-requires c =
     let a = c.args in
-    (formula-read a.table.now a.text.now (sym c.is_formula.ensures.0 ∙ not-false _ c.if-not-is_formula.false), c.requires.0, omega (arith, c.requires.1, c.is_formula.auto.1.1.1.0), c.requires.2, c.requires.3, c.requires.4)
+    (formula-read a.table.now a.text.now (sym c.is_formula.ensures.0 ∙ not-false _ c.if-not-is_formula.false), c.requires.0, omega (arith, c.requires.1, c.is_formula.auto.frames), c.requires.2, c.requires.3, c.requires.4)
 
 pub take_back-requires : goal.take_back-requires
 take_back-requires c =
@@ -29,10 +29,10 @@ pub returns-in-Term : goal.returns-in-Term
 returns-in-Term c =
     let a = c.args in
     let i = c.enter_terms-r in
-    (read-term (limits_of a.lim) a.table.now a.text.now a.terms.now a.runs.now c.requires.3 _ _ i.auto.1.1.1.1.1.0 i.auto.1.1.1.1.1.1.0 i.result i.ensures.0 _ c.in-Term.is, i.ensures.1 ∙ ap (λ (n : ℕ). replicate n 0) c.is_formula.auto.1.1.1.0)
+    (read-term (limits_of a.lim) a.table.now a.text.now a.terms.now a.runs.now c.requires.3 _ _ i.auto.terms i.auto.runs i.result i.ensures.0 _ c.in-Term.is, i.ensures.1 ∙ ap (λ (n : ℕ). replicate n 0) c.is_formula.auto.frames)
 
 pub returns-in-Full : goal.returns-in-Full
 returns-in-Full c =
     let a = c.args in
     let i = c.enter_terms-r in
-    (read-full (limits_of a.lim) a.table.now a.text.now a.terms.now a.runs.now c.requires.3 _ _ i.auto.1.1.1.1.1.0 i.auto.1.1.1.1.1.1.0 i.result i.ensures.0 c.in-Full.is c.count-n.result c.count-n.ensures.0 _ _ c.take_back.ensures, i.ensures.1 ∙ ap (λ (n : ℕ). replicate n 0) c.is_formula.auto.1.1.1.0)
+    (read-full (limits_of a.lim) a.table.now a.text.now a.terms.now a.runs.now c.requires.3 _ _ i.auto.terms i.auto.runs i.result i.ensures.0 c.in-Full.is c.count-n.result c.count-n.ensures.0 _ _ c.take_back.ensures, i.ensures.1 ∙ ap (λ (n : ℕ). replicate n 0) c.is_formula.auto.frames)

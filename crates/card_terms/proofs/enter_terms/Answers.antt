@@ -5,4 +5,4 @@ use borrow.Author.Rules.{rules}
 use Rattle.card_terms.proofs.enter_terms.Goals as goal
 
 pub returns : goal.returns
-returns c = let r = c.read_terms-r in (r.ensures, c.clear_u64.ensures ∙ ap (λ (n : ℕ). replicate n 0) r.auto.1.1.1.1.0)
+returns c = let r = c.read_terms-r in (r.ensures, c.clear_u64.ensures ∙ ap (λ (n : ℕ). replicate n 0) r.auto.frames)

@@ -20,11 +20,11 @@ enter_items-r-requires c =
 pub place-requires : goal.place-requires
 place-requires c =
     let a = c.args in
-    (omega (arith, back_long a.frames.now c.enter_items-r.new.list a.from (omega (arith, c.requires.3, c.requires.5)) c.enter_items-r.auto.1.0), term-most _ c.enter_items-r.ensures.grows.holds.few c.enter_items-r.result c.enter_items-r.ensures.within)
+    (omega (arith, back_long a.frames.now c.enter_items-r.new.list a.from (omega (arith, c.requires.3, c.requires.5)) c.enter_items-r.auto.list), term-most _ c.enter_items-r.ensures.grows.holds.few c.enter_items-r.result c.enter_items-r.ensures.within)
 
 pub returns : goal.returns
 returns c =
     let a = c.args in
     let l = a.frames.now in
     let ys = c.enter_items-r.new.list in
-    enters-placed (limits_of a.lim) c.requires.0 (head_node a.h (map unpack (part l a.from (a.top - a.from)))) c.enter_items-r.auto.1.1.1.1.0 c.enter_items-r.auto.1.1.1.1.1.0 _ (back-same l ys a.from a.to c.requires.2 (omega (arith, c.requires.3, c.requires.5))) (back_long l ys a.from (omega (arith, c.requires.3, c.requires.5)) c.enter_items-r.auto.1.0) (omega (arith, c.requires.4, c.requires.5)) _ _ c.enter_items-r.result (rw (← part-drop l a.from (a.top - a.from)) c.enter_items-r.ensures) c.place.ensures
+    enters-placed (limits_of a.lim) c.requires.0 (head_node a.h (map unpack (part l a.from (a.top - a.from)))) c.enter_items-r.auto.terms c.enter_items-r.auto.runs _ (back-same l ys a.from a.to c.requires.2 (omega (arith, c.requires.3, c.requires.5))) (back_long l ys a.from (omega (arith, c.requires.3, c.requires.5)) c.enter_items-r.auto.list) (omega (arith, c.requires.4, c.requires.5)) _ _ c.enter_items-r.result (rw (← part-drop l a.from (a.top - a.from)) c.enter_items-r.ensures) c.place.ensures

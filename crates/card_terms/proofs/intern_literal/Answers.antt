@@ -29,4 +29,4 @@ returns c =
     let e : c.short_size-h.result ≡ 64 + a.o = omega (arith, c.short_size-h.ensures, c.size_u8.ensures.0) in
     let i = c.intern-r in
     let X = enters-of (limits_of a.lim) (lit_node a.o a.v) (literal-node c.short_size-h.result a.o a.v a.frames.now e c.requires.2) c.requires.0.holds (literal-valid (count_in a.terms.now) c.short_size-h.result a.o a.v a.frames.now e c.requires.2) (omega arith) i.ensures in
-    enters-placed (limits_of a.lim) c.requires.0 (lit_node a.o a.v) i.auto.1.0 i.auto.1.1.0 a.frames.now refl refl c.requires.1 _ _ i.result X c.place.ensures
+    enters-placed (limits_of a.lim) c.requires.0 (lit_node a.o a.v) i.auto.terms i.auto.runs a.frames.now refl refl c.requires.1 _ _ i.result X c.place.ensures

@@ -44,7 +44,7 @@ loop-at-preserved c =
     let X : Cuts a.table.now a.text.now l.at (C.Mark c.in-Mark.m c.in-Mark.e) = rw c.in-Mark.is at c.cut_mark-c.ensures in
     let h : l.at < length a.text.now = omega (arith, c.loop-at-test) in
     let i = c.step-r in
-    entering-turn (limits_of a.lim) a.table.now a.text.now a.terms.now a.runs.now a.frames.now l.terms l.runs l.frames l.at l.top l.invariant h c.in-Mark.m c.in-Mark.e X i.ensures _ c.in-Top.is i.auto.1.1.1.1.1.0 i.auto.1.1.1.1.1.1.0 i.auto.1.1.0
+    entering-turn (limits_of a.lim) a.table.now a.text.now a.terms.now a.runs.now a.frames.now l.terms l.runs l.frames l.at l.top l.invariant h c.in-Mark.m c.in-Mark.e X i.ensures _ c.in-Top.is i.auto.terms i.auto.runs i.auto.frames
 
 pub returns-in-Full : goal.returns-in-Full
 returns-in-Full c =

@@ -29,7 +29,7 @@ loop-lim-preserved c =
     let a = c.args in
     let i = c.reduce_once-r in
     let w : Waits a.table.now a.m l.frames l.n true = rw c.loop-lim-test.true at c.waits.ensures in
-    reducing-turn (limits_of a.lim) a.table.now a.m a.terms.now a.runs.now a.frames.now a.top l.terms l.runs l.frames l.n l.invariant w _ _ _ i.result _ c.in-Top.is i.ensures i.auto.1.1.1.0 i.auto.1.1.1.1.0 i.auto.1.0
+    reducing-turn (limits_of a.lim) a.table.now a.m a.terms.now a.runs.now a.frames.now a.top l.terms l.runs l.frames l.n l.invariant w _ _ _ i.result _ c.in-Top.is i.ensures i.auto.terms i.auto.runs i.auto.frames
 
 pub returns-in-Full : goal.returns-in-Full
 returns-in-Full c =

@@ -20,8 +20,7 @@ put_term-requires c =
     omega (arith, c.requires.listed, stands-before c.args.c c.args.mono.now c.args.n c.args.p c.requires.listed c.requires.place (sym c.stands_at.ensures ∙ c.if-stands_at.true))
 
 pub returns-then-stands_at : goal.returns-then-stands_at
-returns-then-stands_at c =
-(
+returns-then-stands_at c = (
       added-hit c.args.n c.args.p c.args.c c.args.k c.args.mono.now c.put_term.new.mono c.requires c.count_at.result (sym c.stands_at.ensures ∙ c.if-stands_at.true) c.count_at.ensures c.put_term.ensures.0,
       c.put_term.ensures.1,
     )
@@ -31,8 +30,7 @@ insert_term-requires c =
     omega (arith, c.requires.within, c.requires.room (sym c.stands_at.ensures ∙ c.if-stands_at.false))
 
 pub returns : goal.returns
-returns c =
-(
+returns c = (
       added-miss c.args.n c.args.p c.args.c c.args.k c.args.mono.now c.insert_term.new.mono c.requires (c.args.n - c.args.p) (sym c.stands_at.ensures ∙ c.if-stands_at.false) (omega (arith, c.requires.within)) c.insert_term.ensures.0,
       c.insert_term.ensures.1,
     )

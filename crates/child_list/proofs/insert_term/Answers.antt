@@ -15,7 +15,7 @@ pub loop-j-preserved : goal.loop-j-preserved
 loop-j-preserved c =
     let h : 2 * (c.args.p + c.loop-j.j) + 1 < length c.args.mono.now = omega arith in (
       omega arith,
-      c.put_term.auto.0 ∙ c.loop-j.invariant.1,
+      c.put_term.auto.mono ∙ c.loop-j.invariant.1,
       c.put_term.ensures.1 ∙ c.loop-j.invariant.2,
       rippled-more c.args.mono.now c.loop-j.mono c.put_term.new.mono c.args.p c.loop-j.j (c.args.c, c.args.k) (c.loop-j.x, c.loop-j.y)
           c.class_at-t.result c.count_at-u.result h c.loop-j.invariant.3 c.class_at-t.ensures c.count_at-u.ensures c.put_term.ensures.0,

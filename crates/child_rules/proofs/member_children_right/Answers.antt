@@ -6,8 +6,7 @@ use borrow.Author.Rules.{rules}
 use Rattle.child_rules.proofs.member_children_right.Goals as goal
 
 pub kind-k-requires : goal.kind-k-requires
-kind-k-requires c =
-(c.requires.0, op_room c.args.s.now c.args.im c.requires.0 c.requires.2 c.requires.1 c.member_op.ensures.0)
+kind-k-requires c = (c.requires.0, op_room c.args.s.now c.args.im c.requires.0 c.requires.2 c.requires.1 c.member_op.ensures.0)
 
 pub returns-then-not-arity_right : goal.returns-then-not-arity_right
 returns-then-not-arity_right c =

@@ -18,8 +18,7 @@ loop-i-init c =
     )
 
 pub member_doubled-requires : goal.member_doubled-requires
-member_doubled-requires c =
-(c.requires.0, omega arith, c.requires.2, c.requires.3)
+member_doubled-requires c = (c.requires.0, omega arith, c.requires.2, c.requires.3)
 
 pub returns-then-member_doubled : goal.returns-then-member_doubled
 returns-then-member_doubled c =

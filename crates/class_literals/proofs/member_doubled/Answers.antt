@@ -7,8 +7,7 @@ use borrow.Author.Rules.{rules}
 use Rattle.class_literals.proofs.member_doubled.Goals as goal
 
 pub kind-requires : goal.kind-requires
-kind-requires c =
-(c.requires.0, op_room c.args.s.now c.args.im c.requires.0 c.requires.2 c.requires.1 c.member_op-o.ensures.0)
+kind-requires c = (c.requires.0, op_room c.args.s.now c.args.im c.requires.0 c.requires.2 c.requires.1 c.member_op-o.ensures.0)
 
 pub returns-then-kind-ne-LIT : goal.returns-then-kind-ne-LIT
 returns-then-kind-ne-LIT c =
@@ -22,8 +21,7 @@ returns-then-size_u16-to c =
     (sym (unmarked (tables_of s) c.args.last.now c.member_op-o.result c.member_value-v.result c.args.to c.requires.3 (slot-low c.args.last.now c.member_op-o.result c.member_value-v.result c.slot-at.ensures.0 c.size_u16.ensures.0 c.if-size_u16-to.true)))
 
 pub literal_from-requires : goal.literal_from-requires
-literal_from-requires c =
-(c.requires.0, sym c.kind.ensures.0 ∙ c.if-kind-ne-LIT.false)
+literal_from-requires c = (c.requires.0, sym c.kind.ensures.0 ∙ c.if-kind-ne-LIT.false)
 
 pub returns : goal.returns
 returns c =

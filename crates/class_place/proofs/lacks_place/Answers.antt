@@ -1,6 +1,5 @@
 use Rattle.class_place.proofs.Scan.{lacks-stood, lacks-new}
 use mathlib.Core.Path.{sym, ◌∙◌}
-use borrow.Author.Rules.{rules}
 use Rattle.class_place.proofs.lacks_place.Goals as goal
 
 pub returns-then-stands_at : goal.returns-then-stands_at

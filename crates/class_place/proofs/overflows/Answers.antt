@@ -2,7 +2,6 @@ use Rattle.class_place.specs.StandingLaws.{stands-before, there}
 use Rattle.class_place.proofs.Scan.{over-stood, over-new}
 use native.Mathlib.Omega.{arith}
 use mathlib.Core.Path.{sym, ◌∙◌}
-use borrow.Author.Rules.{rules}
 use Rattle.class_place.proofs.overflows.Goals as goal
 
 pub count_at-requires : goal.count_at-requires

@@ -1,11 +1,6 @@
 use Rattle.class_place.proofs.Scan.{scan-more, scan-stop, scan-end}
-use Rattle.monomial_terms.specs.Terms.{held, position}
-use borrow.Author.Rules.{rules}
-use Prim.Native.Nat.{◌≤◌, ◌-◌, ◌+◌}
 use native.Mathlib.Omega.{arith}
 use native.Mathlib.Numerals.{add-one}
-use mathlib.Core.Path.{◌≡◌}
-use lib.ListN.{drop}
 use Rattle.class_place.proofs.place.Goals as goal
 
 pub returns-then-class_at-c : goal.returns-then-class_at-c

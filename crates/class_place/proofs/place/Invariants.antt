@@ -1,9 +1,5 @@
-use Rattle.class_place.proofs.Scan.{scan-more, scan-stop, scan-end}
 use Rattle.monomial_terms.specs.Terms.{held, position}
-use borrow.Author.Rules.{rules}
 use Prim.Native.Nat.{◌≤◌, ◌-◌, ◌+◌}
-use native.Mathlib.Omega.{arith}
-use native.Mathlib.Numerals.{add-one}
 use mathlib.Core.Path.{◌≡◌}
 use lib.ListN.{drop}
 use Rattle.class_place.proofs.place.Given as goal

@@ -1,5 +1,4 @@
 use Rattle.class_place.proofs.Scan.{stands_read, stands-past}
-use borrow.Author.Rules.{rules}
 use Rattle.class_place.proofs.stands_at.Goals as goal
 
 pub returns-then-p-n : goal.returns-then-p-n

@@ -1,7 +1,6 @@
 use Rattle.spec.specs.Image.{Class}
 use Rattle.image.specs.Entry.{class-is}
 use mathlib.Core.Path.{ap, sym, ◌∙◌}
-use borrow.Author.Rules.{rules}
 use Rattle.classes.proofs.first_member.Goals as goal
 
 pub returns : goal.returns

@@ -1,7 +1,6 @@
 use Prim.Native.Nat.{min}
 use Rattle.cost_matrix.specs.Matrix.{celled}
 use mathlib.Core.Path.{◌≡◌, ◌∙◌}
-use borrow.Author.Rules.{rules}
 use Rattle.cost_matrix.proofs.lay_cell.Goals as goal
 
 pub returns : goal.returns

@@ -11,8 +11,7 @@ pub loop-v-init : goal.loop-v-init
 loop-v-init c = refl
 
 pub seek_right-requires : goal.seek_right-requires
-seek_right-requires c =
-(
+seek_right-requires c = (
       c.requires.0,
       c.requires.1,
       omega (arith, c.loop-v-test.true, span-end c.args.s.now c.args.im c.requires.0 c.requires.1 c.args.l c.members_of-to.result c.requires.2 c.members_of-to.ensures.0),

@@ -11,8 +11,7 @@ pub loop-j-init : goal.loop-j-init
 loop-j-init c = refl
 
 pub aligned-requires : goal.aligned-requires
-aligned-requires c =
-(c.requires.0, c.requires.1, c.requires.2, omega (arith, c.loop-j-test, c.requires.3))
+aligned-requires c = (c.requires.0, c.requires.1, c.requires.2, omega (arith, c.loop-j-test, c.requires.3))
 
 pub returns-then-n-aligned : goal.returns-then-n-aligned
 returns-then-n-aligned c =

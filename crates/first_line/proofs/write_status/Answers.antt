@@ -1,7 +1,6 @@
 use Rattle.spec.specs.Bytes.{text}
 use Rattle.spec.specs.Listing.{status_of}
 use Rattle.first_line.specs.FieldLaws.{status-as, status-wrote}
-use borrow.Author.Rules.{rules}
 use Rattle.first_line.proofs.write_status.Goals as goal
 
 pub text-requires : goal.text-requires

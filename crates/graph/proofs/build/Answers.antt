@@ -9,7 +9,7 @@ use Rattle.graph.proofs.build.Goals as goal
 
 pub build_first-requires : goal.build_first-requires
 build_first-requires c =
-    let k = c.clear_u16.auto.0 in
+    let k = c.clear_u16.auto.s in
     (c.requires.0, c.requires.1, c.requires.2, c.requires.3, omega (arith, c.requires.4, k), c.requires.5, c.clear_u16.ensures ∙ ap (λ (n : ℕ). replicate n 0) (sym k))
 
 pub returns-in-All : goal.returns-in-All

@@ -18,7 +18,7 @@ enter_cells-requires c =
     let n = c.in-Pair.rows in
     let m = c.in-Pair.cols in
     let f = transport-few t l r w x c.monomials.ensures n m c.in-Pair.is in
-    (c.monomials.auto.1.1.1.1.1.0, f.0, c.monomials.auto.1.1.1.1.1.1.0, f.1, c.requires.5, going-small d _ [] (transport-one t l r w x c.monomials.ensures n m c.in-Pair.is))
+    (c.monomials.auto.left, f.0, c.monomials.auto.right, f.1, c.requires.5, going-small d _ [] (transport-one t l r w x c.monomials.ensures n m c.in-Pair.is))
 
 pub returns-in-Nothing : goal.returns-in-Nothing
 returns-in-Nothing c =

@@ -22,8 +22,7 @@ returns-then-not-spans_right c =
     ap (verdict_as c.args.im c.args.s.now) z
 
 pub children_right-requires : goal.children_right-requires
-children_right-requires c =
-(c.requires.0, (spans-rule (tables_of c.args.s.now)).0 (passed c.spans_right.ensures c.if-not-spans_right.false))
+children_right-requires c = (c.requires.0, (spans-rule (tables_of c.args.s.now)).0 (passed c.spans_right.ensures c.if-not-spans_right.false))
 
 pub returns-then-not-children_right : goal.returns-then-not-children_right
 returns-then-not-children_right c =
@@ -31,8 +30,7 @@ returns-then-not-children_right c =
     ap (verdict_as c.args.im c.args.s.now) z
 
 pub bests_right-requires : goal.bests_right-requires
-bests_right-requires c =
-(c.requires.0, (spans-rule (tables_of c.args.s.now)).0 (passed c.spans_right.ensures c.if-not-spans_right.false), (children-rule (tables_of c.args.s.now)).0 (passed c.children_right.ensures c.if-not-children_right.false))
+bests_right-requires c = (c.requires.0, (spans-rule (tables_of c.args.s.now)).0 (passed c.spans_right.ensures c.if-not-spans_right.false), (children-rule (tables_of c.args.s.now)).0 (passed c.children_right.ensures c.if-not-children_right.false))
 
 pub returns-then-not-bests_right : goal.returns-then-not-bests_right
 returns-then-not-bests_right c =
@@ -40,8 +38,7 @@ returns-then-not-bests_right c =
     ap (verdict_as c.args.im c.args.s.now) z
 
 pub doubled-c-requires : goal.doubled-c-requires
-doubled-c-requires c =
-(c.requires.0, (spans-rule (tables_of c.args.s.now)).0 (passed c.spans_right.ensures c.if-not-spans_right.false), c.requires.1)
+doubled-c-requires c = (c.requires.0, (spans-rule (tables_of c.args.s.now)).0 (passed c.spans_right.ensures c.if-not-spans_right.false), c.requires.1)
 
 pub returns-then-c-im : goal.returns-then-c-im
 returns-then-c-im c =

@@ -15,7 +15,7 @@ pub loop-m-preserved : goal.loop-m-preserved
 loop-m-preserved c =
     let s = c.args.s.now in (
       omega arith,
-      c.put_u16.auto.0 ∙ c.loop-m.invariant.1,
+      c.put_u16.auto.s ∙ c.loop-m.invariant.1,
       rw c.put_u16.ensures
           (mark-next (tables_of s) c.loop-m.last c.loop-m.m c.slot-at.result (omega arith)
           (slot_is c.slot-at.ensures.0 c.member_op.ensures.0 c.member_value.ensures.0) c.loop-m.invariant.2),

@@ -1,7 +1,6 @@
 use Rattle.spec.specs.Image.{Member}
 use Rattle.image.specs.Entry.{member_is}
 use mathlib.Core.Path.{ap, sym, ◌∙◌}
-use borrow.Author.Rules.{rules}
 use Rattle.members.proofs.child_count.Goals as goal
 
 pub returns : goal.returns

@@ -1,7 +1,6 @@
 use Rattle.spec.specs.Bytes.{Two}
 use Rattle.image.specs.Entry.{child-is}
 use mathlib.Core.Path.{ap, sym, ◌∙◌}
-use borrow.Author.Rules.{rules}
 use Rattle.members.proofs.child_times.Goals as goal
 
 pub returns : goal.returns

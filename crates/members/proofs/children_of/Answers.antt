@@ -1,6 +1,5 @@
 use Rattle.image.specs.Entry.{span-is}
 use native.Mathlib.Omega.{arith}
-use borrow.Author.Rules.{rules}
 use Rattle.members.proofs.children_of.Goals as goal
 
 pub returns : goal.returns

@@ -30,5 +30,5 @@ returns-in-Doubled c =
 pub returns-in-Go : goal.returns-in-Go
 returns-in-Go c =
     let R = subst (λ (z : Prepared). Stands (limits_of c.args.lim) c.args.s.now c.args.q z c.args.graph.now c.args.terms.now c.args.runs.now) c.in-Go.is c.requires.0 in
-    let F = merges-run (limits_of c.args.lim) (length c.args.graph.now) c.args.s.now c.args.q c.in-Go.im R.0 c.args.out.now c.finish.new.out c.finish.result c.finish.ensures.0 c.finish.auto.1.1.1.1.1.1.1.1.1.1.1.0 in
+    let F = merges-run (limits_of c.args.lim) (length c.args.graph.now) c.args.s.now c.args.q c.in-Go.im R.0 c.args.out.now c.finish.new.out c.finish.result c.finish.ensures.0 c.finish.auto.out in
     (rw c.answer_of.ensures F, cleared-of c.finish.ensures.1)

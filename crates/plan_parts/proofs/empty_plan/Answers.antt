@@ -5,7 +5,6 @@ use mathlib.Core.Path.{◌≡◌, refl, ap, sym, ◌∙◌}
 use mathlib.Core.List.{List, ◌++◌}
 use lib.ListN.{length, take, drop, replicate, length-replicate}
 use Rattle.laws.specs.Buffers.{over}
-use borrow.Author.Rules.{rules}
 use Rattle.plan_parts.proofs.empty_plan.Goals as goal
 
 -- n numbers at its front are cleared

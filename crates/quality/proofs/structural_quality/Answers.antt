@@ -13,16 +13,13 @@ loop-k-init c =
 summed-none (quality_in c.args.im.classes c.args.graph.now c.args.pairs.now) (action_at (tables_of c.args.s.now) c.args.v).pairs
 
 pub left_class-l-requires : goal.left_class-l-requires
-left_class-l-requires c =
-(c.requires.0, c.requires.1, c.requires.2, omega (arith, c.loop-k-test.true, c.count-m.ensures.0))
+left_class-l-requires c = (c.requires.0, c.requires.1, c.requires.2, omega (arith, c.loop-k-test.true, c.count-m.ensures.0))
 
 pub right_class-r-requires : goal.right_class-r-requires
-right_class-r-requires c =
-(c.requires.0, c.requires.1, c.requires.2, omega (arith, c.loop-k-test.true, c.count-m.ensures.0))
+right_class-r-requires c = (c.requires.0, c.requires.1, c.requires.2, omega (arith, c.loop-k-test.true, c.count-m.ensures.0))
 
 pub mass_of-requires : goal.mass_of-requires
-mass_of-requires c =
-(c.requires.3, c.left_class-l.ensures.1, c.right_class-r.ensures.1)
+mass_of-requires c = (c.requires.3, c.left_class-l.ensures.1, c.right_class-r.ensures.1)
 
 pub loop-k-preserved : goal.loop-k-preserved
 loop-k-preserved c =

@@ -17,8 +17,7 @@ overflow_add-sum c =
     record { fits = omega (arith, c.loop-k.invariant.0, c.loop-k.invariant.2, c.loop-k-test.true, c.child_times-sum.ensures.1, children-many c.args.s.now c.args.im c.requires.0, c.requires.1.counts.few_children) }
 
 pub loop-k-preserved : goal.loop-k-preserved
-loop-k-preserved c =
-(
+loop-k-preserved c = (
       omega (arith, c.loop-k-test.true),
       counted-more (tables_of c.args.s.now) c.loop-k.sum c.loop-k.k c.loop-k.invariant.1 c.child_times-sum.result (rw (children-many c.args.s.now c.args.im c.requires.0) c.loop-k-test.true) c.child_times-sum.ensures.0,
       omega (arith, c.loop-k.invariant.2, c.child_times-sum.ensures.1),

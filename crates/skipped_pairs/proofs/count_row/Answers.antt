@@ -12,8 +12,7 @@ unfolding sum_to
 loop-j-init c = search rules
 
 pub loop-j-preserved : goal.loop-j-preserved
-loop-j-preserved c =
-(
+loop-j-preserved c = (
       omega arith,
       row_more c.args.id (facts_in c.args.f.now) (facts_in c.args.g.now) c.args.n c.args.i c.loop-j.j c.loop-j.sum c.one-sum.result c.is_counted.result c.loop-j.invariant.1 c.is_counted.ensures c.one-sum.ensures.0,
       omega arith,

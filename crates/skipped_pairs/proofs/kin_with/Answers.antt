@@ -15,8 +15,7 @@ returns-then-has_total c =
     with-stop (facts_in c.args.f.now) c.args.n c.args.i c.args.x c.kin_at-k.result c.loop-a.a c.has_total.result c.kin_at-k.ensures (omega arith) c.has_total.ensures c.loop-a.invariant.1 c.if-has_total.true
 
 pub loop-a-preserved : goal.loop-a-preserved
-loop-a-preserved c =
-(
+loop-a-preserved c = (
       omega arith,
       with-more (facts_in c.args.f.now) c.args.n c.args.i c.args.x c.kin_at-k.result c.loop-a.a c.has_total.result c.kin_at-k.ensures (omega arith) c.has_total.ensures c.loop-a.invariant.1 c.if-has_total.false,
     )

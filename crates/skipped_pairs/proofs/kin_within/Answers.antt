@@ -15,8 +15,7 @@ returns-then-is_within c =
     within-stop (facts_in c.args.f.now) c.args.n c.args.i c.args.x c.kin_at-k.result c.loop-a.a c.is_within.result c.kin_at-k.ensures (omega arith) c.is_within.ensures c.loop-a.invariant.1 c.if-is_within.true
 
 pub loop-a-preserved : goal.loop-a-preserved
-loop-a-preserved c =
-(
+loop-a-preserved c = (
       omega arith,
       within_more (facts_in c.args.f.now) c.args.n c.args.i c.args.x c.kin_at-k.result c.loop-a.a c.is_within.result c.kin_at-k.ensures (omega arith) c.is_within.ensures c.loop-a.invariant.1 c.if-is_within.false,
     )

@@ -12,7 +12,7 @@ use Rattle.skipped_under.proofs.facts_of.Goals as goal
 
 pub set_kins-requires : goal.set_kins-requires
 set_kins-requires c =
-    (c.requires.0, c.requires.1, c.requires.2, omega (arith, c.requires, c.gather-n.ensures.1, c.gather-n.auto.1.1.1.1.1.0))
+    (c.requires.0, c.requires.1, c.requires.2, omega (arith, c.requires, c.gather-n.ensures.1, c.gather-n.auto.f))
 
 pub returns : goal.returns
 returns c =

@@ -10,8 +10,7 @@ total-all-requires c =
     omega (arith, c.of_place-n.ensures, made-small (monomial_at (tables_of c.args.s.now) c.args.c c.args.x) c.args.mono.now c.of_place-n.new.mono c.of_place-n.result c.of_place-n.ensures)
 
 pub returns : goal.returns
-returns c =
-(
+returns c = (
       fill-held (monomial_at (tables_of c.args.s.now) c.args.c c.args.x) c.args.id c.total-all.result c.args.mono.now c.of_place-n.new.mono c.level.new.mono c.of_place-n.result c.level.result c.of_place-n.ensures c.total-all.ensures c.level.ensures,
       fill-few (monomial_at (tables_of c.args.s.now) c.args.c c.args.x) c.args.id c.total-all.result c.args.mono.now c.of_place-n.new.mono c.level.new.mono c.of_place-n.result c.level.result c.of_place-n.ensures c.total-all.ensures c.level.ensures,
     )

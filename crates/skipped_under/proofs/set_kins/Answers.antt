@@ -17,10 +17,9 @@ kin_of-k-requires c =
     (c.requires.0, c.requires.1, c.requires.2, omega (arith, c.requires, c.loop-i.invariant.1))
 
 pub loop-i-preserved : goal.loop-i-preserved
-loop-i-preserved c =
-(
+loop-i-preserved c = (
       omega arith,
-      c.put_kin.auto.0 ∙ c.loop-i.invariant.1,
+      c.put_kin.auto.f ∙ c.loop-i.invariant.1,
       λ ps q h. told-kin c.args.id (monomial_at (tables_of c.args.s.now) c.args.c) ps c.args.n c.loop-i.i c.long_size.result c.loop-i.f c.put_kin.new.f q (omega arith) (omega (arith, c.requires, c.loop-i.invariant.1)) (c.long_size.ensures ∙ c.kin_of-k.ensures) c.put_kin.ensures (c.loop-i.invariant.2 ps q h),
     )
 

@@ -1,5 +1,4 @@
 use mathlib.Core.Path.{◌∙◌}
-use borrow.Author.Rules.{rules}
 use Rattle.budget.specs.Checks.{many-one}
 use Rattle.budget.proofs.Budget.spend.Goals as goal
 

@@ -2,7 +2,6 @@ use native.Mathlib.Omega.{arith}
 use mathlib.Core.Path.{ap, ◌∙◌}
 use mathlib.Core.Bool.{true}
 use Prim.Native.Nat.{ℕ}
-use borrow.Author.Rules.{rules}
 use Rattle.budget.specs.Budget.{budget_of}
 use Rattle.budget.specs.Checks.{many-pass, many-expire}
 use Rattle.budget.proofs.Budget.spend_many.Goals as goal
