@@ -33,7 +33,7 @@ ring-more m v len (suc n) h b =
     let e : h + suc n ≡ h + 1 + n = omega arith in
     let far : RING + h % NODES ≢ RING + (h + suc n) % NODES = apart in
     let ih = ring-more m v len n (h + 1) (omega arith) in
-    let ih' : ring_from (set m (RING + (h + suc n) % NODES) v) (suc n) (h + 1) ≡ ring_from m n (h + 1) ++ (v ∷ []) = rw e ih in
+    let ih' : ring_from (set m (RING + (h + suc n) % NODES) v) (suc n) (h + 1) ≡ ring_from m n (h + 1) ++ (v ∷ []) = ap (λ (k : ℕ). ring_from (set m (RING + k % NODES) v) (suc n) (h + 1)) e ∙ ih in
     rw (get_or-set_other m (RING + (h + suc n) % NODES) (RING + h % NODES) v 0 far) (ap (λ (l : List ℕ). get_or m (RING + h % NODES) 0 ∷ l) ih')
   where
     apart : RING + h % NODES ≢ RING + (h + suc n) % NODES
