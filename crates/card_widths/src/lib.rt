@@ -1,5 +1,6 @@
 // The length of a card before it is written, up to the room that there is.
 #![tactic(auto)]
+
 ghost use Rattle.std.specs.Prelude.{◌≡◌, ◌++◌, ◌+◌, ◌*◌, ◌-◌, ◌/◌, ◌%◌, ◌≤◌, ◌<◌, length};
 ghost use Rattle.spec.specs.Bytes.{pick};
 ghost use Rattle.formula.specs.Card.{operations};

@@ -1,4 +1,3 @@
-use borrow.Author.Rules.{rules}
 use lib.ListN.{length}
 use Rattle.card_widths.specs.RoomLaws.{run-charged, gaps-over}
 use Rattle.card_forms.specs.Forms.{gap_text}

@@ -1,4 +1,3 @@
-use borrow.Author.Rules.{rules}
 use Rattle.card_widths.specs.WidthLaws.{marked-ends, list-ends}
 use Rattle.card_widths.proofs.ends_width.Goals as goal
 

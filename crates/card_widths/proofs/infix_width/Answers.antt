@@ -1,4 +1,3 @@
-use borrow.Author.Rules.{rules}
 use Rattle.card_widths.specs.WidthLaws.{bracketed-width, bare-width}
 use Rattle.card_widths.proofs.infix_width.Goals as goal
 
@@ -11,5 +10,3 @@ pub returns : goal.returns
 returns c =
     let a = c.args in
     bare-width a.table.now a.o c.sign_length-n.ensures.0 c.if-bracketed.false
-
-pub infix-width-spec : {M : Type 1} → statement M

@@ -1,4 +1,3 @@
-use borrow.Author.Rules.{rules}
 use Rattle.card_widths.specs.WidthLaws.{literal-width}
 use Rattle.card_widths.proofs.literal_width.Goals as goal
 
