@@ -21,7 +21,8 @@ use Rattle.lgg.specs.TurnPlaces.{turn-choice}
 use Rattle.laws.specs.BestMembers.{IsPair}
 use Rattle.lgg.specs.Within.{reach-within}
 use Rattle.lgg.specs.Limits.{limit-most}
-use Rattle.steps.specs.Demand3.{FirstQuiet, settled}
+use Rattle.steps.specs.Demand3.{FirstQuiet}
+use Rattle.steps.proofs.Demand3.{settled}
 use Rattle.counted.specs.Counted.{Improved, Counted, Beyond}
 use Rattle.counted.specs.CountedFew.{Ends, FinalRuns, final-runs, counted-few}
 use Rattle.counted.specs.CountedRun.{Slim, refused-13-slim, refused-13-beyond}

@@ -15,6 +15,7 @@ use Rattle.steps.specs.Graph.{build-cut}
 use Rattle.steps.specs.Run.{Ends, in_building, in_starting, in_rounds, run_ends}
 use Rattle.steps.specs.Outcomes.{root_in, started-says}
 use Rattle.steps.specs.Demand3 as D
+use Rattle.steps.proofs.Demand3 as P
 use Rattle.lgg.specs.Pairs.{PairCount, quality_after, LeastOf, FirstQuiet, Reported}
 use Rattle.lgg.specs.Moves.{pair-moves, pair-backs}
 use Rattle.lgg.specs.Count.{pair-count as pair-count-of}
@@ -61,7 +62,7 @@ module _ (who : Caller) (image : List ℕ) (left right budget : ℕ) (fit : Bool
 
   -- "A run whose full graph has n pairs completes with 2n + (n+1)(n+1) checks."
   pub completes : (k : ℕ) → PairCount t (left, right) k → 2 * k + (k + 1) * (k + 1) ≤ budget → o.complete ≡ true
-  completes k c h = D.completes (pairs t) (making (limits_for who) t) (pair-backs t) (left, right) k c budget o h ran
+  completes k c h = P.completes (pairs t) (making (limits_for who) t) (pair-backs t) (left, right) k c budget o h ran
 
   -- Every query has one such n.
   pub pair-count : (k : ℕ) × PairCount t (left, right) k × ((j : ℕ) → PairCount t (left, right) j → j ≡ k)
@@ -82,7 +83,7 @@ module _ (who : Caller) (image : List ℕ) (left right budget : ℕ) (fit : Bool
     where
       whole : (ps : List Two) (c : ℕ) → build (limits_for who) t (left, right) budget ≡ ok (passed ps c) → Reports
       whole ps c k =
-          let (R, l, q) = D.first-quiet (pairs t) (limits_for who).pairs (pair-backs t) (left, right) budget c ps k in
+          let (R, l, q) = P.first-quiet (pairs t) (limits_for who).pairs (pair-backs t) (left, right) budget c ps k in
           built ps (D.graph (pairs t) (limits_for who).pairs (left, right) budget c ps k) R l q (D.reported (pairs t) (making (limits_for who) t) (left, right) budget c ps k R q budget o ran)
 
       go : Ends (pairs t) (making (limits_for who) t) (left, right) budget o → Reports

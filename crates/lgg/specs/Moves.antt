@@ -19,7 +19,7 @@ use Rattle.laws.specs.Lists.{in-nil, in-cons, in_left, in_right, in-append, in_m
 use Rattle.laws.specs.Bag.{each_in}
 use Rattle.steps.specs.Quality.{⊑_refl, suc-⊑, quality-⊑}
 use Rattle.steps.specs.Rounds.{Moves, Backs}
-use Rattle.steps.specs.Plain.{backs}
+use Rattle.steps.proofs.Plain.{backs}
 use Rattle.steps.specs.Reads.{Reads}
 
 -- a transport's cells, and the solver's plan over them

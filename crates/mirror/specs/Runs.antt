@@ -13,7 +13,7 @@ use Rattle.laws.specs.Tests.{eqb_swap}
 use Rattle.laws.specs.Lists.{map-map}
 use Rattle.steps.specs.Quality.{two-eq}
 use Rattle.steps.specs.Turn.{Won}
-use Rattle.steps.specs.Mirror as mirror
+use Rattle.steps.proofs.Mirror as mirror
 use Rattle.steps.specs.Mirror.{Symmetry, Alike}
 use Rattle.lgg.specs.Dedup.{repeat-worth}
 use Rattle.lgg.specs.Moves.{solved, each-offer, action-offered, plan-offered, pair_reads}

@@ -13,7 +13,8 @@ use Rattle.laws.specs.Results.{refused-ok}
 use Rattle.laws.specs.Valid.{Valid}
 use Rattle.laws.specs.BestMembers.{IsPair}
 use Rattle.steps.specs.Quality.{⊑-size}
-use Rattle.steps.specs.Rounds.{changed, q-start, q-mono, bound}
+use Rattle.steps.specs.Rounds.{changed, q-start, q-mono}
+use Rattle.steps.proofs.Rounds.{bound}
 use Rattle.steps.specs.Graph.{NodeCount, Closed, build-whole, build-closed, build-passed, build-cut, build-few, build-over}
 use Rattle.steps.specs.Run.{Status, Ended, Ends, in_building, in_starting, in_rounds, run_ends}
 use Rattle.steps.specs.Outcomes.{root_in, root-quality, started-says}

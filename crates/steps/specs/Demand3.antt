@@ -1,8 +1,7 @@
 -- Demand 3 of the definitions, for nodes of any kind: what a run gives, for every query and every budget. Sentences in quotation marks are document 01's.
 -- Without any law of the actions: the graph, what is reported, budgets. From `Backs`: the bound. From `Moves`: the least derivations.
-use Rattle.std.specs.Prelude.{◌≡◌, refl, ◌≢◌, ◌↔◌, Bool, true, false, List, ◌∷◌, ℕ, zero, suc, ◌+◌, ◌*◌, ◌-◌, ◌/◌, ◌≤◌, ◌<◌, min, length}
-use Rattle.std.proofs.Common.{sym, ap, ◌∙◌, inl, inr, arith, eq-or-lt_of_le, add-one}
-use Rattle.std.proofs.Math.Nat.{suc_inj}
+use Rattle.std.specs.Prelude.{◌≡◌, refl, ◌≢◌, ◌↔◌, true, false, List, ◌∷◌, ℕ, suc, ◌+◌, ◌*◌, ◌-◌, ◌/◌, ◌≤◌, ◌<◌, min, length}
+use Rattle.std.proofs.Common.{sym, ap, ◌∙◌, inl, inr, arith, add-one}
 use Rattle.spec.specs.Bytes.{In, Two, Res, ok, refused, passed, cut_short}
 use Rattle.spec.specs.Pool.{Interned}
 use Rattle.spec.specs.System.{System, Making, build, qualities_after, Outcome, started, run_of, Reachable, Derivation}
@@ -11,10 +10,10 @@ use Rattle.laws.specs.Tests.{clash}
 use Rattle.laws.specs.Lists.{Distinct}
 use Rattle.laws.specs.Results.{refused-ok, ok-inj}
 use Rattle.steps.specs.Quality.{⊑-of-eq}
-use Rattle.steps.specs.Rounds.{Backs, Moves, LeastOf, quality_after, changed, q-start, q-mono, quiet_same, changed-differs, attained, least, least-every, bound}
+use Rattle.steps.specs.Rounds.{Moves, LeastOf, quality_after, q-start, q-mono, quiet_same, changed-differs, attained, least, least-every}
 use Rattle.steps.specs.Graph.{NodeCount, build-closed, build-whole, build-first, build-passed, build-cut, build-same, build-short, build-enough, build-at}
 use Rattle.steps.specs.Run.{Status, Ended, Ends, in_building, in_starting, in_rounds, run_ends, Stays, run-later}
-use Rattle.steps.specs.Outcomes.{root_in, root-quality, started-says, started-least, quiet-if-complete, complete-if, rounds-reported, rounds-grow}
+use Rattle.steps.specs.Outcomes.{root_in, root-quality, started-says, started-least, quiet-if-complete, rounds-reported, rounds-grow}
 
 -- ---- the graph
 -- "Built in full, it holds the queried pair (left class, right class) and, with each pair, every pair of classes that an action of it joins. Its n pairs are counted once each."
@@ -42,7 +41,7 @@ module _ {N : Type 0} (S : System N) (M : Making N) (Move : N → List N → Lis
       go : Ends S M p b o → LeastOf S Move o.rounds p o.quality
       go (in_building root k z) = started-least S Move b p root 1 o z
       go (in_starting root ps c k h z) = started-least S Move b p root (length ps) o z
-      go (in_rounds ps c d k h f) = rw (root-quality S M.limit p b c d ps o k f) (least-after-rounds b c ps k o.rounds p (root_in S M.limit p b c ps k))
+      go (in_rounds ps c d k h f) = rw (root-quality S M.limit p b c d ps o k f) (attained S Move L ps (build-closed S M.limit p b c ps k) o.rounds p (root_in S M.limit p b c ps k), least S Move L ps (build-closed S M.limit p b c ps k) o.rounds p (root_in S M.limit p b c ps k))
 
   -- ---- a complete run is least among the derivations of every height
   pub least-of-every-height : (b : ℕ) (o : Outcome) → run_of S M p b ≡ ok o → o.complete ≡ true → (h : ℕ) (z : Two) → Derivation S Move h p z → o.quality ⊑ z
@@ -56,27 +55,6 @@ module _ {N : Type 0} (S : System N) (M : Making N) (Move : N → List N → Lis
       go (in_starting root ps c k l s) = partial root (length ps) s
       go (in_rounds ps c m k l f) =
           rw (root-quality S M.limit p b c m ps o k f) (least-every S Move L ps (build-closed S M.limit p b c ps k) o.rounds (quiet-if-complete S ps m o f full) p (root_in S M.limit p b c ps k) h z d)
-
--- ---- the bound
--- The round with index n, and every later one, changes nothing.
-pub settled : {N : Type 0} (S : System N) (lim : ℕ) (B : Backs S) (p : N) (b c : ℕ) (ps : List N) → build S lim p b ≡ ok (passed ps c) → (d : ℕ) → length ps ≤ d → qualities_after S (suc d) ps ≡ qualities_after S d ps
-settled S lim B p b c ps e d h = quiet_same S ps d (go (changed S ps d) refl)
-  where
-    go : (x : Bool) → changed S ps d ≡ x → changed S ps d ≡ false
-    go true k = absurd (omega (arith, bound S B ps (build-closed S lim p b c ps e) d k))
-    go false k = k
-
-module _ {N : Type 0} (S : System N) (M : Making N) (B : Backs S) (p : N) where
-  -- A run whose full graph has n nodes and that is not refused is complete with 2n + (n + 1)(n + 1) checks.
-  pub completes : (n : ℕ) → NodeCount S p n → (b : ℕ) (o : Outcome) → 2 * n + (n + 1) * (n + 1) ≤ b → run_of S M p b ≡ ok o → o.complete ≡ true
-  completes n count b o h e = go (run_ends S M p b o e)
-    where
-      go : Ends S M p b o → o.complete ≡ true
-      go (in_building root k s) = absurd (omega (arith, build-cut S M.limit p n count b k))
-      go (in_starting root ps c k l s) = let (x, y) = build-passed S M.limit p n count b c ps k in absurd (omega arith)
-      go (in_rounds ps c m k l f) =
-          let (x, y) = build-passed S M.limit p n count b c ps k in
-          complete-if S B ps m o (build-closed S M.limit p b c ps k) f (omega (arith, ap (λ (z : ℕ). suc z * suc z) x))
 
 -- ---- budgets
 -- the quality is the queried node's after the rounds reported
@@ -174,21 +152,6 @@ rounds-finished {N = N} S M p B C ps g b o h e = go (run_ends S M p b o e)
 pub record FirstQuiet {N : Type 0} (S : System N) (ps : List N) (R : ℕ) : Type 0 where
   pub earlier : (r : ℕ) → r < R → qualities_after S (suc r) ps ≢ qualities_after S r ps
   pub quiet : qualities_after S (suc R) ps ≡ qualities_after S R ps
-
-abbrev Earlier : {N : Type 0} → System N → List N → ℕ → Type 0
-Earlier S ps r = (k : ℕ) → k < r → qualities_after S (suc k) ps ≢ qualities_after S k ps
-
--- There is one, and its index is n at most.
-pub first-quiet : {N : Type 0} (S : System N) (lim : ℕ) (B : Backs S) (p : N) (b c : ℕ) (ps : List N) → build S lim p b ≡ ok (passed ps c) → (R : ℕ) × (R ≤ length ps) × FirstQuiet S ps R
-first-quiet {N = N} S lim B p b c ps e = go (length ps) 0 (omega arith) (λ r h. absurd (omega arith))
-  where
-    go : (d r : ℕ) → r + d ≡ length ps → Earlier S ps r → (R : ℕ) × (R ≤ length ps) × FirstQuiet S ps R
-    go zero r z h = (r, omega arith, record { earlier = h; quiet = settled S lim B p b c ps e r (omega arith) })
-    go (suc d) r z h = by (changed S ps r) refl (λ g. go d (suc r) (omega arith) g)
-      where
-        by : (x : Bool) → changed S ps r ≡ x → (Earlier S ps (suc r) → (R : ℕ) × (R ≤ length ps) × FirstQuiet S ps R) → (R : ℕ) × (R ≤ length ps) × FirstQuiet S ps R
-        by false k f = (r, omega arith, record { earlier = h; quiet = quiet_same S ps r k })
-        by true k f = f (λ j l. elim (eq-or-lt_of_le l) [ inl m ↦ rw (suc_inj m) (changed-differs S ps r k) | inr m ↦ h j (omega arith) ])
 
 -- What a run with b checks reports that is not refused, where ps is its full graph, n its number of nodes, and R its first quiet round.
 pub record Reported {N : Type 0} (S : System N) (p : N) (ps : List N) (n R b : ℕ) (o : Outcome) : Type 0 where

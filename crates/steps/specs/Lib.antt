@@ -8,7 +8,6 @@ pub mod Turn
 pub mod Reads
 pub mod Bounds
 pub mod Rounds
-pub mod Plain
 pub mod TurnsFrom
 pub mod RoundsFrom
 pub mod RunFrom

@@ -1,5 +1,5 @@
 -- What the outcomes of runs have to do with the qualities after their rounds, and with each other.
-use Rattle.std.specs.Prelude.{◌≡◌, refl, ◌≢◌, ◌↔◌, true, false, List, [], ◌∷◌, ℕ, zero, suc, ◌*◌, ◌/◌, ◌%◌, ◌≤◌, ◌<◌, min, length, get_or}
+use Rattle.std.specs.Prelude.{◌≡◌, refl, ◌≢◌, ◌↔◌, true, false, List, [], ◌∷◌, ℕ, suc, ◌*◌, ◌/◌, ◌%◌, ◌≤◌, ◌<◌, min, length, get_or}
 use Rattle.std.proofs.Common.{sym, ap, ◌∙◌, inl, inr, zero-le, arith, le_refl, mod-lt, mul-le-mul_right, lt_of_not-le}
 use Rattle.std.proofs.Math.Nat.{div-add-mod}
 use Rattle.std.proofs.Math.Decide.{dec_le}
@@ -9,9 +9,9 @@ use Rattle.spec.specs.System.{System, Making, build, look_up, qualities_after, O
 use Rattle.spec.specs.Meaning.{◌⊑◌}
 use Rattle.laws.specs.Tests.{clash}
 use Rattle.steps.specs.Quality.{⊑-of-eq}
-use Rattle.steps.specs.Rounds.{Backs, LeastOf, quality_after, changed, quiet_same, changed-differs, bound}
+use Rattle.steps.specs.Rounds.{LeastOf, quality_after, changed, quiet_same, changed-differs}
 use Rattle.steps.specs.Enter.{Starts}
-use Rattle.steps.specs.Graph.{Closed, NodeCount, build-whole, build-first, build-passed, build-cut, build-same}
+use Rattle.steps.specs.Graph.{NodeCount, build-whole, build-first, build-passed, build-cut, build-same}
 use Rattle.steps.specs.Run.{Status, Ended, Ends, in_building, in_starting, in_rounds, run_ends}
 
 -- ---- the queried node stands first
@@ -47,18 +47,6 @@ quiet-if-complete S ps b o f full = go f.status
     go : Status S ps b o → changed S ps o.rounds ≡ false
     go (inl x) = x.1
     go (inr x) = absurd (clash (sym full ∙ x.0))
-
--- the rounds reported are n at most, so n + 1 rounds complete
-pub complete-if : {N : Type 0} (S : System N) → Backs S → (ps : List N) (b : ℕ) (o : Outcome) → Closed S ps → Ended S ps b o → suc (length ps) * suc (length ps) ≤ b → o.complete ≡ true
-complete-if S B ps b o closed f h = go f.status
-  where
-    last : (r : ℕ) → ((k : ℕ) → k < r → changed S ps k ≡ true) → r ≤ length ps
-    last zero g = zero-le
-    last (suc r) g = bound S B ps closed r (g r (omega arith))
-
-    go : Status S ps b o → o.complete ≡ true
-    go (inl x) = x.0
-    go (inr (x, y)) = absurd (omega (arith, mul-le-mul_right (suc (length ps)) (last o.rounds f.moved)))
 
 div_is : (d n r : ℕ) → r * suc n ≤ d → d < suc r * suc n → d / suc n ≡ r
 div_is d n r h k = go (dec_le (d / suc n) r) (dec_le r (d / suc n))

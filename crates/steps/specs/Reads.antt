@@ -29,9 +29,16 @@ module _ {N : Type 0} (S : System N) (R : Reads S) where
   offers-agree : (q q' : N → Two) (p : N) (w : Turn N) → ((c : N) → In c (S.joins p) → q c ≡ q' c) → offer_all S q (S.offers q p) w ≡ offer_all S q' (S.offers q' p) w
   offers-agree q q' p w h = all-agree S q q' (S.offers q p) w (λ a i c j. h c (R.inside q p a i c j)) ∙ ap (λ (l : List (Act N)). offer_all S q' l w) (R.offered q q' p h)
 
-  pub turn_agree : (q q' : N → Two) (p : N) → q p ≡ q' p → ((c : N) → In c (S.joins p) → q c ≡ q' c) → turn_of S q p ≡ turn_of S q' p
+  -- a node's own quality and those of the nodes that it joins are the same
+  abbrev pub Agree : (N → Two) → (N → Two) → N → Type 0
+  Agree q q' p = (q p ≡ q' p) × ((c : N) → In c (S.joins p) → q c ≡ q' c)
+
+  pub turn-reads : (q q' : N → Two) (p : N) → Agree q q' p → turn_of S q p ≡ turn_of S q' p
   unfolding turn_of
-  turn_agree q q' p e h = offers-agree q q' p (record { quality = q p; choice = stay }) h ∙ ap (λ (z : Two). offer_all S q' (S.offers q' p) (record { quality = z; choice = stay })) e
+  turn-reads q q' p (e, h) = offers-agree q q' p (record { quality = q p; choice = stay }) h ∙ ap (λ (z : Two). offer_all S q' (S.offers q' p) (record { quality = z; choice = stay })) e
+
+  pub turn_agree : (q q' : N → Two) (p : N) → q p ≡ q' p → ((c : N) → In c (S.joins p) → q c ≡ q' c) → turn_of S q p ≡ turn_of S q' p
+  turn_agree q q' p e h = turn-reads q q' p (e, h)
 
   -- q': the qualities after the round over q. Where no joined node changed in it, the node's next turn keeps what it has.
   pub turn-again : (q q' : N → Two) (p : N) → q' p ≡ (turn_of S q p).quality → ((c : N) → In c (S.joins p) → q' c ≡ q c) → turn_of S q' p ≡ record { quality = q' p; choice = stay }
@@ -58,7 +65,7 @@ module _ {N : Type 0} (S : System N) (R : Reads S) where
 -- ---- over a list that holds every node it joins, a turn is read from any tables that agree with the list's qualities and terms
 module _ {N : Type 0} (S : System N) (R : Reads S) (ps : List N) (closed : Closed S ps) where
   pub turn-closed : (q q' : N → Two) → ((c : N) → In c ps → q c ≡ q' c) → (p : N) → In p ps → turn_of S q p ≡ turn_of S q' p
-  turn-closed q q' h p i = turn_agree S R q q' p (h p i) (λ c j. h c (closed p c i j))
+  turn-closed q q' h p i = turn-reads S R q q' p (h p i, λ c j. h c (closed p c i j))
 
   pub term-closed : (M : Making N) (q q' : N → Two) (of of' : N → ℕ) (pool : Pool) → ((c : N) → In c ps → q c ≡ q' c) → ((c : N) → In c ps → of c ≡ of' c) → (p : N) → In p ps
       → choice_term M of pool (of p) (turn_of S q p).choice ≡ choice_term M of' pool (of' p) (turn_of S q' p).choice
