@@ -1,5 +1,6 @@
 // A member's children as they arrive (02, Paper 6): each is added to its class, at the class's place in the rising order, in a lent buffer.
 #![tactic(auto)]
+
 ghost use Rattle.std.specs.Prelude.{◌≡◌, ◌∷◌, ◌+◌, ◌*◌, ◌<◌, length, set, drop};
 ghost use Rattle.std.proofs.Math.Seq.{paste};
 ghost use Rattle.spec.specs.Monomial.{insert_add};

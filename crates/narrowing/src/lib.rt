@@ -1,5 +1,6 @@
 // Narrowing a monomial to counts of 32 bits (02, Paper 7): it says at which entry it fails first.
 #![tactic(auto)]
+
 ghost use Rattle.std.specs.Prelude.{◌≡◌};
 ghost use Rattle.spec.specs.Monomial.{fails_at};
 ghost use Rattle.monomial_terms.specs.Terms.{held};

@@ -1,5 +1,6 @@
 // The readers of the image's table of operations.
 #![tactic(auto)]
+
 ghost use Rattle.std.specs.Prelude.{◌≡◌, ◌<◌};
 ghost use Rattle.spec.specs.Image.{tables_of, the_operation};
 ghost use Rattle.image.specs.Loaded.{Loaded};

@@ -26,13 +26,13 @@ pub returns-then-not-is_greater : goal.returns-then-not-is_greater
 returns-then-not-is_greater c =
     let a = c.args in
     let g = rw (c.child.ensures.0, c.child-in-loop-j.ensures.0) at c.is_greater.ensures in
-    rw c.put_u64.ensures (moving-stop (pool_of a.terms.now a.runs.now) a.list.now a.i a.n (get_or a.list.now a.i 0) c.loop-j.list c.loop-j.j c.loop-j.invariant c.requires.2 (omega arith) (sym g ∙ not-true _ c.if-not-is_greater.true))
+    rw c.put_u64.ensures (moving-stop (pool_of a.terms.now a.runs.now) a.list.now a.i a.n (get_or a.list.now a.i 0) c.loop-j.list c.loop-j.j c.loop-j.invariant c.requires.2 (omega arith) (sym g ∙ c.if-not-is_greater.true))
 
 pub loop-j-preserved : goal.loop-j-preserved
 loop-j-preserved c =
     let a = c.args in
     let g = rw (c.child.ensures.0, c.child-in-loop-j.ensures.0) at c.is_greater.ensures in
-    rw c.put_u64-in-loop-j.ensures (moving-turn (pool_of a.terms.now a.runs.now) a.list.now a.i a.n (get_or a.list.now a.i 0) c.loop-j.list c.loop-j.j c.loop-j.invariant c.requires.2 (omega arith) (sym g ∙ not-false _ c.if-not-is_greater.false))
+    rw c.put_u64-in-loop-j.ensures (moving-turn (pool_of a.terms.now a.runs.now) a.list.now a.i a.n (get_or a.list.now a.i 0) c.loop-j.list c.loop-j.j c.loop-j.invariant c.requires.2 (omega arith) (sym g ∙ c.if-not-is_greater.false))
 
 pub returns : goal.returns
 returns c =

@@ -13,12 +13,12 @@ use Rattle.card_reader.proofs.read_card.Goals as goal
 pub returns-then-not-is_formula : goal.returns-then-not-is_formula
 returns-then-not-is_formula c =
     let a = c.args in
-    (read_none (limits_of a.lim) a.table.now a.text.now a.terms.now a.runs.now c.requires.3 (formula-refused a.table.now a.text.now (sym c.is_formula.ensures.0 ∙ not-true _ c.if-not-is_formula.true)), c.is_formula.ensures.1)
+    (read_none (limits_of a.lim) a.table.now a.text.now a.terms.now a.runs.now c.requires.3 (formula-refused a.table.now a.text.now (sym c.is_formula.ensures.0 ∙ c.if-not-is_formula.true)), c.is_formula.ensures.1)
 
 pub enter_terms-r-requires : goal.enter_terms-r-requires
 enter_terms-r-requires c =
     let a = c.args in
-    (formula-read a.table.now a.text.now (sym c.is_formula.ensures.0 ∙ not-false _ c.if-not-is_formula.false), c.requires.0, omega (arith, c.requires.1, c.is_formula.auto.frames), c.requires.2, c.requires.3, c.requires.4)
+    (formula-read a.table.now a.text.now (sym c.is_formula.ensures.0 ∙ c.if-not-is_formula.false), c.requires.0, omega (arith, c.requires.1, c.is_formula.auto.frames), c.requires.2, c.requires.3, c.requires.4)
 
 pub take_back-requires : goal.take_back-requires
 take_back-requires c =

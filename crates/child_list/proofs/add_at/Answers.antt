@@ -3,7 +3,6 @@ use Rattle.child_list.proofs.Insert.{added-hit, added-miss}
 use Prim.Native.Nat.{◌-◌}
 use native.Mathlib.Omega.{arith}
 use mathlib.Core.Path.{sym, ◌∙◌}
-use borrow.Author.Rules.{rules}
 use Rattle.child_list.proofs.add_at.Goals as goal
 
 pub count_at-requires : goal.count_at-requires
@@ -21,9 +20,9 @@ put_term-requires c =
 
 pub returns-then-stands_at : goal.returns-then-stands_at
 returns-then-stands_at c = (
-      added-hit c.args.n c.args.p c.args.c c.args.k c.args.mono.now c.put_term.new.mono c.requires c.count_at.result (sym c.stands_at.ensures ∙ c.if-stands_at.true) c.count_at.ensures c.put_term.ensures.0,
-      c.put_term.ensures.1,
-    )
+  added-hit c.args.n c.args.p c.args.c c.args.k c.args.mono.now c.put_term.new.mono c.requires c.count_at.result (sym c.stands_at.ensures ∙ c.if-stands_at.true) c.count_at.ensures c.put_term.ensures.0,
+  c.put_term.ensures.1,
+)
 
 pub insert_term-requires : goal.insert_term-requires
 insert_term-requires c =
@@ -31,6 +30,6 @@ insert_term-requires c =
 
 pub returns : goal.returns
 returns c = (
-      added-miss c.args.n c.args.p c.args.c c.args.k c.args.mono.now c.insert_term.new.mono c.requires (c.args.n - c.args.p) (sym c.stands_at.ensures ∙ c.if-stands_at.false) (omega (arith, c.requires.within)) c.insert_term.ensures.0,
-      c.insert_term.ensures.1,
-    )
+  added-miss c.args.n c.args.p c.args.c c.args.k c.args.mono.now c.insert_term.new.mono c.requires (c.args.n - c.args.p) (sym c.stands_at.ensures ∙ c.if-stands_at.false) (omega (arith, c.requires.within)) c.insert_term.ensures.0,
+  c.insert_term.ensures.1,
+)

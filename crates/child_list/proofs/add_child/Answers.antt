@@ -1,6 +1,5 @@
 use Rattle.child_list.proofs.Answer.{adds-unlisted, adds-full, adds-overflow, fits-at, adds-held}
 use native.Mathlib.Omega.{arith}
-use borrow.Author.Rules.{rules}
 use Rattle.child_list.proofs.add_child.Goals as goal
 
 pub returns-then-n-mono : goal.returns-then-n-mono

@@ -1,5 +1,4 @@
 use Rattle.child_list.proofs.Insert.{roomy-fits}
-use borrow.Author.Rules.{rules}
 use Rattle.child_list.proofs.add_class.Goals as goal
 
 pub add_at-requires : goal.add_at-requires

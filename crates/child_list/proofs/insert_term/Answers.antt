@@ -1,7 +1,6 @@
-use Rattle.child_list.proofs.Buffer.{Rippled, rippled-none, rippled-more}
-use Rattle.monomial_terms.specs.Terms.{terms, rest}
-use borrow.Author.Rules.{rules}
-use Prim.Native.Nat.{◌≤◌, ◌<◌, ◌-◌, ◌+◌, ◌*◌}
+use Rattle.child_list.proofs.Buffer.{rippled-none, rippled-more}
+use Rattle.monomial_terms.specs.Terms.{terms}
+use Prim.Native.Nat.{◌<◌, ◌+◌, ◌*◌}
 use native.Mathlib.Omega.{arith}
 use mathlib.Core.Path.{◌≡◌, refl, ◌∙◌}
 use lib.ListN.{length}

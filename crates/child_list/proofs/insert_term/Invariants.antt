@@ -1,9 +1,7 @@
-use Rattle.child_list.proofs.Buffer.{Rippled, rippled-none, rippled-more}
+use Rattle.child_list.proofs.Buffer.{Rippled}
 use Rattle.monomial_terms.specs.Terms.{terms, rest}
-use borrow.Author.Rules.{rules}
-use Prim.Native.Nat.{◌≤◌, ◌<◌, ◌-◌, ◌+◌, ◌*◌}
-use native.Mathlib.Omega.{arith}
-use mathlib.Core.Path.{◌≡◌, refl, ◌∙◌}
+use Prim.Native.Nat.{◌≤◌, ◌-◌, ◌+◌}
+use mathlib.Core.Path.{◌≡◌}
 use lib.ListN.{length}
 use Rattle.child_list.proofs.insert_term.Given as goal
 

@@ -1,7 +1,6 @@
 use Rattle.monomial_terms.specs.TermLaws.{terms-set, rest-set}
 use native.Mathlib.Omega.{arith}
 use lib.ListN.{length-set}
-use borrow.Author.Rules.{rules}
 use Rattle.child_list.proofs.put_term.Goals as goal
 
 pub bounds-mono-at-2 : goal.bounds-mono-at-2

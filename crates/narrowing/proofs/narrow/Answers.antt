@@ -1,6 +1,4 @@
-use Rattle.narrowing.proofs.Scan.{Upto, upto-more, fails-here, fits-buffer, fits_all}
-use borrow.Author.Rules.{rules}
-use Prim.Native.Nat.{◌-◌}
+use Rattle.narrowing.proofs.Scan.{upto-more, fails-here, fits-buffer, fits_all}
 use native.Mathlib.Omega.{arith}
 use Rattle.narrowing.proofs.narrow.Goals as goal
 

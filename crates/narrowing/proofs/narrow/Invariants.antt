@@ -1,7 +1,5 @@
-use Rattle.narrowing.proofs.Scan.{Upto, upto-more, fails-here, fits-buffer, fits_all}
-use borrow.Author.Rules.{rules}
+use Rattle.narrowing.proofs.Scan.{Upto}
 use Prim.Native.Nat.{◌-◌}
-use native.Mathlib.Omega.{arith}
 use Rattle.narrowing.proofs.narrow.Given as goal
 
 abbrev pub invariant-loop-i : goal.invariant-loop-i

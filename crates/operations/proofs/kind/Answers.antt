@@ -1,7 +1,6 @@
 use Rattle.spec.specs.Image.{Operation}
 use Rattle.image.specs.Entry.{operation-is}
 use mathlib.Core.Path.{ap, sym, ◌∙◌}
-use borrow.Author.Rules.{rules}
 use Rattle.operations.proofs.kind.Goals as goal
 
 pub returns : goal.returns

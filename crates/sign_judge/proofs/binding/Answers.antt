@@ -16,12 +16,12 @@ pub returns-then-p-gt9 : goal.returns-then-p-gt9
 returns-then-p-gt9 c = let a = c.args in too-high a.table.now a.o c.if-p-gt9.true
 
 pub returns-then-not-has_sign : goal.returns-then-not-has_sign
-returns-then-not-has_sign c = let a = c.args in no_sign a.table.now a.o (sym (not-true _ c.if-not-has_sign.true) ∙ c.has_sign.ensures)
+returns-then-not-has_sign c = let a = c.args in no_sign a.table.now a.o (sym c.if-not-has_sign.true ∙ c.has_sign.ensures)
 
 pub returns-then-not-is_own : goal.returns-then-not-is_own
-returns-then-not-is_own c = let a = c.args in not_own a.table.now a.o (sym (not-true _ c.if-not-is_own.true) ∙ c.is_own.ensures)
+returns-then-not-is_own c = let a = c.args in not_own a.table.now a.o (sym c.if-not-is_own.true ∙ c.is_own.ensures)
 
 pub returns : goal.returns
 returns c =
     let a = c.args in
-    bound a.table.now a.o (sym (not-false _ c.if-not-has_sign.false) ∙ c.has_sign.ensures) (sym (not-false _ c.if-not-is_own.false) ∙ c.is_own.ensures) c.if-p-eq0.false (omega arith)
+    bound a.table.now a.o (sym c.if-not-has_sign.false ∙ c.has_sign.ensures) (sym c.if-not-is_own.false ∙ c.is_own.ensures) c.if-p-eq0.false (omega arith)

@@ -10,9 +10,9 @@ returns-then-q-o c = rw (eq-eqb _ _ c.if-q-o.true) refl
 pub returns-then-not-has_sign : goal.returns-then-not-has_sign
 returns-then-not-has_sign c =
     let a = c.args in
-    rw (ne_eqb a.q a.o c.if-q-o.false, sym c.has_sign.ensures ∙ not-true _ c.if-not-has_sign.true) refl
+    rw (ne_eqb a.q a.o c.if-q-o.false, sym c.has_sign.ensures ∙ c.if-not-has_sign.true) refl
 
 pub returns : goal.returns
 returns c =
     let a = c.args in
-    rw (ne_eqb a.q a.o c.if-q-o.false, sym c.has_sign.ensures ∙ not-false _ c.if-not-has_sign.false) c.same_sign.ensures
+    rw (ne_eqb a.q a.o c.if-q-o.false, sym c.has_sign.ensures ∙ c.if-not-has_sign.false) c.same_sign.ensures

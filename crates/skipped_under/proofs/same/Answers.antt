@@ -14,11 +14,11 @@ loop-i-init c = refl
 
 pub returns-then-not-same_term : goal.returns-then-not-same_term
 returns-then-not-same_term c =
-    same_stop c.args.left.now c.args.right.now c.args.n c.args.m c.loop-i.i c.requires.0 c.requires.1 c.if-n-m.false c.loop-i.invariant c.same_term.result (omega arith) c.same_term.ensures (not-true _ c.if-not-same_term.true)
+    same_stop c.args.left.now c.args.right.now c.args.n c.args.m c.loop-i.i c.requires.0 c.requires.1 c.if-n-m.false c.loop-i.invariant c.same_term.result (omega arith) c.same_term.ensures c.if-not-same_term.true
 
 pub loop-i-preserved : goal.loop-i-preserved
 loop-i-preserved c =
-    same_more c.args.left.now c.args.right.now c.args.n c.args.m c.loop-i.i c.requires.0 c.requires.1 c.if-n-m.false c.loop-i.invariant c.same_term.result (omega arith) c.same_term.ensures (not-false _ c.if-not-same_term.false)
+    same_more c.args.left.now c.args.right.now c.args.n c.args.m c.loop-i.i c.requires.0 c.requires.1 c.if-n-m.false c.loop-i.invariant c.same_term.result (omega arith) c.same_term.ensures c.if-not-same_term.false
 
 pub returns : goal.returns
 returns c =
