@@ -1,5 +1,6 @@
 // The text of a term written, from a place on; each function answers the place after what it wrote.
 #![tactic(auto)]
+
 ghost use Rattle.std.specs.Prelude.{◌≡◌, [], ◌++◌, ◌+◌, ◌*◌, ◌-◌, ◌/◌, ◌%◌, ◌≤◌, ◌<◌, length, take, drop};
 ghost use Rattle.spec.specs.Bytes.{pick};
 ghost use Rattle.formula.specs.Card.{operations, sign};

@@ -1,10 +1,8 @@
-use borrow.Author.Rules.{rules}
 use Prim.Native.Nat.{◌≤◌, ◌-◌}
-use native.Mathlib.Omega.{arith}
-use mathlib.Core.Path.{◌≡◌, refl}
-use lib.ListN.{length, length-set}
-use lib.Seq.{paste, paste-zero}
-use Rattle.card_text.specs.CopyLaws.{bytes_at, again-turn, again-end}
+use mathlib.Core.Path.{◌≡◌}
+use lib.ListN.{length}
+use lib.Seq.{paste}
+use Rattle.card_text.specs.CopyLaws.{bytes_at}
 use Rattle.card_text.proofs.write_again.Given as goal
 
 abbrev pub invariant-loop-i : goal.invariant-loop-i

@@ -1,4 +1,3 @@
-use borrow.Author.Rules.{rules}
 use mathlib.Core.List.{[], ◌∷◌, ◌++◌}
 use Rattle.decimals.specs.WriteLaws.{wrote-both, room-first, room-second}
 use Rattle.formula.specs.Card.{sign}

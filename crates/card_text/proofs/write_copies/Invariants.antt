@@ -1,8 +1,6 @@
-use borrow.Author.Rules.{rules}
 use Prim.Native.Nat.{◌-◌}
-use native.Mathlib.Omega.{arith}
 use Rattle.card_forms.specs.Forms.{gap_text}
-use Rattle.card_text.specs.CopyLaws.{Copying, copying-start, gap-room, again-asks, copying-turn, copying-end}
+use Rattle.card_text.specs.CopyLaws.{Copying}
 use Rattle.card_text.proofs.write_copies.Given as goal
 
 abbrev pub invariant-loop-k : goal.invariant-loop-k

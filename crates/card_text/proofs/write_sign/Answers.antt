@@ -1,4 +1,3 @@
-use borrow.Author.Rules.{rules}
 use mathlib.Core.Path.{refl}
 use Rattle.card_text.specs.PieceLaws.{sign-bytes}
 use Rattle.decimals.specs.WriteLaws.{wrote_as}
