@@ -1,5 +1,5 @@
 -- The lines of a term: the same for the same term in any pool; and they tell the term.
-use Rattle.std.specs.Prelude.{◌≡◌, refl, true, List, [], ◌∷◌, ◌++◌, ℕ, ◌<◌, length, drop}
+use Rattle.std.specs.Prelude.{◌≡◌, refl, true, List, ℕ, ◌<◌, length, drop}
 use Rattle.std.proofs.Common.{sym, ap, ◌∙◌}
 use Rattle.std.proofs.Math.Seq.{drop-append_seam}
 use Rattle.spec.specs.Pool.{Pool}
@@ -7,7 +7,6 @@ use Rattle.spec.specs.Run.{Outcome}
 use Rattle.spec.specs.Listing.{reported, first_line, lines_of, listing_of}
 use Rattle.spec.specs.Meaning.{tree_at}
 use Rattle.pools.specs.Pool.{PoolValid}
-use Rattle.pools.specs.OrderPools.{Same}
 use Rattle.pools.proofs.OrderListing.{listing-anywhere}
 use Rattle.demands.specs.ListingTells.{root-tree}
 

@@ -1,26 +1,24 @@
 -- Which refusals the two calls give, and when: 17 exactly for a text that is not a formula, 18 exactly for an operation in the term without a proper sign; the order; the output untouched.
 use Rattle.std.specs.Prelude.{◌≡◌, ◌≢◌, ◌⊎◌, Bool, true, leb, length, take, drop}
 use Rattle.std.proofs.Math.Path.{refl}
-use Rattle.std.proofs.Common.{sym, ap, ◌∙◌, inl, inr, arith, leb-true, leb-false, le-leb}
+use Rattle.std.proofs.Common.{sym, ap, ◌∙◌, inl, inr, arith, leb-true, leb-false}
 use Rattle.std.proofs.Math.Bool.{false}
-use mathlib.Core.List.{List, [], ◌∷◌, ◌++◌}
-use Prim.Native.Nat.{ℕ, ◌-◌, ◌≤◌, ◌<◌}
-use Rattle.std.proofs.lemmas.Bool.{lt-leb}
+use mathlib.Core.List.{List, [], ◌++◌}
+use Prim.Native.Nat.{ℕ, ◌<◌}
 use Rattle.spec.specs.Bytes.{all, Res, ok, refused, rule, ◌>>=◌}
 use Rattle.spec.specs.Pool.{Pool, Interned, node_at}
 use Rattle.spec.specs.Run.{document_limits}
 use Rattle.spec.specs.Listing.{lines_of}
 use Rattle.spec.specs.Merge.{output_after}
-use Rattle.laws.specs.Results.{bind_ok, bind-refused, ok-inj, refused-ok, refused-inj}
+use Rattle.laws.specs.Results.{bind-refused, refused-ok, refused-inj}
 use Rattle.laws.specs.Tests.{clash, is_false}
-use Rattle.pools.specs.Pool.{empty-valid}
 use Rattle.formula.specs.Card.{Tree, write, spell, proper_mark, FormulaText}
-use Rattle.formula.specs.Lexer.{card_tree, write_card, read_card}
+use Rattle.formula.specs.Lexer.{card_tree, read_card}
 use Rattle.formula.specs.Lines.{read_lines, card_of_lines, lines_of_card}
-use Rattle.formula_laws.specs.LineTerms.{passed, read-lined}
+use Rattle.formula_laws.specs.LineTerms.{read-lined}
 use Rattle.formula_laws.specs.Refusals.{read-17, no-formula, read-13, write-18, write-14, write-ok}
 use Rattle.formula_laws.specs.Signed.{InTerm, node_proper, nodes-proper, card-proper}
-use Rattle.card_contract.specs.Calls.{card_call, read_call, Answers, Cards, Reads}
+use Rattle.card_contract.specs.Calls.{card_call, read_call, Answers, Reads}
 use Rattle.card_contract.specs.declared.Answer.{Answer}
 use Rattle.card_contract.specs.declared.Answer.TheVariants.{Text, Refused}
 use Rattle.card_demands.specs.Written.{last}

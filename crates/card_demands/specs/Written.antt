@@ -1,5 +1,5 @@
 -- A card that a call wrote: it reads back to the same term, it has the fewest brackets, and none can be left out.
-use Rattle.std.specs.Prelude.{◌≡◌, refl, ◌≢◌, Bool, true, false, List, [], ◌∷◌, ◌++◌, ℕ, suc, ◌-◌, ◌≤◌, ◌<◌, leb, length, take}
+use Rattle.std.specs.Prelude.{◌≡◌, refl, ◌≢◌, Bool, true, false, List, [], ◌∷◌, ◌++◌, ℕ, ◌-◌, ◌≤◌, ◌<◌, leb, length, take}
 use Rattle.std.proofs.Common.{sym, ◌∙◌, arith, leb-false}
 use Rattle.std.proofs.Math.Path.{ap}
 use Rattle.spec.specs.Bytes.{all, Res, ok, refused, rule, ◌>>=◌}
@@ -8,7 +8,7 @@ use Rattle.spec.specs.Run.{document_limits}
 use Rattle.spec.specs.Listing.{lines_of}
 use Rattle.spec.specs.Meaning.{Branched, occurs, tree_at}
 use Rattle.laws.specs.Results.{bind_ok, ok-inj, refused-ok, refused-inj}
-use Rattle.pools.specs.Pool.{PoolValid, empty-valid}
+use Rattle.pools.specs.Pool.{empty-valid}
 use Rattle.formula.specs.Card.{Tree, write, spell, proper_mark, FormulaText}
 use Rattle.formula.specs.Lexer.{card_tree, write_card, enter, read_text, read_card}
 use Rattle.formula.specs.Lines.{read_lines, card_of_lines, lines_of_card}
