@@ -1,5 +1,6 @@
 // A call's first run: its limits, and whether it met one that is not the caller's own.
 #![tactic(auto)]
+
 ghost use Rattle.std.specs.Prelude.{◌≡◌};
 ghost use Rattle.spec.specs.declared.Caller.TheVariants.{Desk};
 ghost use Rattle.query.specs.Settings.{limits_of};

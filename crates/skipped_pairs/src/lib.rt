@@ -1,5 +1,6 @@
 // The monomial pairs of two classes that are passed over (02, Paper 7), each counted once, by the facts of their monomials in two lent buffers.
 #![tactic(auto)]
+
 ghost use Rattle.std.specs.Prelude.{◌≡◌, not, ◌+◌, ◌*◌, ◌≤◌, ◌<◌, leb, eqb, length};
 ghost use Rattle.spec.specs.Bytes.{pick, both, either, sum_to};
 ghost use Rattle.spec.specs.Image.{NO-IDENTITY};

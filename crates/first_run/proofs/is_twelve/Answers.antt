@@ -1,5 +1,4 @@
 use mathlib.Core.Path.{sym, ap}
-use borrow.Author.Rules.{rules}
 use Rattle.spec.specs.declared.Caller.TheVariants.{Desk}
 use Rattle.first_run.specs.First.{over_pairs}
 use Rattle.first_run.proofs.is_twelve.Goals as goal

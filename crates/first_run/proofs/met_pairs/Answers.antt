@@ -1,5 +1,4 @@
 use mathlib.Core.Path.{sym, ap, ◌∙◌}
-use borrow.Author.Rules.{rules}
 use Rattle.spec.specs.declared.Caller.{Caller}
 use Rattle.first_run.specs.First.{over_pairs}
 use Rattle.first_run.proofs.met_pairs.Goals as goal

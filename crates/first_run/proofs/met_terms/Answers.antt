@@ -1,5 +1,4 @@
 use mathlib.Core.Path.{sym, ap}
-use borrow.Author.Rules.{rules}
 use Rattle.first_run.specs.First.{over_terms}
 use Rattle.first_run.proofs.met_terms.Goals as goal
 

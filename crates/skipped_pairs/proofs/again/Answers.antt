@@ -1,6 +1,5 @@
 use Rattle.skipped_pairs.proofs.Choices.{again-left, again-right}
 use Rattle.skipped_pairs.specs.Held.{facts_in}
-use borrow.Author.Rules.{rules}
 use Rattle.skipped_pairs.proofs.again.Goals as goal
 
 pub returns-then-left_again : goal.returns-then-left_again

@@ -1,5 +1,4 @@
 use Rattle.skipped_pairs.proofs.Choices.{common-right, common-left}
-use borrow.Author.Rules.{rules}
 use Rattle.skipped_pairs.proofs.common.Goals as goal
 
 pub returns-then-a-b : goal.returns-then-a-b

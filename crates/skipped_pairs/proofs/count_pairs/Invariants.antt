@@ -1,9 +1,7 @@
-use Rattle.skipped_pairs.proofs.Scans.{in_rows, sum_more, rows_end}
+use Rattle.skipped_pairs.proofs.Scans.{in_rows}
 use Rattle.skipped_pairs.specs.Held.{facts_in}
 use Rattle.spec.specs.Bytes.{sum_to}
-use borrow.Author.Rules.{rules}
 use Prim.Native.Nat.{◌≤◌, ◌-◌, ◌*◌}
-use native.Mathlib.Omega.{arith}
 use mathlib.Core.Path.{◌≡◌}
 use Rattle.skipped_pairs.proofs.count_pairs.Given as goal
 

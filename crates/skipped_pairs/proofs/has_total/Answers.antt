@@ -1,6 +1,5 @@
 use Rattle.skipped_pairs.proofs.Choices.{kin-not, kin-same}
 use lib.Dec.{eqb}
-use borrow.Author.Rules.{rules}
 use Prim.Native.Nat.{ℕ}
 use mathlib.Core.Path.{ap}
 use Rattle.skipped_pairs.proofs.has_total.Goals as goal

@@ -1,6 +1,5 @@
 use Rattle.skipped_pairs.proofs.Choices.{counts-no, counts-over}
 use Rattle.skipped_pairs.specs.Held.{facts_in}
-use borrow.Author.Rules.{rules}
 use Rattle.skipped_pairs.proofs.is_counted.Goals as goal
 
 pub returns-then-is_over : goal.returns-then-is_over

@@ -1,7 +1,5 @@
 use Rattle.skipped_pairs.proofs.Choices.{over_no, over-left, over-right}
 use Rattle.skipped_pairs.specs.Held.{facts_in}
-use borrow.Author.Tests.{not-true, not-false}
-use borrow.Author.Rules.{rules}
 use Rattle.skipped_pairs.proofs.is_over.Goals as goal
 
 pub returns-then-not-is_pair : goal.returns-then-not-is_pair

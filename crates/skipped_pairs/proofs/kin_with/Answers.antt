@@ -1,10 +1,6 @@
-use Rattle.skipped_pairs.proofs.Scans.{from, equal, with-start, with-stop, with-more, with-end}
+use Rattle.skipped_pairs.proofs.Scans.{with-start, with-stop, with-more, with-end}
 use Rattle.skipped_pairs.specs.Held.{facts_in}
-use Rattle.skips.specs.Facts.{kin_with}
-use borrow.Author.Rules.{rules}
-use Prim.Native.Nat.{◌≤◌, ◌-◌}
 use native.Mathlib.Omega.{arith}
-use mathlib.Core.Path.{◌≡◌}
 use Rattle.skipped_pairs.proofs.kin_with.Goals as goal
 
 pub loop-a-init : goal.loop-a-init
@@ -16,9 +12,9 @@ returns-then-has_total c =
 
 pub loop-a-preserved : goal.loop-a-preserved
 loop-a-preserved c = (
-      omega arith,
-      with-more (facts_in c.args.f.now) c.args.n c.args.i c.args.x c.kin_at-k.result c.loop-a.a c.has_total.result c.kin_at-k.ensures (omega arith) c.has_total.ensures c.loop-a.invariant.1 c.if-has_total.false,
-    )
+  omega arith,
+  with-more (facts_in c.args.f.now) c.args.n c.args.i c.args.x c.kin_at-k.result c.loop-a.a c.has_total.result c.kin_at-k.ensures (omega arith) c.has_total.ensures c.loop-a.invariant.1 c.if-has_total.false,
+)
 
 pub returns : goal.returns
 returns c =

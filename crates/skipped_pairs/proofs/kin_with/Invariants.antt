@@ -1,9 +1,7 @@
-use Rattle.skipped_pairs.proofs.Scans.{from, equal, with-start, with-stop, with-more, with-end}
+use Rattle.skipped_pairs.proofs.Scans.{from, equal}
 use Rattle.skipped_pairs.specs.Held.{facts_in}
 use Rattle.skips.specs.Facts.{kin_with}
-use borrow.Author.Rules.{rules}
 use Prim.Native.Nat.{◌≤◌, ◌-◌}
-use native.Mathlib.Omega.{arith}
 use mathlib.Core.Path.{◌≡◌}
 use Rattle.skipped_pairs.proofs.kin_with.Given as goal
 

@@ -1,10 +1,6 @@
-use Rattle.skipped_pairs.proofs.Scans.{from, most, within-start, within-stop, within_more, within_end}
+use Rattle.skipped_pairs.proofs.Scans.{within-start, within-stop, within_more, within_end}
 use Rattle.skipped_pairs.specs.Held.{facts_in}
-use Rattle.skips.specs.Facts.{kin_within}
-use borrow.Author.Rules.{rules}
-use Prim.Native.Nat.{◌≤◌, ◌-◌}
 use native.Mathlib.Omega.{arith}
-use mathlib.Core.Path.{◌≡◌}
 use Rattle.skipped_pairs.proofs.kin_within.Goals as goal
 
 pub loop-a-init : goal.loop-a-init
@@ -16,9 +12,9 @@ returns-then-is_within c =
 
 pub loop-a-preserved : goal.loop-a-preserved
 loop-a-preserved c = (
-      omega arith,
-      within_more (facts_in c.args.f.now) c.args.n c.args.i c.args.x c.kin_at-k.result c.loop-a.a c.is_within.result c.kin_at-k.ensures (omega arith) c.is_within.ensures c.loop-a.invariant.1 c.if-is_within.false,
-    )
+  omega arith,
+  within_more (facts_in c.args.f.now) c.args.n c.args.i c.args.x c.kin_at-k.result c.loop-a.a c.is_within.result c.kin_at-k.ensures (omega arith) c.is_within.ensures c.loop-a.invariant.1 c.if-is_within.false,
+)
 
 pub returns : goal.returns
 returns c =

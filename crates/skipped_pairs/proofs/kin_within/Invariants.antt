@@ -1,9 +1,7 @@
-use Rattle.skipped_pairs.proofs.Scans.{from, most, within-start, within-stop, within_more, within_end}
+use Rattle.skipped_pairs.proofs.Scans.{from, most}
 use Rattle.skipped_pairs.specs.Held.{facts_in}
 use Rattle.skips.specs.Facts.{kin_within}
-use borrow.Author.Rules.{rules}
 use Prim.Native.Nat.{◌≤◌, ◌-◌}
-use native.Mathlib.Omega.{arith}
 use mathlib.Core.Path.{◌≡◌}
 use Rattle.skipped_pairs.proofs.kin_within.Given as goal
 

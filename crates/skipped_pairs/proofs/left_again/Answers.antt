@@ -1,8 +1,6 @@
 use Rattle.skipped_pairs.proofs.Choices.{left-none, left_here, left-beside}
 use Rattle.skipped_pairs.specs.Held.{facts_in}
-use borrow.Author.Tests.{not-true, not-false}
 use Rattle.skips.specs.Facts.{kin_with, kin_within}
-use borrow.Author.Rules.{rules}
 use Rattle.skipped_pairs.proofs.left_again.Goals as goal
 
 pub returns-then-not-kin_within : goal.returns-then-not-kin_within

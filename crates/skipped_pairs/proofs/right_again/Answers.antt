@@ -1,5 +1,4 @@
 use Rattle.skipped_pairs.proofs.Choices.{right-even, right-uneven}
-use borrow.Author.Rules.{rules}
 use Rattle.skipped_pairs.proofs.right_again.Goals as goal
 
 pub returns-then-total_at-x : goal.returns-then-total_at-x
