@@ -1,6 +1,5 @@
 -- Each limit met and passed by one, with the paper's own numbers.
 use Rattle.std.specs.Prelude.{◌≡◌, refl, true, List, [], ◌∷◌, ◌++◌, map, ℕ, replicate}
-use Prim.Native.String.{String}
 use Rattle.spec.specs.Bytes.{text, Two, up_from, ok, refused, cut_short}
 use Rattle.spec.specs.Image.{tables_of}
 use Rattle.spec.specs.Action.{joins}

@@ -1,5 +1,5 @@
 -- Small queries for each feature, and budgets that cut in each phase: answers of the listed Rust with its own count of checks (oracle/sample/small.txt).
-use Rattle.std.specs.Prelude.{◌≡◌, refl, List, [], ◌∷◌, ℕ}
+use Rattle.std.specs.Prelude.{◌≡◌, refl, List, [], ◌∷◌}
 use Prim.Native.String.{String}
 use Rattle.spec.specs.Bytes.{text}
 use Rattle.spec.specs.Merge.{program_of}

@@ -1,5 +1,5 @@
 -- Queries whose answer tells the rules from a porter's slip: answers of the listed Rust with its own count of checks (oracle/sample/slips.txt).
-use Rattle.std.specs.Prelude.{◌≡◌, refl, List, [], ◌∷◌, ℕ}
+use Rattle.std.specs.Prelude.{◌≡◌, refl, List, [], ◌∷◌}
 use Prim.Native.String.{String}
 use Rattle.spec.specs.Bytes.{text}
 use Rattle.spec.specs.Merge.{program_of}
