@@ -1,5 +1,5 @@
 -- What the definitions of Edges say in each case of the code.
-use Rattle.std.specs.Prelude.{◌≡◌, true, false, List, get_or, set}
+use Rattle.std.specs.Prelude.{◌≡◌, List, get_or}
 use Rattle.std.proofs.Math.Path.{refl, sym}
 use Prim.Native.Nat.{ℕ, suc, ◌+◌, ◌-◌, ◌*◌, ◌≤◌, ◌<◌}
 use native.Mathlib.Omega.{arith}
@@ -8,7 +8,7 @@ use Rattle.wide.specs.declared.Wide.{Wide}
 use Rattle.wide.specs.Wrap.{add_words, neg_words}
 use Rattle.std.proofs.Common.{add_assoc, add-zero, mul-le-mul_right}
 use Rattle.std.proofs.Math.Nat.{sub-zero}
-use Rattle.net.specs.Net.{state_of, labelled, offered, joined, improved, relaxed, label_of, unseen_to}
+use Rattle.net.specs.Net.{relaxed, label_of}
 use Rattle.cost_matrix.specs.Matrix.{cap_of, cost_of}
 use Rattle.search_laws.specs.Edges.{along_margin, along_cell, against_cell, spread_to, along_row, against_column, visited, TAKEN}
 use Rattle.spec.specs.Transport.{WIDEST}

@@ -1,7 +1,7 @@
 -- What the definitions of Path say in each case of the code, and one turn of each loop along the path.
 use Rattle.std.specs.Prelude.{◌≡◌, List, [], ◌∷◌, ℕ, suc, ◌+◌, ◌-◌, ◌*◌, ◌^◌, ◌≤◌, ◌<◌, min, Bool, true, false, eqb, leb, length, get_or, set, drop}
 use Rattle.std.proofs.Math.Path.{refl}
-use Rattle.std.proofs.Common.{sym, ap, ◌∙◌, mul-le-mul, arith, add-one, length-set, get_or-set_same, get_or-set_other, drop-set-lt}
+use Rattle.std.proofs.Common.{sym, ap, ◌∙◌, mul-le-mul, arith, get_or-set_same, get_or-set_other, drop-set-lt}
 use Rattle.std.proofs.Math.Decide.{ℕ_discrete, dec_lt, dec_le}
 use borrow.Author.Tests.{le-leb, lt-leb, eq-eqb, ne_eqb}
 use Rattle.std.proofs.Math.Seq.{set_out}

@@ -11,7 +11,7 @@ use Rattle.spec.specs.Meaning.{occurs, In, here}
 use Rattle.spec.specs.Transport.{Problem, Search, node_count, sink, label, leave, begin}
 use Rattle.laws.specs.Tests.{clash}
 use Rattle.flow.specs.Cut.{bit}
-use Rattle.flow.specs.Search.{label_at, visited as all-visited}
+use Rattle.flow.specs.Search.{label_at}
 use Rattle.flow.specs.SearchEnds.{get_d-same}
 use Rattle.search_laws.specs.Holds.{NetHolds, ring_from}
 use Rattle.search_laws.specs.NetReads.{ring-other, ring-length, labelled-state}
