@@ -1,5 +1,5 @@
 -- Where a run is not refused by 13: its terms, counted by classes, pairs and rounds, stay within 16,384, and their runs within 65,536.
-use Rattle.std.specs.Prelude.{◌≡◌, ◌≢◌, List, ◌∷◌, ℕ, suc, ◌+◌, ◌*◌, ◌-◌, ◌≤◌, ◌<◌, max, length}
+use Rattle.std.specs.Prelude.{◌≡◌, ◌≢◌, List, [], ◌∷◌, ℕ, suc, ◌+◌, ◌*◌, ◌-◌, ◌≤◌, ◌<◌, max, length}
 use Rattle.std.proofs.Common.{sym, ap, ◌∙◌, lt_of_not-le, mul-le-mul_right, arith, length-append}
 use Rattle.std.proofs.Math.Decide.{dec_lt, dec_le}
 use Rattle.spec.specs.Bytes.{Two, each, ok, refused, passed}
@@ -62,7 +62,7 @@ ends-pairs who t p B C ps e b k q i m l = go (dec_lt k (length ps))
 -- at most as many as the places that the pair's actions join
 each-longer : {A B : Type 0} (f : A → List B) (l : List A) (x : A) → In x l → length (f x) ≤ length (each f l)
 unfolding each
-each-longer {A = A} {B = B} f mathlib.Core.List.[] x x3 = elim x3 [ ]
+each-longer f [] x i = elim i [ ]
 each-longer f (y ∷ l) x here = omega (arith, length-append (f x) (each f l))
 each-longer f (y ∷ l) x (there i) = omega (arith, length-append (f y) (each f l), each-longer f l x i)
 
