@@ -5,18 +5,17 @@ use Rattle.std.proofs.Math.Bool.{Bool, true, false}
 use mathlib.Core.List.{List, [], ◌∷◌, ◌++◌, map}
 use Prim.Native.Nat.{ℕ, suc, ◌≤◌}
 use Rattle.std.proofs.Math.Dec.{eqb}
-use Rattle.spec.specs.Bytes.{pick, both, filter, each, Two, Limits, ok, passed}
+use Rattle.spec.specs.Bytes.{pick, both, filter, each, Two, Limits}
 use Rattle.spec.specs.Image.{Tables, identity_of, members_of, children_of, NO-IDENTITY}
 use Rattle.spec.specs.Monomial.{Monomial, MonomialPair, monomial, monomials_of, classes, itself, both_itself, pad_pair, narrow, narrow_pairs, representation_pairs}
 use Rattle.spec.specs.Action.{TransportAction, ac_ops, transports, cell_pairs}
 use Rattle.spec.specs.Pairs.{pairs}
-use Rattle.spec.specs.Graph.{build}
 use Rattle.spec.specs.Meaning.{In, here, there}
 use Rattle.laws.specs.Monomials.{Rising, end, more, rising-insert, monomial-rises, Padded, level, left, right, padded}
 use Rattle.laws.specs.Lists as L
 use Rattle.laws.specs.Lists.{in-nil, in-cons, in-append, map-in, Distinct, none, pigeon}
 use Rattle.laws.specs.Bag.{each_in, filter-in}
-use Rattle.steps.specs.Graph.{Closed, build-closed, build-few}
+use Rattle.steps.specs.Graph.{Closed}
 use Rattle.lgg.specs.Moves.{transport-joins}
 
 -- ---- rows and columns rise
@@ -111,6 +110,3 @@ module _ (t : Tables) (ps : List Two) (closed : Closed (pairs t) ps) (p : Two) (
       let (x, y) = transports-rise t p.0 p.1 a h in
       pigeon (cell_pairs a.sides) ps (grid-once (classes a.sides.rows) (classes a.sides.cols) (rising-once 0 a.sides.rows x) (rising-once 0 a.sides.cols y))
       (λ q j. closed p q i (transport-joins t p a h q j))
-
-pub cells-few : (lim : Limits) (t : Tables) (root : Two) (b c : ℕ) (ps : List Two) → build lim t root b ≡ ok (passed ps c) → (p : Two) → In p ps → CellsFit lim t p
-cells-few lim t root b c ps e p i a h = omega (arith, cells-within t ps (build-closed (pairs t) lim.pairs root b c ps e) p i a h, build-few (pairs t) lim.pairs root b c ps e)

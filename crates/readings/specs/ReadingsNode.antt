@@ -74,15 +74,17 @@ pub two-branches : (ts : List Term) (a b : ℕ) → expand (runs_of ts (join_run
 unfolding written
 two-branches ts a b = expand-joined ts ((a, 1) ∷ (b, 1) ∷ [])
 
--- its first branch is read by the first, its second by the second
-pub read-variants : (ts : List Term) (a b : ℕ) → (read_first (tree_of ts (variants_node a b)) ≡ read_first (numbered ts a)) × (read_second (tree_of ts (variants_node a b)) ≡ read_second (numbered ts b))
-read-variants ts a b =
+-- it is read by its branch at place k
+pub read-place : (ts : List Term) (a b k : ℕ) → k < 2 → reading k (tree_of ts (variants_node a b)) ≡ reading k (get_or (numbered ts a ∷ numbered ts b ∷ []) k (lit 0 0))
+read-place ts a b k h =
     let r = runs_of ts (join_runs ((a, 1) ∷ (b, 1) ∷ [])) in
     let e = two-branches ts a b in
-    let m = tree-marked ts (variants_node a b) refl in (
-      ap read_first m ∙ read-marked 0 r (rw e (omega arith)) ∙ ap (λ (l : List Term). read_first (get_or l 0 (lit 0 0))) e,
-      ap read_second m ∙ read-marked 1 r (rw e (omega arith)) ∙ ap (λ (l : List Term). read_second (get_or l 1 (lit 0 0))) e,
-    )
+    let m = tree-marked ts (variants_node a b) refl in
+    ap (reading k) m ∙ read-marked k r (rw e h) ∙ ap (λ (l : List Term). reading k (get_or l k (lit 0 0))) e
+
+-- its first branch is read by the first, its second by the second
+pub read-variants : (ts : List Term) (a b : ℕ) → (read_first (tree_of ts (variants_node a b)) ≡ read_first (numbered ts a)) × (read_second (tree_of ts (variants_node a b)) ≡ read_second (numbered ts b))
+read-variants ts a b = (read-place ts a b 0 (omega arith), read-place ts a b 1 (omega arith))
 
 module _ (t : Tables) where
   -- the terms may be reordered, if the classes go along

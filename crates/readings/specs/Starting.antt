@@ -20,7 +20,7 @@ use Rattle.laws.specs.BestMembers.{IsPair}
 use Rattle.steps.specs.Standing.{Begins}
 use Rattle.steps.specs.Readings.{Makes}
 use Rattle.lgg.specs.Stands.{Fits}
-use Rattle.readings.specs.ReadingsNode.{size, runs-size, two-branches, read-variants, TermFor}
+use Rattle.readings.specs.ReadingsNode.{size, runs-size, two-branches, read-place, TermFor}
 use Rattle.readings.specs.Best.{Itself, best-term}
 
 -- the classes of a pair: the left one, the right one
@@ -55,7 +55,7 @@ module _ (lim : Limits) (t : Tables) where
       runs-size r ∙ ap (λ (l : List Term). sum (map size l)) (two-branches ts a b) ∙ omega (arith, ap (λ (z : Two). z.0) g.quality, ap (λ (z : Two). z.0) h.quality) in record {
         quality = ap term_quality (tree-marked ts (variants_node a b) refl) ∙ ap₂ (λ (x y : ℕ). (x, y)) s s;
         branched = rw (tree-marked ts (variants_node a b) refl) (at_place (ap length (two-branches ts a b)) (rw (two-branches ts a b) (and_branch g.branched (and_branch h.branched no_branch))));
-        reads = two_ways (λ k. Belongs t (reading k (tree_of ts (variants_node a b))) (sides c k)) (rw (read-variants ts a b).0 (g.reads 0 (omega arith))) (rw (read-variants ts a b).1 (h.reads 1 (omega arith)));
+        reads = two_ways (λ k. Belongs t (reading k (tree_of ts (variants_node a b))) (sides c k)) (rw (read-place ts a b 0 (omega arith)) (g.reads 0 (omega arith))) (rw (read-place ts a b 1 (omega arith)) (h.reads 1 (omega arith)));
       }
 
   pub starting-made : Valid t → (p : Pool) (c : Two) (r : Interned) → c.0 < length t.classes → c.1 < length t.classes → PoolValid p → starting_term lim t p c ≡ ok r → Makes (Good t) p c (starting_quality t c) r
