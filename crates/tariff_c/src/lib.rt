@@ -35,9 +35,7 @@ pub extern "C" fn tariff_merge(
     runs: &mut [u64],
     out: &mut [u8],
 ) -> Returned
-    ensures* { do
-      let fit = fit_of 256 (length graph.old) (length pairs.old) (length work.old) (length flow.old) (length terms.old) (length runs.old)
-      ⌜ Returns Desk image.now left right budget fit out.old out.new result × Cleared fit graph.old graph.new pairs.old pairs.new work.old work.new flow.old flow.new terms.old terms.new runs.old runs.new ⌝ }
+    ensures { let fit = fit_of 256 (length graph.old) (length pairs.old) (length work.old) (length flow.old) (length terms.old) (length runs.old) in Returns Desk image.now left right budget fit out.old out.new result × Cleared fit graph.old graph.new pairs.old pairs.new work.old work.new flow.old flow.new terms.old terms.new runs.old runs.new }
 {
     tariff::tariff_merge(
         image, left, right, budget, graph, pairs, work, flow, terms, runs, out,
@@ -59,9 +57,7 @@ pub extern "C" fn tariff_quote(
     runs: &mut [u64],
     out: &mut [u8],
 ) -> Returned
-    ensures* { do
-      let fit = fit_of 256 (length graph.old) (length pairs.old) (length work.old) (length flow.old) (length terms.old) (length runs.old)
-      ⌜ Returns Page image.now left right budget fit out.old out.new result × Cleared fit graph.old graph.new pairs.old pairs.new work.old work.new flow.old flow.new terms.old terms.new runs.old runs.new ⌝ }
+    ensures { let fit = fit_of 256 (length graph.old) (length pairs.old) (length work.old) (length flow.old) (length terms.old) (length runs.old) in Returns Page image.now left right budget fit out.old out.new result × Cleared fit graph.old graph.new pairs.old pairs.new work.old work.new flow.old flow.new terms.old terms.new runs.old runs.new }
 {
     tariff::tariff_quote(
         image, left, right, budget, graph, pairs, work, flow, terms, runs, out,
@@ -107,9 +103,7 @@ pub extern "C" fn tariff_card(
     runs: &mut [u64],
     out: &mut [u8],
 ) -> Returned
-    ensures* { do
-      let fit = card.fits_lines frames.old marks.old terms.old runs.old
-      ⌜ ReturnsCard table.now lines.now fit out.old out.new result × card.Cleared fit frames.old frames.new marks.old marks.new terms.old terms.new runs.old runs.new ⌝ }
+    ensures { let fit = card.fits_lines frames.old marks.old terms.old runs.old in ReturnsCard table.now lines.now fit out.old out.new result × card.Cleared fit frames.old frames.new marks.old marks.new terms.old terms.new runs.old runs.new }
 {
     tariff::tariff_card(table, lines, frames, marks, terms, runs, out)
 }
@@ -125,9 +119,7 @@ pub extern "C" fn tariff_read_card(
     runs: &mut [u64],
     out: &mut [u8],
 ) -> Returned
-    ensures* { do
-      let fit = card.fits_text text.now frames.old marks.old terms.old runs.old
-      ⌜ ReturnsRead table.now text.now fit out.old out.new result × card.Cleared fit frames.old frames.new marks.old marks.new terms.old terms.new runs.old runs.new ⌝ }
+    ensures { let fit = card.fits_text text.now frames.old marks.old terms.old runs.old in ReturnsRead table.now text.now fit out.old out.new result × card.Cleared fit frames.old frames.new marks.old marks.new terms.old terms.new runs.old runs.new }
 {
     tariff::tariff_read_card(table, text, frames, marks, terms, runs, out)
 }
