@@ -9,7 +9,7 @@ use Rattle.spec.specs.declared.Caller.{Caller}
 use Rattle.spec.specs.Listing.{subterms, line, status_of, report_line, reported, first_line, term_line, listing_of}
 use Rattle.steps.specs.Charges.{Charge, charge}
 use Rattle.steps.specs.Mirror.{Alike}
-use Rattle.mirror.specs.Runs.{turned_same, turned-alike}
+use Rattle.mirror.proofs.Runs.{turned_same, turned-alike}
 use Rattle.contract.specs.declared.Answer.TheVariants.{Listing}
 use Rattle.contract.specs.Merges.{Merges}
 use Rattle.demands.specs.Calls.{passed_over, accepted}

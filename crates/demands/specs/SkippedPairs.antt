@@ -18,8 +18,9 @@ use Rattle.steps.specs.Rounds.{Moves, LeastOf}
 use Rattle.lgg.specs.Moves.{pair-moves}
 use Rattle.steps.specs.Mirror.{reach-flip}
 use Rattle.mirror.specs.Transpose.{flip, turn_transport}
-use Rattle.mirror.specs.Actions.{pairs-turn, ops-turn}
-use Rattle.mirror.specs.Runs.{fleets}
+use Rattle.mirror.specs.Actions.{ops-turn}
+use Rattle.mirror.proofs.Actions.{pairs-turn}
+use Rattle.mirror.proofs.Runs.{fleets}
 
 -- ---- "A pair with a count above 4,294,967,295 on either side is skipped."
 abbrev pub Skipped : MonomialPair → Type 0

@@ -1,0 +1,3 @@
+pub mod Transpose
+pub mod Actions
+pub mod Runs
