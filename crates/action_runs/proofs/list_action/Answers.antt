@@ -12,7 +12,7 @@ use Rattle.action_runs.proofs.list_action.Goals as goal
 
 pub loop-k-init : goal.loop-k-init
 loop-k-init c =
-filled_none (runs_of (term_in c.args.im.classes c.args.graph.now c.args.pairs.now) (action_at (tables_of c.args.s.now) c.args.v).pairs) c.args.list.now
+    filled_none (runs_of (term_in c.args.im.classes c.args.graph.now c.args.pairs.now) (action_at (tables_of c.args.s.now) c.args.v).pairs) c.args.list.now
 
 pub left_class-l-requires : goal.left_class-l-requires
 left_class-l-requires c = (c.requires.0, c.requires.1, c.requires.2, omega (arith, c.loop-k-test.true, c.count-m.ensures.0))

@@ -7,4 +7,4 @@ child_count-requires c = (c.requires.0, omega (arith, left-member c.args.s.now c
 
 pub returns : goal.returns
 returns c =
-action-count c.args.s.now c.args.im c.requires.0 c.requires.1 c.args.v c.requires.2 c.child_count.ensures.0
+    action-count c.args.s.now c.args.im c.requires.0 c.requires.1 c.args.v c.requires.2 c.child_count.ensures.0

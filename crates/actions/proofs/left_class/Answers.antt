@@ -15,4 +15,4 @@ child_class-requires c = (c.requires.0, omega (arith, left-child c.args.s.now c.
 
 pub returns : goal.returns
 returns c =
-left-joined c.args.s.now c.args.im c.requires.0 c.requires.1 c.args.v c.requires.2 c.args.k c.requires.3 c.first_child.ensures.0 c.child_class.ensures.0
+    left-joined c.args.s.now c.args.im c.requires.0 c.requires.1 c.args.v c.requires.2 c.args.k c.requires.3 c.first_child.ensures.0 c.child_class.ensures.0

@@ -7,4 +7,4 @@ member_op-requires c = (c.requires.0, omega (arith, left-member c.args.s.now c.a
 
 pub returns : goal.returns
 returns c =
-action-op c.args.s.now c.args.im c.requires.0 c.requires.1 c.args.v c.requires.2 c.member_op.ensures.0
+    action-op c.args.s.now c.args.im c.requires.0 c.requires.1 c.args.v c.requires.2 c.member_op.ensures.0

@@ -10,4 +10,4 @@ child_class-requires-2 c = (c.requires.0, second-of-two c.args.s.now c.args.im c
 
 pub returns : goal.returns
 returns c =
-twins-are c.args.s.now c.args.im c.requires.0 c.requires.1 c.args.m c.requires.2 c.requires.3 c.first_child-i.ensures.0 c.child_class.ensures.0 c.child_class-2.ensures.0
+    twins-are c.args.s.now c.args.im c.requires.0 c.requires.1 c.args.m c.requires.2 c.requires.3 c.first_child-i.ensures.0 c.child_class.ensures.0 c.child_class-2.ensures.0

@@ -11,7 +11,7 @@ ask-a-requires c =
 
 pub print-requires : goal.print-requires
 print-requires c =
-omega (arith, c.requires.output)
+    omega (arith, c.requires.output)
 
 pub returns-then-is_framed : goal.returns-then-is_framed
 returns-then-is_framed c =
@@ -21,7 +21,7 @@ returns-then-is_framed c =
 
 pub refusal-requires : goal.refusal-requires
 refusal-requires c =
-omega (arith, c.requires.output)
+    omega (arith, c.requires.output)
 
 pub returns : goal.returns
 returns c =

@@ -20,7 +20,7 @@ cell-p-requires c = (c.requires.1, omega (arith, c.loop-k.invariant.1, c.loop-k-
 
 pub mass_of-requires : goal.mass_of-requires
 mass_of-requires c =
-let a = c.args in
+    let a = c.args in
     let (x, y) = cell-within a.left.now a.rows a.right.now a.cols c.requires.1 c.loop-k.k (omega (arith, c.loop-k.invariant.1, c.loop-k-test.true)) {w = a.w} c.requires.2 c.cell-p.result.left c.cell-p.result.right c.cell-p.ensures in
     (c.requires.0, x, y)
 
@@ -32,7 +32,7 @@ loop-k-smaller c = omega (arith, c.loop-k-test.true)
 
 pub loop-k-preserved : goal.loop-k-preserved
 loop-k-preserved c =
-let a = c.args in
+    let a = c.args in
     let q = quality_in a.w a.graph.now a.pairs.now in
     let l = c.cell-p.result.left in
     let r = c.cell-p.result.right in (
@@ -46,6 +46,6 @@ let a = c.args in
 
 pub returns : goal.returns
 returns c =
-let a = c.args in
+    let a = c.args in
     let q = quality_in a.w a.graph.now a.pairs.now in
     largest-all (problem_at q (sides_of a.left.now a.rows a.right.now a.cols)) c.loop-k.k c.loop-k.v (omega (arith, c.loop-k.invariant.1, c.loop-k-test.false, problem-many a.left.now a.rows a.right.now a.cols c.requires.1 q)) c.loop-k.invariant.2

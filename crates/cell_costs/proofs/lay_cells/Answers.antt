@@ -22,13 +22,13 @@ cell-p-requires c = (c.requires.1, omega (arith, c.loop-k.invariant.1, c.loop-k-
 
 pub size_of-size-requires : goal.size_of-size-requires
 size_of-size-requires c =
-let a = c.args in
+    let a = c.args in
     let (x, y) = cell-within a.left.now a.rows a.right.now a.cols c.requires.1 c.loop-k.k (omega (arith, c.loop-k.invariant.1, c.loop-k-test.true)) {w = a.w} c.requires.2 c.cell-p.result.left c.cell-p.result.right c.cell-p.ensures in
     (c.requires.0, x, y)
 
 pub mass_of-mass-requires : goal.mass_of-mass-requires
 mass_of-mass-requires c =
-let a = c.args in
+    let a = c.args in
     let (x, y) = cell-within a.left.now a.rows a.right.now a.cols c.requires.1 c.loop-k.k (omega (arith, c.loop-k.invariant.1, c.loop-k-test.true)) {w = a.w} c.requires.2 c.cell-p.result.left c.cell-p.result.right c.cell-p.ensures in
     (c.requires.0, x, y)
 
@@ -37,13 +37,13 @@ nonzero_div-k c = let a = c.args in omega (arith, some-col a.left.now a.rows a.r
 
 pub offset_bounds-supply-k : goal.offset_bounds-supply-k
 offset_bounds-supply-k c =
-let a = c.args in
+    let a = c.args in
     let h : c.loop-k.k < a.rows * a.cols = omega (arith, c.loop-k.invariant.1, c.loop-k-test.true) in
     record { fits = omega (arith, (div-in a.rows a.cols c.loop-k.k h).0, c.requires.1.few_rows) }
 
 pub bounds-supply-k : goal.bounds-supply-k
 bounds-supply-k c =
-let a = c.args in
+    let a = c.args in
     let h : c.loop-k.k < a.rows * a.cols = omega (arith, c.loop-k.invariant.1, c.loop-k-test.true) in
     omega (arith, (div-in a.rows a.cols c.loop-k.k h).0, ap length c.requires.3, rows_are a.left.now a.rows a.right.now a.cols c.requires.1)
 
@@ -52,13 +52,13 @@ nonzero_rem-k c = let a = c.args in omega (arith, some-col a.left.now a.rows a.r
 
 pub offset_bounds-demand-k : goal.offset_bounds-demand-k
 offset_bounds-demand-k c =
-let a = c.args in
+    let a = c.args in
     let h : c.loop-k.k < a.rows * a.cols = omega (arith, c.loop-k.invariant.1, c.loop-k-test.true) in
     record { fits = omega (arith, (div-in a.rows a.cols c.loop-k.k h).1, c.requires.1.few_cols) }
 
 pub bounds-demand-k : goal.bounds-demand-k
 bounds-demand-k c =
-let a = c.args in
+    let a = c.args in
     let h : c.loop-k.k < a.rows * a.cols = omega (arith, c.loop-k.invariant.1, c.loop-k-test.true) in
     omega (arith, (div-in a.rows a.cols c.loop-k.k h).1, ap length c.requires.4, cols-are a.left.now a.rows a.right.now a.cols c.requires.1)
 
@@ -73,7 +73,7 @@ loop-k-smaller c = omega (arith, c.loop-k-test.true)
 
 pub loop-k-preserved : goal.loop-k-preserved
 loop-k-preserved c =
-let a = c.args in
+    let a = c.args in
     let q = quality_in a.w a.graph.now a.pairs.now in
     let k = c.loop-k.k in
     let h : k < a.rows * a.cols = omega (arith, c.loop-k.invariant.1, c.loop-k-test.true) in (
@@ -90,6 +90,6 @@ shape_of-costs c = c.loop-k.invariant.2.size
 
 pub returns : goal.returns
 returns c =
-let a = c.args in
+    let a = c.args in
     let q = quality_in a.w a.graph.now a.pairs.now in
     laying-all (problem_at q (sides_of a.left.now a.rows a.right.now a.cols)) a.costs.now c.loop-k.k c.loop-k.costs c.loop-k.invariant.2 (omega (arith, c.loop-k.invariant.1, c.loop-k-test.false, problem-wide a.left.now a.rows a.right.now a.cols c.requires.1 q))

@@ -18,6 +18,6 @@ class_at-requires-2 c = let a = c.args in omega (arith, c.requires.0.right_long,
 
 pub returns : goal.returns
 returns c =
-let a = c.args in
+    let a = c.args in
     (λ i. with ((c.size_u64-a.ensures ∙ c.class_at.ensures) i) ((c.size_u64-b.ensures ∙ c.class_at-2.ensures) i))
     ∙ cell-is a.left.now a.rows a.right.now a.cols c.requires.0 a.k c.requires.1

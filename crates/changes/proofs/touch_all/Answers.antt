@@ -14,26 +14,26 @@ use Rattle.changes.proofs.touch_all.Goals as goal
 
 pub loop-c-init : goal.loop-c-init
 loop-c-init c =
-filled_none (live_of (tables_of c.args.s.now) c.args.marks.now) c.args.live.now
+    filled_none (live_of (tables_of c.args.s.now) c.args.marks.now) c.args.live.now
 
 pub touched-requires : goal.touched-requires
 touched-requires c =
-let t = tables_of c.args.s.now in let many = classes-many c.args.s.now c.args.im c.requires.0 in
+    let t = tables_of c.args.s.now in let many = classes-many c.args.s.now c.args.im c.requires.0 in
     (c.requires.0, c.requires.1, omega (arith, c.loop-c-test), c.requires.2, c.any_identity-through.ensures, c.has_identity-itself.ensures)
 
 pub bounds-live-c : goal.bounds-live-c
 bounds-live-c c =
-let t = tables_of c.args.s.now in let many = classes-many c.args.s.now c.args.im c.requires.0 in
+    let t = tables_of c.args.s.now in let many = classes-many c.args.s.now c.args.im c.requires.0 in
     omega (arith, c.loop-c-test, class-few c.args.s.now c.args.im c.requires.0 c.requires.1 {c = c.loop-c.c} (omega (arith, c.loop-c-test)), c.loop-c.invariant.same, c.requires.3)
 
 pub loop-c-preserved : goal.loop-c-preserved
 loop-c-preserved c =
-let t = tables_of c.args.s.now in let many = classes-many c.args.s.now c.args.im c.requires.0 in
+    let t = tables_of c.args.s.now in let many = classes-many c.args.s.now c.args.im c.requires.0 in
     filled_more (live_of t c.args.marks.now) c.args.live.now c.loop-c.c c.loop-c.live c.loop-c.invariant c.bit.result (omega (arith, c.loop-c-test, live-length t c.args.marks.now, many))
     (omega (arith, class-few c.args.s.now c.args.im c.requires.0 c.requires.1 {c = c.loop-c.c} (omega (arith, c.loop-c-test)), c.loop-c.invariant.same, c.requires.3))
     (c.bit.ensures ∙ ap (λ (b : Bool). pick {A = ℕ} b 1 0) c.touched.ensures ∙ sym (live-entry t c.args.marks.now c.loop-c.c (omega (arith, c.loop-c-test, many))))
 
 pub returns : goal.returns
 returns c =
-let t = tables_of c.args.s.now in let many = classes-many c.args.s.now c.args.im c.requires.0 in
+    let t = tables_of c.args.s.now in let many = classes-many c.args.s.now c.args.im c.requires.0 in
     filled-all (live_of t c.args.marks.now) c.args.live.now c.loop-c.c c.loop-c.live c.loop-c.invariant (omega (arith, c.loop-c-test, live-length t c.args.marks.now, many))

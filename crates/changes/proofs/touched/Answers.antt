@@ -11,11 +11,11 @@ use Rattle.changes.proofs.touched.Goals as goal
 
 pub returns-then-through : goal.returns-then-through
 returns-then-through c =
-sym (parts-identity (marked_in c.args.marks.now) (tables_of c.args.s.now) c.args.c (sym c.requires.4 ∙ c.if-through.true))
+    sym (parts-identity (marked_in c.args.marks.now) (tables_of c.args.s.now) c.args.c (sym c.requires.4 ∙ c.if-through.true))
 
 pub marked_itself-requires : goal.marked_itself-requires
 marked_itself-requires c =
-omega (arith, c.requires.3, class-few c.args.s.now c.args.im c.requires.0 c.requires.1 c.requires.2)
+    omega (arith, c.requires.3, class-few c.args.s.now c.args.im c.requires.0 c.requires.1 c.requires.2)
 
 pub returns-then-marked_itself : goal.returns-then-marked_itself
 returns-then-marked_itself c =

@@ -5,7 +5,7 @@ use Rattle.class_literals.proofs.is_literal.Goals as goal
 
 pub returns-then-member_value-v : goal.returns-then-member_value-v
 returns-then-member_value-v c =
-other-value (tables_of c.args.s.now) (the_member (tables_of c.args.s.now) c.args.m) c.args.o c.args.v c.requires.2 c.member_value.ensures.0 c.if-member_value-v.true
+    other-value (tables_of c.args.s.now) (the_member (tables_of c.args.s.now) c.args.m) c.args.o c.args.v c.requires.2 c.member_value.ensures.0 c.if-member_value-v.true
 
 pub returns-then-member_op-o : goal.returns-then-member_op-o
 returns-then-member_op-o c =

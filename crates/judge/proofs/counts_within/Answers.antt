@@ -8,7 +8,7 @@ returns-then-not-within c = operations-out c.args.im (failed c.within.ensures c.
 
 pub returns-then-not-within-2 : goal.returns-then-not-within-2
 returns-then-not-within-2 c =
-classes-out c.args.im (passed c.within.ensures c.if-not-within.false) (failed c.within-2.ensures c.if-not-within-2.true)
+    classes-out c.args.im (passed c.within.ensures c.if-not-within.false) (failed c.within-2.ensures c.if-not-within-2.true)
 
 pub returns-then-not-within-3 : goal.returns-then-not-within-3
 returns-then-not-within-3 c =

@@ -19,7 +19,7 @@ put_u32-requires c = omega (arith, c.loop-i.invariant.1.same, c.requires.3, c.re
 
 pub loop-i-preserved : goal.loop-i-preserved
 loop-i-preserved c =
-let a = c.args in (
+    let a = c.args in (
       omega arith,
       rw c.put_u32.ensures (filled_more (counts (held a.n a.mono.now)) a.margin.now c.loop-i.i c.loop-i.margin c.loop-i.invariant.1 c.short_u64.result
           (omega (arith, counts-length a.mono.now a.n c.requires.0 c.requires.1, c.loop-i-test.true)) (omega (arith, c.loop-i.invariant.1.same, c.requires.3, c.requires.1, c.loop-i-test.true))
@@ -31,5 +31,5 @@ shape_of-margin c = c.loop-i.invariant.1.same
 
 pub returns : goal.returns
 returns c =
-let a = c.args in
+    let a = c.args in
     filled-all (counts (held a.n a.mono.now)) a.margin.now c.loop-i.i c.loop-i.margin c.loop-i.invariant.1 (omega (arith, counts-length a.mono.now a.n c.requires.0 c.requires.1, c.loop-i-test.false))

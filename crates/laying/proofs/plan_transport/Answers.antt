@@ -5,7 +5,7 @@ use Rattle.laying.proofs.plan_transport.Goals as goal
 
 pub solve-requires : goal.solve-requires
 solve-requires c =
-let a = c.args in (
+    let a = c.args in (
       c.requires.0,
       c.requires.1,
       c.requires.2,

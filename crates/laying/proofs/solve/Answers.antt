@@ -15,7 +15,7 @@ total-f-requires c = let a = c.args in omega (arith, ap length c.requires.3, row
 
 pub lay_cells-requires : goal.lay_cells-requires
 lay_cells-requires c =
-let a = c.args in (
+    let a = c.args in (
       c.requires.0,
       c.requires.1,
       c.requires.2,
@@ -28,7 +28,7 @@ let a = c.args in (
 
 pub solve_laid-requires : goal.solve_laid-requires
 solve_laid-requires c =
-let a = c.args in
+    let a = c.args in
     let q = quality_in a.w a.graph.now a.pairs.now in
     let u = ap length c.requires.3 ∙ rows_are a.left.now a.rows a.right.now a.cols c.requires.1 in
     let v = ap length c.requires.4 ∙ cols-are a.left.now a.rows a.right.now a.cols c.requires.1 in (
@@ -40,7 +40,7 @@ let a = c.args in
 
 pub returns : goal.returns
 returns c =
-let a = c.args in
+    let a = c.args in
     let q = quality_in a.w a.graph.now a.pairs.now in
     let p = problem_at q (sides_of a.left.now a.rows a.right.now a.cols) in
     let d = c.solve_laid.ensures p

@@ -8,7 +8,7 @@ use Rattle.offers.proofs.offer_transport.Goals as goal
 
 pub offer_plan-requires : goal.offer_plan-requires
 offer_plan-requires c =
-let a = c.args in
+    let a = c.args in
     let q = quality_in a.w a.graph.now a.pairs.now in
     let of = term_in a.w a.graph.now a.pairs.now in
     let h : a.lim.pairs ≤ length a.work.now = omega (arith, c.requires.4.costs) in (
@@ -22,7 +22,7 @@ let a = c.args in
 
 pub returns-then-plan_transport : goal.returns-then-plan_transport
 returns-then-plan_transport c =
-let a = c.args in
+    let a = c.args in
     let q = quality_in a.w a.graph.now a.pairs.now in
     let of = term_in a.w a.graph.now a.pairs.now in
     let h : a.lim.pairs ≤ length a.work.now = omega (arith, c.requires.4.costs) in
@@ -30,7 +30,7 @@ let a = c.args in
 
 pub returns : goal.returns
 returns c =
-let a = c.args in
+    let a = c.args in
     let q = quality_in a.w a.graph.now a.pairs.now in
     let of = term_in a.w a.graph.now a.pairs.now in
     let h : a.lim.pairs ≤ length a.work.now = omega (arith, c.requires.4.costs) in

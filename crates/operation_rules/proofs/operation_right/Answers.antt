@@ -5,7 +5,7 @@ use Rattle.operation_rules.proofs.operation_right.Goals as goal
 
 pub returns-then-k-ge10 : goal.returns-then-k-ge10
 returns-then-k-ge10 c =
-kind-wrong c.args.im.classes (the_operation (tables_of c.args.s.now) c.args.o) c.kind-k.ensures.0 c.if-k-ge10.true
+    kind-wrong c.args.im.classes (the_operation (tables_of c.args.s.now) c.args.o) c.kind-k.ensures.0 c.if-k-ge10.true
 
 pub returns-then-flag-flag_of : goal.returns-then-flag-flag_of
 returns-then-flag-flag_of c =

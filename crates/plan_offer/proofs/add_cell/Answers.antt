@@ -13,13 +13,13 @@ returns-then-x-eq0 c = rw (eq-eqb c.args.x 0 c.if-x-eq0.true) refl
 
 pub size_of-requires : goal.size_of-requires
 size_of-requires c =
-let a = c.args in
+    let a = c.args in
     let (x, y) = cell-within a.left.now a.rows a.right.now a.cols c.requires.1 a.k c.requires.3 {w = a.w} c.requires.2 c.cell-p.result.left c.cell-p.result.right c.cell-p.ensures in
     (c.requires.0, x, y)
 
 pub mass_of-requires : goal.mass_of-requires
 mass_of-requires c =
-let a = c.args in
+    let a = c.args in
     let (x, y) = cell-within a.left.now a.rows a.right.now a.cols c.requires.1 a.k c.requires.3 {w = a.w} c.requires.2 c.cell-p.result.left c.cell-p.result.right c.cell-p.ensures in
     (c.requires.0, x, y)
 

@@ -15,7 +15,7 @@ returns-then-size-before c = let a = c.args in (low-not a.size a.mass a.b.size a
 
 pub returns : goal.returns
 returns c =
-let a = c.args in
+    let a = c.args in
     let e = c.better.ensures ∙ ap (λ (t : Two). better t (a.b.size, a.b.mass)) (sym (words-one a.size a.mass a.b.size a.b.mass (omega arith) (omega arith) c.requires)) in
     let x : a.b.size < 2 ^ 64 = omega arith in
     (e, λ f. better-words a.size a.mass a.b.size a.b.mass (sym e ∙ f) x c.requires)

@@ -24,7 +24,7 @@ loop-k-smaller c = omega (arith, c.loop-k-test.true)
 
 pub loop-k-preserved : goal.loop-k-preserved
 loop-k-preserved c =
-let a = c.args in
+    let a = c.args in
     let ps = cell_pairs (sides_of a.left.now a.rows a.right.now a.cols) in
     let of = term_in a.w a.graph.now a.pairs.now in
     rw (c.list_cell-m.ensures.0, c.list_cell-m.ensures.1)
@@ -35,7 +35,7 @@ shape_of-list c = c.loop-k.invariant.long
 
 pub returns : goal.returns
 returns c =
-let a = c.args in
+    let a = c.args in
     let ps = cell_pairs (sides_of a.left.now a.rows a.right.now a.cols) in
     let of = term_in a.w a.graph.now a.pairs.now in
     let f : length a.x.now ≤ length a.list.now = omega (arith, c.requires.3, c.requires.5) in

@@ -24,7 +24,7 @@ loop-k-smaller c = omega (arith, c.loop-k-test.true)
 
 pub loop-k-preserved : goal.loop-k-preserved
 loop-k-preserved c =
-let a = c.args in
+    let a = c.args in
     let q = quality_in a.w a.graph.now a.pairs.now in
     let k = c.loop-k.k in
     let p = get_or (cell_pairs (sides_of a.left.now a.rows a.right.now a.cols)) k (0, 0) in (

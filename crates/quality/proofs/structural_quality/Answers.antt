@@ -10,7 +10,7 @@ use Rattle.quality.proofs.structural_quality.Goals as goal
 
 pub loop-k-init : goal.loop-k-init
 loop-k-init c =
-summed-none (quality_in c.args.im.classes c.args.graph.now c.args.pairs.now) (action_at (tables_of c.args.s.now) c.args.v).pairs
+    summed-none (quality_in c.args.im.classes c.args.graph.now c.args.pairs.now) (action_at (tables_of c.args.s.now) c.args.v).pairs
 
 pub left_class-l-requires : goal.left_class-l-requires
 left_class-l-requires c = (c.requires.0, c.requires.1, c.requires.2, omega (arith, c.loop-k-test.true, c.count-m.ensures.0))

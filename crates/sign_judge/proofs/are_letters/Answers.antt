@@ -11,12 +11,12 @@ use Rattle.sign_judge.proofs.are_letters.Goals as goal
 
 pub returns-then-not-is_letter : goal.returns-then-not-is_letter
 returns-then-not-is_letter c =
-let a = c.args in
+    let a = c.args in
     sym (c.loop-i.invariant.2 ∙ slice-fails letter a.table.now c.loop-i.i a.to (omega arith) (omega arith) (sym c.is_letter.ensures ∙ c.if-not-is_letter.true))
 
 pub loop-i-preserved : goal.loop-i-preserved
 loop-i-preserved c =
-let a = c.args in
+    let a = c.args in
     (omega arith, omega arith, c.loop-i.invariant.2 ∙ slice-more letter a.table.now c.loop-i.i a.to (omega arith) (omega arith) (sym c.is_letter.ensures ∙ c.if-not-is_letter.false))
 
 pub returns : goal.returns

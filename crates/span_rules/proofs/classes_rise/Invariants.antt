@@ -11,7 +11,7 @@ use lib.ListN.{drop}
 use Rattle.span_rules.proofs.classes_rise.Given as goal
 
 abbrev pub invariant-loop-c : goal.invariant-loop-c
-invariant-loop-c l = (l.c ≤ l.im.classes) × (all (λ l.c. rises (map (λ m. m.op) (members_in (tables_of l.s) l.c))) (tables_of l.s).classes ≡ all (λ l.c. rises (map (λ m. m.op) (members_in (tables_of l.s) l.c))) (drop l.c (tables_of l.s).classes))
+invariant-loop-c l = (l.c ≤ l.im.classes) × (all (λ x. rises (map (λ m. m.op) (members_in (tables_of l.s) x))) (tables_of l.s).classes ≡ all (λ x. rises (map (λ m. m.op) (members_in (tables_of l.s) x))) (drop l.c (tables_of l.s).classes))
 
 abbrev pub decreases-loop-c : goal.decreases-loop-c
 decreases-loop-c l = l.im.classes - l.c

@@ -12,7 +12,7 @@ use lib.ListN.{drop}
 use Rattle.span_rules.proofs.counts_some.Given as goal
 
 abbrev pub invariant-loop-c : goal.invariant-loop-c
-invariant-loop-c l = (l.c ≤ l.im.classes) × (all (λ l.c. leb 1 l.c.count) (tables_of l.s).classes ≡ all (λ l.c. leb 1 l.c.count) (drop l.c (tables_of l.s).classes))
+invariant-loop-c l = (l.c ≤ l.im.classes) × (all (λ x. leb 1 x.count) (tables_of l.s).classes ≡ all (λ x. leb 1 x.count) (drop l.c (tables_of l.s).classes))
 
 abbrev pub decreases-loop-c : goal.decreases-loop-c
 decreases-loop-c l = l.im.classes - l.c

@@ -9,7 +9,7 @@ use Rattle.span_rules.proofs.spans_right.Goals as goal
 
 pub returns-then-not-classes_follow : goal.returns-then-not-classes_follow
 returns-then-not-classes_follow c =
-classes-break (tables_of c.args.s.now) (failed c.classes_follow.ensures c.if-not-classes_follow.true)
+    classes-break (tables_of c.args.s.now) (failed c.classes_follow.ensures c.if-not-classes_follow.true)
 
 pub returns-then-not-members_follow : goal.returns-then-not-members_follow
 returns-then-not-members_follow c =

@@ -9,7 +9,7 @@ use Rattle.turn_end.proofs.end_turn.Goals as goal
 
 pub returns-in-Full : goal.returns-in-Full
 returns-in-Full c =
-let a = c.args in
+    let a = c.args in
     let q = quality_in a.im.classes a.graph.now a.pairs.now in
     let of = term_in a.im.classes a.graph.now a.pairs.now in
     let d = rw c.in-Full.is at c.turn_term-e.ensures in
@@ -17,7 +17,7 @@ let a = c.args in
 
 pub returns-in-Term : goal.returns-in-Term
 returns-in-Term c =
-let a = c.args in
+    let a = c.args in
     let q = quality_in a.im.classes a.graph.now a.pairs.now in
     let of = term_in a.im.classes a.graph.now a.pairs.now in
     let d = rw c.in-Term.is at c.turn_term-e.ensures in

@@ -17,21 +17,21 @@ use Rattle.turn_term.proofs.turn_term.Goals as goal
 
 pub list_action-m-requires : goal.list_action-m-requires
 list_action-m-requires c =
-let a = c.args in
+    let a = c.args in
     let t = tables_of a.s.now in
     let h : Chosen a.lim.pairs t (term_in a.im.classes a.graph.now a.pairs.now) a.list.now (H.Aligned c.in-Aligned.v) (turn_of t (quality_in a.im.classes a.graph.now a.pairs.now) (a.l, a.r)).choice = rw c.in-Aligned.is at c.requires.9 in
     (c.requires.0, c.requires.1, h.0, c.requires.4, c.requires.6)
 
 pub op-requires : goal.op-requires
 op-requires c =
-let a = c.args in
+    let a = c.args in
     let t = tables_of a.s.now in
     let h : Chosen a.lim.pairs t (term_in a.im.classes a.graph.now a.pairs.now) a.list.now (H.Aligned c.in-Aligned.v) (turn_of t (quality_in a.im.classes a.graph.now a.pairs.now) (a.l, a.r)).choice = rw c.in-Aligned.is at c.requires.9 in
     (c.requires.0, c.requires.1, h.0)
 
 pub intern_action-requires : goal.intern_action-requires
 intern_action-requires c =
-let a = c.args in
+    let a = c.args in
     let t = tables_of a.s.now in
     let q = quality_in a.im.classes a.graph.now a.pairs.now in
     let of = term_in a.im.classes a.graph.now a.pairs.now in
@@ -49,7 +49,7 @@ let a = c.args in
 
 pub intern_action-requires-in-Plan : goal.intern_action-requires-in-Plan
 intern_action-requires-in-Plan c =
-let a = c.args in
+    let a = c.args in
     let t = tables_of a.s.now in
     let q = quality_in a.im.classes a.graph.now a.pairs.now in
     let of = term_in a.im.classes a.graph.now a.pairs.now in
@@ -66,14 +66,14 @@ let a = c.args in
 
 pub returns-in-Stay : goal.returns-in-Stay
 returns-in-Stay c =
-let a = c.args in
+    let a = c.args in
     let t = tables_of a.s.now in
     let of = term_in a.im.classes a.graph.now a.pairs.now in
     ended-stay (limits_of a.lim) t of a.terms.now a.runs.now c.requires.7 (of (a.l, a.r)) (turn_of t (quality_in a.im.classes a.graph.now a.pairs.now) (a.l, a.r)).choice a.list.now (rw c.in-Stay.is at c.requires.9) c.size_u32.result (c.size_u32.ensures.0 ∙ c.term_of.ensures)
 
 pub returns-in-Aligned : goal.returns-in-Aligned
 returns-in-Aligned c =
-let a = c.args in
+    let a = c.args in
     let t = tables_of a.s.now in
     let q = quality_in a.im.classes a.graph.now a.pairs.now in
     let of = term_in a.im.classes a.graph.now a.pairs.now in
@@ -84,7 +84,7 @@ let a = c.args in
 
 pub returns-in-Plan : goal.returns-in-Plan
 returns-in-Plan c =
-let a = c.args in
+    let a = c.args in
     let t = tables_of a.s.now in
     let q = quality_in a.im.classes a.graph.now a.pairs.now in
     let of = term_in a.im.classes a.graph.now a.pairs.now in

@@ -13,7 +13,7 @@ use Rattle.turns.proofs.offer_transports.Goals as goal
 
 pub loop-x-init : goal.loop-x-init
 loop-x-init c =
-let a = c.args in (
+    let a = c.args in (
       walking-first a.lim.pairs (tables_of a.s.now) (quality_in a.im.classes a.graph.now a.pairs.now) (term_in a.im.classes a.graph.now a.pairs.now) a.l a.r (work_of a.work.now a.flow.now a.b) c.first-x.result c.requires.1
           (rw (classes-many a.s.now a.im c.requires.0) c.requires.2) (rw (classes-many a.s.now a.im c.requires.0) c.requires.3) c.first-x.ensures,
       refl,
@@ -33,7 +33,7 @@ returns-in-End c =
 
 pub offer_walk-best-requires : goal.offer_walk-best-requires
 offer_walk-best-requires c =
-let a = c.args in
+    let a = c.args in
     let t = tables_of a.s.now in
     let q = quality_in a.im.classes a.graph.now a.pairs.now in
     let of = term_in a.im.classes a.graph.now a.pairs.now in
@@ -51,7 +51,7 @@ let a = c.args in
 
 pub next-x-requires : goal.next-x-requires
 next-x-requires c =
-let a = c.args in (
+    let a = c.args in (
       c.requires.0,
       c.requires.1,
       c.requires.2,

@@ -9,7 +9,7 @@ use Rattle.turns.proofs.offer_walk.Goals as goal
 
 pub offer_transport-requires : goal.offer_transport-requires
 offer_transport-requires c =
-let a = c.args in
+    let a = c.args in
     let t = tables_of a.s.now in
     let S = found-sides t a.l a.r a.w _ _ _ _ c.monomials-p.result c.monomials-p.ensures c.in-Pair.rows c.in-Pair.cols c.in-Pair.is (omega (arith, c.monomials-p.auto)) (omega (arith, c.monomials-p.auto)) in
     let F = found-fits t a.l a.r a.w _ _ _ _ c.monomials-p.result c.monomials-p.ensures c.in-Pair.rows c.in-Pair.cols c.in-Pair.is (omega (arith, c.monomials-p.auto)) (omega (arith, c.monomials-p.auto)) a.im.classes a.lim.pairs c.requires.6 in

@@ -13,6 +13,6 @@ end_turn-requires c =
 
 pub returns : goal.returns
 returns c =
-let a = c.args in
+    let a = c.args in
     let z = c.end_turn.ensures in
     (z.0, turn-leaves (limits_of a.lim) (tables_of a.s.now) (quality_in a.im.classes a.graph.now a.pairs.now) (term_in a.im.classes a.graph.now a.pairs.now) (a.l, a.r) a.terms.now a.runs.now a.work.now a.flow.now _ _ _ c.turn-best.result c.turn-best.ensures.1 z.1)

@@ -12,7 +12,7 @@ use Rattle.turns.proofs.turn.Goals as goal
 
 pub returns : goal.returns
 returns c =
-let a = c.args in
+    let a = c.args in
     let t = tables_of a.s.now in
     let q = quality_in a.im.classes a.graph.now a.pairs.now in
     let of = term_in a.im.classes a.graph.now a.pairs.now in
