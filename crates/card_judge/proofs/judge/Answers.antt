@@ -1,3 +1,5 @@
+use mathlib.Core.Path.{ap}
+use mathlib.Core.Bool.{not}
 use borrow.Author.Rules.{rules}
 use Prim.Native.Nat.{◌-◌}
 use native.Mathlib.Omega.{arith}
@@ -23,7 +25,7 @@ visit-requires c =
 pub returns-then-not-visit : goal.returns-then-not-visit
 returns-then-not-visit c =
     let a = c.args in
-    judged-from a.binds.now a.terms.now a.runs.now a.marks.now a.root c.requires.1 c.requires.2 c.put_u16.ensures (judging-stop a.binds.now a.terms.now a.runs.now c.put_u16.new.s a.root c.requires.0 c.requires.1 (root-length a.binds.now a.terms.now a.runs.now a.marks.now a.root c.requires.1 c.requires.2 c.put_u16.ensures) c.loop-c.invariant (c.loop-c.c - 1) (omega arith) c.visit.ensures.0 c.visit.ensures.1 c.if-not-visit.true)
+    judged-from a.binds.now a.terms.now a.runs.now a.marks.now a.root c.requires.1 c.requires.2 c.put_u16.ensures (judging-stop a.binds.now a.terms.now a.runs.now c.put_u16.new.s a.root c.requires.0 c.requires.1 (root-length a.binds.now a.terms.now a.runs.now a.marks.now a.root c.requires.1 c.requires.2 c.put_u16.ensures) c.loop-c.invariant (c.loop-c.c - 1) (omega arith) c.visit.ensures.0 c.visit.ensures.1 (ap not c.if-not-visit.true))
 
 pub loop-c-smaller : goal.loop-c-smaller
 loop-c-smaller c = omega arith
@@ -31,7 +33,7 @@ loop-c-smaller c = omega arith
 pub loop-c-preserved : goal.loop-c-preserved
 loop-c-preserved c =
     let a = c.args in
-    judging-turn a.binds.now a.terms.now a.runs.now c.put_u16.new.s a.root c.requires.0 c.requires.1 (root-length a.binds.now a.terms.now a.runs.now a.marks.now a.root c.requires.1 c.requires.2 c.put_u16.ensures) c.loop-c.invariant (c.loop-c.c - 1) (omega arith) c.visit.ensures.0 c.visit.ensures.1 c.if-not-visit.false
+    judging-turn a.binds.now a.terms.now a.runs.now c.put_u16.new.s a.root c.requires.0 c.requires.1 (root-length a.binds.now a.terms.now a.runs.now a.marks.now a.root c.requires.1 c.requires.2 c.put_u16.ensures) c.loop-c.invariant (c.loop-c.c - 1) (omega arith) c.visit.ensures.0 c.visit.ensures.1 (ap not c.if-not-visit.false)
 
 pub returns : goal.returns
 returns c =

@@ -1,3 +1,5 @@
+use mathlib.Core.Path.{ap}
+use mathlib.Core.Bool.{not}
 use borrow.Author.Rules.{rules}
 use Prim.Native.Nat.{ℕ, ◌≤◌, ◌+◌, ◌*◌}
 use native.Mathlib.Omega.{arith}
@@ -12,28 +14,28 @@ pub returns-then-not-all_signed : goal.returns-then-not-all_signed
 returns-then-not-all_signed c =
     let a = c.args in
     let v : (i : ℕ) → value_in a.terms.now i ≤ 4294967295 = λ i. omega (arith, c.shared_slice_known-2-1.given (VALUES + i * 4)) in
-    writes-unsigned a.table.now a.terms.now a.runs.now a.root a.marks.now a.out.now _ c.all_signed.ensures.1 (card-signed a.table.now a.terms.now a.runs.now a.binds.now c.requires.3 c.requires.0 v a.root c.requires.1 c.all_signed.ensures.0) c.if-not-all_signed.true
+    writes-unsigned a.table.now a.terms.now a.runs.now a.root a.marks.now a.out.now _ c.all_signed.ensures.1 (card-signed a.table.now a.terms.now a.runs.now a.binds.now c.requires.3 c.requires.0 v a.root c.requires.1 c.all_signed.ensures.0) (ap not c.if-not-all_signed.true)
 
 pub measure-room-requires : goal.measure-room-requires
 measure-room-requires c =
     let a = c.args in
     let v : (i : ℕ) → value_in a.terms.now i ≤ 4294967295 = λ i. omega (arith, c.shared_slice_known-2-1.given (VALUES + i * 4)) in
-    (c.requires.0, c.requires.1, bound-signed a.table.now a.terms.now a.runs.now a.binds.now c.requires.3 c.requires.0 v a.root c.requires.1 (c.all_signed.ensures.0.0 (passed refl c.if-not-all_signed.false)))
+    (c.requires.0, c.requires.1, bound-signed a.table.now a.terms.now a.runs.now a.binds.now c.requires.3 c.requires.0 v a.root c.requires.1 (c.all_signed.ensures.0.0 (passed refl (ap not c.if-not-all_signed.false))))
 
 pub write_term-requires : goal.write_term-requires
 write_term-requires c =
     let a = c.args in
     let v : (i : ℕ) → value_in a.terms.now i ≤ 4294967295 = λ i. omega (arith, c.shared_slice_known-2-1.given (VALUES + i * 4)) in
-    (c.requires.0, c.requires.1, bound-signed a.table.now a.terms.now a.runs.now a.binds.now c.requires.3 c.requires.0 v a.root c.requires.1 (c.all_signed.ensures.0.0 (passed refl c.if-not-all_signed.false)), room-is a.table.now a.terms.now a.runs.now a.root a.marks.now a.out.now _ c.all_signed.ensures.1 (card-signed a.table.now a.terms.now a.runs.now a.binds.now c.requires.3 c.requires.0 v a.root c.requires.1 c.all_signed.ensures.0) c.if-not-all_signed.false c.measure-room.ensures c.in-Left.is)
+    (c.requires.0, c.requires.1, bound-signed a.table.now a.terms.now a.runs.now a.binds.now c.requires.3 c.requires.0 v a.root c.requires.1 (c.all_signed.ensures.0.0 (passed refl (ap not c.if-not-all_signed.false))), room-is a.table.now a.terms.now a.runs.now a.root a.marks.now a.out.now _ c.all_signed.ensures.1 (card-signed a.table.now a.terms.now a.runs.now a.binds.now c.requires.3 c.requires.0 v a.root c.requires.1 c.all_signed.ensures.0) (ap not c.if-not-all_signed.false) c.measure-room.ensures c.in-Left.is)
 
 pub returns-in-Left : goal.returns-in-Left
 returns-in-Left c =
     let a = c.args in
     let v : (i : ℕ) → value_in a.terms.now i ≤ 4294967295 = λ i. omega (arith, c.shared_slice_known-2-1.given (VALUES + i * 4)) in
-    writes_bytes a.table.now a.terms.now a.runs.now a.root a.marks.now a.out.now _ c.all_signed.ensures.1 (card-signed a.table.now a.terms.now a.runs.now a.binds.now c.requires.3 c.requires.0 v a.root c.requires.1 c.all_signed.ensures.0) c.if-not-all_signed.false c.measure-room.ensures c.in-Left.is c.write_term.ensures
+    writes_bytes a.table.now a.terms.now a.runs.now a.root a.marks.now a.out.now _ c.all_signed.ensures.1 (card-signed a.table.now a.terms.now a.runs.now a.binds.now c.requires.3 c.requires.0 v a.root c.requires.1 c.all_signed.ensures.0) (ap not c.if-not-all_signed.false) c.measure-room.ensures c.in-Left.is c.write_term.ensures
 
 pub returns-in-Over : goal.returns-in-Over
 returns-in-Over c =
     let a = c.args in
     let v : (i : ℕ) → value_in a.terms.now i ≤ 4294967295 = λ i. omega (arith, c.shared_slice_known-2-1.given (VALUES + i * 4)) in
-    writes-full a.table.now a.terms.now a.runs.now a.root a.marks.now a.out.now _ c.all_signed.ensures.1 (card-signed a.table.now a.terms.now a.runs.now a.binds.now c.requires.3 c.requires.0 v a.root c.requires.1 c.all_signed.ensures.0) c.if-not-all_signed.false c.measure-room.ensures c.in-Over.is
+    writes-full a.table.now a.terms.now a.runs.now a.root a.marks.now a.out.now _ c.all_signed.ensures.1 (card-signed a.table.now a.terms.now a.runs.now a.binds.now c.requires.3 c.requires.0 v a.root c.requires.1 c.all_signed.ensures.0) (ap not c.if-not-all_signed.false) c.measure-room.ensures c.in-Over.is

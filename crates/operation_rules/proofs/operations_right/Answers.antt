@@ -1,3 +1,4 @@
+use mathlib.Core.Bool.{not}
 use Rattle.laws.specs.AcceptedTurns.{failed, passed}
 use Rattle.image.specs.Loaded.{operations-many, classes-many}
 use Rattle.laws.specs.AcceptedTurns.{all_go, all-stop, all_end}
@@ -19,7 +20,7 @@ returns-then-not-operation_right c =
     let n = classes-many s c.args.im c.requires in
     sym (c.loop-o.invariant.1
     ∙ all-stop (operation_right (length (tables_of s).classes)) (tables_of s).operations c.loop-o.o _ (omega (arith, operations-many s c.args.im c.requires))
-    (failed (c.operation_right.ensures ∙ ap (λ (k : ℕ). operation_right k (the_operation (tables_of s) c.loop-o.o)) (sym n)) c.if-not-operation_right.true))
+    (failed (c.operation_right.ensures ∙ ap (λ (k : ℕ). operation_right k (the_operation (tables_of s) c.loop-o.o)) (sym n)) (ap not c.if-not-operation_right.true)))
 
 pub loop-o-preserved : goal.loop-o-preserved
 loop-o-preserved c =
@@ -28,7 +29,7 @@ loop-o-preserved c =
       omega arith,
       c.loop-o.invariant.1
           ∙ sym (all_go (operation_right (length (tables_of s).classes)) (tables_of s).operations c.loop-o.o _ (omega (arith, operations-many s c.args.im c.requires))
-          (passed (c.operation_right.ensures ∙ ap (λ (k : ℕ). operation_right k (the_operation (tables_of s) c.loop-o.o)) (sym n)) c.if-not-operation_right.false)),
+          (passed (c.operation_right.ensures ∙ ap (λ (k : ℕ). operation_right k (the_operation (tables_of s) c.loop-o.o)) (sym n)) (ap not c.if-not-operation_right.false))),
     )
 
 pub returns : goal.returns
