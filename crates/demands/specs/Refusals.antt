@@ -17,7 +17,7 @@ use Rattle.laws.specs.Doubled.{doubled-refused, lowest-least}
 use Rattle.laws.specs.Accepted as A
 use Rattle.laws.specs.Results.{ok-inj, refused-ok, refused-inj}
 use Rattle.lgg.specs.Pairs.{PairCount}
-use Rattle.counted.specs.CountedRun.{root-starts}
+use Rattle.counted.proofs.CountedRun.{root-starts}
 use Rattle.lgg.specs.Count.{pair-count}
 use Rattle.lgg.specs.Limits.{refuses13}
 use Rattle.steps.specs.Refusals.{refused-by, refused-beyond}

@@ -13,8 +13,9 @@ use Rattle.laws.specs.Accepted as A
 use Rattle.lgg.specs.Pairs.{PairCount, FirstQuiet}
 use Rattle.counted.specs.Counted.{term_after, Counted, Beyond}
 use Rattle.counted.specs.CountedFew.{Ends, FinalRuns}
-use Rattle.counted.specs.CountedRun as L
+use Rattle.counted.proofs.CountedRun as L
 use Rattle.counted.specs.Refused13 as N
+use Rattle.counted.proofs.Refused13 as P
 use Rattle.contract.specs.declared.Answer.{Answer}
 use Rattle.contract.specs.declared.Answer.TheVariants.{Listing, Refused}
 use Rattle.contract.specs.Merges.{Merges}
@@ -38,7 +39,7 @@ module _ (who : Caller) (image : List ℕ) (left right budget : ℕ) (fit : Bool
       → length t.classes + length ps * (R + 1) ≤ 16384 → 64 * length t.classes + 2 * length ps + length ps * R * w ≤ 65536 → r ≢ Refused 13
   not-refused-13 B C ps b R w ends runs few light e =
       let (T, z) = (refused-13 who image left right budget fit out out' r m).0 e in
-      N.not-refused-13 who t (valid T) (left, right) T.asked budget B C ps b R w ends runs few light z
+      P.not-refused-13 who t (valid T) (left, right) T.asked budget B C ps b R w ends runs few light z
 
   -- .. R the first quiet round; w places that the actions of a pair join, at most
   pub not-refused-13-joined : (B C : ℕ) (ps : List Two) → build (limits_for who) t (left, right) B ≡ ok (passed ps C) → (R w : ℕ) → FirstQuiet t ps R → ((q : Two) → In q ps → length (joins t q) ≤ w)
@@ -50,26 +51,26 @@ module _ (who : Caller) (image : List ℕ) (left right budget : ℕ) (fit : Bool
       → length t.classes + length ps * (R + 1) ≤ 16384 → 64 * length t.classes + 2 * length ps + length ps * R * max 64 (length ps) ≤ 65536 → r ≢ Refused 13
   not-refused-13-rounds B C ps b R quiet few light e =
       let (T, z) = (refused-13 who image left right budget fit out out' r m).0 e in
-      N.not-refused-13-rounds who t (valid T) (left, right) T.asked budget B C ps b R (N.ends-quiet t ps budget R quiet) few light z
+      P.not-refused-13-rounds who t (valid T) (left, right) T.asked budget B C ps b R (N.ends-quiet t ps budget R quiet) few light z
 
   -- By numbers alone: n pairs, and a budget that ends before round R.
   pub not-refused-13-checks : (n : ℕ) → PairCount t (left, right) n → (R : ℕ) → budget ≤ 2 * n + R * (n + 1)
       → length t.classes + n * (R + 1) ≤ 16384 → 64 * length t.classes + 2 * n + n * R * max 64 n ≤ 65536 → r ≢ Refused 13
   not-refused-13-checks n c R b few light e =
       let (T, z) = (refused-13 who image left right budget fit out out' r m).0 e in
-      N.not-refused-13-checks who t (valid T) (left, right) T.asked budget n c R b few light z
+      P.not-refused-13-checks who t (valid T) (left, right) T.asked budget n c R b few light z
 
   -- .. n pairs, whatever the budget
   pub not-refused-13-pairs : (n : ℕ) → PairCount t (left, right) n → length t.classes + n * (n + 1) ≤ 16384 → 64 * length t.classes + 2 * n + n * n * max 64 n ≤ 65536 → r ≢ Refused 13
   not-refused-13-pairs n c few light e =
       let (T, z) = (refused-13 who image left right budget fit out out' r m).0 e in
-      N.not-refused-13-pairs who t (valid T) (left, right) T.asked budget n c few light z
+      P.not-refused-13-pairs who t (valid T) (left, right) T.asked budget n c few light z
 
   -- .. and never before the first round
   pub not-refused-13-before-rounds : (n : ℕ) → PairCount t (left, right) n → budget ≤ 2 * n → r ≢ Refused 13
   not-refused-13-before-rounds n c b e =
       let (T, z) = (refused-13 who image left right budget fit out out' r m).0 e in
-      N.not-refused-13-before-rounds who t (valid T) (left, right) T.asked budget n c b z
+      P.not-refused-13-before-rounds who t (valid T) (left, right) T.asked budget n c b z
 
 -- These are the terms that a run builds: the formula is the queried pair's term after the rounds reported. ps are the pairs of the full graph.
 module _ (who : Caller) (image : List ℕ) (left right budget : ℕ) (fit : Bool) (out out' : List ℕ) (n : ℕ) (m : Merges who image left right budget fit out out' (Listing n)) where
