@@ -1,5 +1,6 @@
 // The work buffers of the calls about cards: whether one is too short, and all cleared.
 #![tactic(auto)]
+
 ghost use Rattle.std.specs.Prelude.{◌≡◌, not, true};
 ghost use Rattle.card_contract.specs.Calls.{fit_of, Cleared};
 

@@ -1,5 +1,6 @@
 // The mark at a place of a text.
 #![tactic(auto)]
+
 ghost use Rattle.std.specs.Prelude.{◌≡◌, true, false, List, ℕ, ◌≤◌, ◌<◌, length, get_or, drop};
 ghost use Rattle.formula.specs.Card.{operations, bindings};
 ghost use Rattle.formula.specs.Lexer.{digit, sign_byte};

@@ -1,5 +1,6 @@
 // Which operations of a sign table have "a proper sign of its own and precedence".
 #![tactic(auto)]
+
 ghost use Rattle.std.specs.Prelude.{◌≡◌, ◌+◌, ◌*◌, ◌≤◌, ◌<◌, length};
 ghost use Rattle.std.proofs.Math.Seq.{slice};
 ghost use Rattle.spec.specs.Bytes.{all};

@@ -1,5 +1,6 @@
 // A sign table's entry of an operation: its sign's length and bytes, its precedence, and the surrounding precedence of its children.
 #![tactic(auto)]
+
 ghost use Rattle.std.specs.Prelude.{◌≡◌, ◌+◌, ◌*◌, ◌≤◌, ◌<◌, length};
 ghost use Rattle.formula.specs.Card.{operations, sign, prec_of, left_level, right_level};
 

@@ -1,5 +1,6 @@
 // The frame of the inputs of programs `card` and `read_card`: a 4-byte length, a sign table of so many bytes, and what follows.
 #![tactic(auto)]
+
 ghost use Rattle.std.specs.Prelude.{◌≡◌, true, ◌+◌, ◌-◌, ◌≤◌, length, take, drop};
 ghost use Rattle.spec.specs.Bytes as b;
 ghost use Rattle.formula.specs.Programs.{tabled, unended};

@@ -1,5 +1,6 @@
 // What stands at a place of a text: a word, or a number in decimal; and the place behind it.
 #![tactic(auto)]
+
 ghost use Rattle.std.specs.Prelude.{◌≡◌, ◌+◌, ◌^◌, ◌≤◌, ◌<◌, min, length, drop};
 ghost use Rattle.spec.specs.Bytes.{decimal};
 ghost use Rattle.formula.specs.Lexer.{starts_with, lead};

@@ -1,7 +1,5 @@
 use Rattle.card_cut.specs.SignLaws.{list-there, list-missing}
-use Prim.Native.Nat.{◌-◌}
 use native.Mathlib.Omega.{arith}
-use borrow.Author.Rules.{rules}
 use Rattle.card_cut.proofs.cut_list.Goals as goal
 
 pub returns-then-o-operations : goal.returns-then-o-operations

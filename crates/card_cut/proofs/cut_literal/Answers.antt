@@ -1,8 +1,7 @@
 use Rattle.card_cut.specs.NumberLaws.{NumberAt, number_read, no_value, value-ends, no-hash, no-operation, literal-there}
-use Prim.Native.Nat.{◌<◌, ◌-◌, ◌+◌}
+use Prim.Native.Nat.{◌<◌, ◌+◌}
 use native.Mathlib.Omega.{arith}
 use lib.ListN.{length}
-use borrow.Author.Rules.{rules}
 use Rattle.card_cut.proofs.cut_literal.Goals as goal
 
 pub returns-in_default : goal.returns-in_default

@@ -1,6 +1,4 @@
-use Prim.Native.Nat.{◌-◌}
 use mathlib.Core.Path.{sym, ◌∙◌}
-use borrow.Author.Rules.{rules}
 use Rattle.card_cut.proofs.cut_mark.Goals as goal
 
 pub cut_literal-requires : goal.cut_literal-requires

@@ -1,8 +1,5 @@
 use Rattle.card_cut.specs.PlainLaws.{next-there, next-missing}
-use Rattle.spec.specs.Bytes.{text}
-use Prim.Native.Nat.{◌-◌}
 use mathlib.Core.Path.{sym, ◌∙◌}
-use borrow.Author.Rules.{rules}
 use Rattle.card_cut.proofs.cut_next.Goals as goal
 
 pub returns-then-starts_with : goal.returns-then-starts_with

@@ -1,6 +1,4 @@
 use Rattle.card_cut.specs.PlainLaws.{opens-there, shuts-there, close-there, begin-there, end-there, no-mark}
-use Prim.Native.Nat.{◌-◌}
-use borrow.Author.Rules.{rules}
 use Rattle.card_cut.proofs.cut_plain.Goals as goal
 
 pub returns-then-c-eq40 : goal.returns-then-c-eq40

@@ -1,8 +1,6 @@
 use Rattle.card_cut.specs.SignLaws.{or-there, between-there, between-missing}
-use Prim.Native.Nat.{◌-◌}
 use native.Mathlib.Omega.{arith}
 use mathlib.Core.Path.{sym, ◌∙◌}
-use borrow.Author.Rules.{rules}
 use Rattle.card_cut.proofs.cut_spaced.Goals as goal
 
 pub returns-then-starts_with : goal.returns-then-starts_with

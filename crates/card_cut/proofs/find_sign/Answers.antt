@@ -1,10 +1,7 @@
 use Rattle.card_cut.specs.SignLaws.{place-start, place_none, place_here, place-later}
-use Rattle.card_cut.specs.Cutting.{fits, sign_at}
-use Rattle.spec.specs.Bytes.{place, up_from}
-use borrow.Author.Rules.{rules}
-use Prim.Native.Nat.{◌≤◌, ◌-◌, ◌+◌}
+use Rattle.card_cut.specs.Cutting.{fits}
 use native.Mathlib.Omega.{arith}
-use mathlib.Core.Path.{◌≡◌, sym, ◌∙◌}
+use mathlib.Core.Path.{sym, ◌∙◌}
 use lib.ListN.{drop}
 use Rattle.card_cut.proofs.find_sign.Goals as goal
 

@@ -1,6 +1,4 @@
-use Prim.Native.Nat.{◌-◌}
 use mathlib.Core.Path.{refl, sym, ◌∙◌}
-use borrow.Author.Rules.{rules}
 use Rattle.card_cut.proofs.is_sign_byte.Goals as goal
 
 pub returns-then-is_letter : goal.returns-then-is_letter

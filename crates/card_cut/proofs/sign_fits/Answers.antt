@@ -1,15 +1,13 @@
 use Rattle.card_cut.specs.SignLaws.{sign_part, judged, sign-improper, sign-missing, sign-ends, sign-last}
 use Rattle.text_cut.specs.CutLaws.{word_fits}
-use Rattle.formula.specs.Card.{sign, binding_of}
+use Rattle.formula.specs.Card.{sign}
 use Rattle.formula.specs.Lexer.{starts_with}
 use mathlib.Core.Bool.{true}
-use borrow.Author.Tests.{not-true, not-false}
-use Prim.Native.Nat.{ℕ, ◌≤◌, ◌-◌, ◌+◌}
+use Prim.Native.Nat.{ℕ, ◌≤◌, ◌+◌}
 use native.Mathlib.Omega.{arith}
 use mathlib.Core.Path.{◌≡◌, ap, sym, ◌∙◌}
 use mathlib.Core.List.{List}
 use lib.ListN.{length, drop}
-use borrow.Author.Rules.{rules}
 use Rattle.card_cut.proofs.sign_fits.Goals as goal
 
 pub returns-then-binds-o-eq0 : goal.returns-then-binds-o-eq0

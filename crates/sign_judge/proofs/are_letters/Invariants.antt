@@ -1,12 +1,8 @@
-use borrow.Author.Tests.{not-true, not-false}
-use Rattle.sign_judge.specs.SignTests.{slice-more, slice-fails, slice-none}
 use Rattle.formula.specs.Card.{letter}
 use Rattle.spec.specs.Bytes.{all}
 use lib.Seq.{slice}
-use borrow.Author.Rules.{rules}
 use Prim.Native.Nat.{◌≤◌, ◌-◌}
-use native.Mathlib.Omega.{arith}
-use mathlib.Core.Path.{◌≡◌, sym, ◌∙◌}
+use mathlib.Core.Path.{◌≡◌}
 use Rattle.sign_judge.proofs.are_letters.Given as goal
 
 abbrev pub invariant-loop-i : goal.invariant-loop-i

@@ -1,12 +1,8 @@
-use Rattle.sign_judge.specs.SignTests.{slice-more, slice-fails, slice-none}
 use Rattle.sign_judge.specs.Judging.{is_zero}
 use Rattle.spec.specs.Bytes.{all}
 use lib.Seq.{slice}
-use borrow.Author.Rules.{rules}
-use borrow.Author.Tests.{eq-eqb, ne_eqb}
 use Prim.Native.Nat.{◌≤◌, ◌-◌}
-use native.Mathlib.Omega.{arith}
-use mathlib.Core.Path.{◌≡◌, sym, ◌∙◌}
+use mathlib.Core.Path.{◌≡◌}
 use Rattle.sign_judge.proofs.are_zero.Given as goal
 
 abbrev pub invariant-loop-i : goal.invariant-loop-i

@@ -1,9 +1,6 @@
-use borrow.Author.Tests.{not-true, not-false}
 use Rattle.sign_judge.specs.SignTests.{unknown, no_sign, not_own, too-low, too-high, bound}
-use Prim.Native.Nat.{◌-◌}
 use native.Mathlib.Omega.{arith}
 use mathlib.Core.Path.{sym, ◌∙◌}
-use borrow.Author.Rules.{rules}
 use Rattle.sign_judge.proofs.binding.Goals as goal
 
 pub returns-then-o-operations : goal.returns-then-o-operations

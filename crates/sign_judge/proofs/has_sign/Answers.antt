@@ -1,8 +1,5 @@
-use borrow.Author.Tests.{not-true, not-false}
 use Rattle.sign_judge.specs.SignTests.{not-padded, no_byte, by-letters, not-one, by-symbol}
-use Prim.Native.Nat.{◌-◌}
 use mathlib.Core.Path.{sym, ◌∙◌}
-use borrow.Author.Rules.{rules}
 use Rattle.sign_judge.proofs.has_sign.Goals as goal
 
 pub returns-then-not-are_zero : goal.returns-then-not-are_zero

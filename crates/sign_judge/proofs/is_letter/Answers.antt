@@ -1,5 +1,4 @@
 use Rattle.sign_judge.specs.SignTests.{letter-low, letter-upper, letter-between, letter-lower}
-use Prim.Native.Nat.{◌-◌}
 use native.Mathlib.Omega.{arith}
 use Rattle.sign_judge.proofs.is_letter.Goals as goal
 

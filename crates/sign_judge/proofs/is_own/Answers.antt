@@ -1,9 +1,7 @@
-use Rattle.sign_judge.specs.SignTests.{alone-start, alone_from, alone-more, alone-fails, alone-end}
+use Rattle.sign_judge.specs.SignTests.{alone-start, alone-more, alone-fails, alone-end}
 use Rattle.formula.specs.Card.{own}
-use borrow.Author.Rules.{rules}
-use Prim.Native.Nat.{◌≤◌, ◌-◌}
 use native.Mathlib.Omega.{arith}
-use mathlib.Core.Path.{◌≡◌, sym, ◌∙◌}
+use mathlib.Core.Path.{sym, ◌∙◌}
 use Rattle.sign_judge.proofs.is_own.Goals as goal
 
 pub loop-q-init : goal.loop-q-init

@@ -1,7 +1,5 @@
-use borrow.Author.Tests.{not-true, not-false, eq-eqb, ne_eqb}
-use Prim.Native.Nat.{◌-◌}
+use borrow.Author.Tests.{eq-eqb, ne_eqb}
 use mathlib.Core.Path.{refl, sym, ◌∙◌}
-use borrow.Author.Rules.{rules}
 use Rattle.sign_judge.proofs.is_shared.Goals as goal
 
 pub returns-then-q-o : goal.returns-then-q-o

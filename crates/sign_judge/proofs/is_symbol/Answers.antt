@@ -1,6 +1,5 @@
 use Rattle.sign_judge.specs.SignTests.{symbol-last}
 use Rattle.formula.specs.Card.{symbol}
-use Prim.Native.Nat.{◌-◌}
 use mathlib.Core.Path.{refl}
 use Rattle.sign_judge.proofs.is_symbol.Goals as goal
 

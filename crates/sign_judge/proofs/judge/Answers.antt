@@ -1,8 +1,6 @@
 use Rattle.sign_judge.specs.SignTests.{bindings-length, bindings-at, bindings-whole}
-use Rattle.laws.specs.Buffers.{Filled, filled_more, filled-all}
+use Rattle.laws.specs.Buffers.{filled_more, filled-all}
 use Rattle.formula.specs.Card.{bindings}
-use borrow.Author.Rules.{rules}
-use Prim.Native.Nat.{◌≤◌, ◌-◌}
 use native.Mathlib.Omega.{arith}
 use mathlib.Core.Path.{sym, ◌∙◌}
 use Rattle.sign_judge.proofs.judge.Goals as goal

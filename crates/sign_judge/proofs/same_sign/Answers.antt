@@ -1,10 +1,7 @@
 use Rattle.sign_judge.specs.SignTests.{sign-at, unlike-lengths, bytes-more, bytes-differ, bytes-end}
-use Rattle.formula.specs.Card.{sign, same_bytes}
-use borrow.Author.Rules.{rules}
-use Prim.Native.Nat.{◌≤◌, ◌-◌}
+use Rattle.formula.specs.Card.{sign}
 use native.Mathlib.Omega.{arith}
-use mathlib.Core.Path.{◌≡◌, sym, ◌∙◌}
-use lib.ListN.{drop}
+use mathlib.Core.Path.{sym, ◌∙◌}
 use Rattle.sign_judge.proofs.same_sign.Goals as goal
 
 pub returns-then-sign_length-n : goal.returns-then-sign_length-n

@@ -1,9 +1,6 @@
-use Rattle.sign_judge.specs.SignTests.{sign-at, unlike-lengths, bytes-more, bytes-differ, bytes-end}
 use Rattle.formula.specs.Card.{sign, same_bytes}
-use borrow.Author.Rules.{rules}
 use Prim.Native.Nat.{◌≤◌, ◌-◌}
-use native.Mathlib.Omega.{arith}
-use mathlib.Core.Path.{◌≡◌, sym, ◌∙◌}
+use mathlib.Core.Path.{◌≡◌}
 use lib.ListN.{drop}
 use Rattle.sign_judge.proofs.same_sign.Given as goal
 

@@ -1,10 +1,8 @@
-use borrow.Author.Rules.{rules}
 use Prim.Native.Nat.{◌≤◌, ◌-◌, ◌+◌}
-use native.Mathlib.Omega.{arith}
 use mathlib.Core.Path.{◌≡◌}
 use lib.ListN.{length}
-use Rattle.formula.specs.Card.{word, sign}
-use Rattle.signs.specs.SignLaws.{word_from, word-stop, word_more, word_end}
+use Rattle.formula.specs.Card.{sign}
+use Rattle.signs.specs.SignLaws.{word_from}
 use Rattle.signs.proofs.sign_length.Given as goal
 
 abbrev pub invariant-loop-i : goal.invariant-loop-i

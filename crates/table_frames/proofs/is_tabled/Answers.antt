@@ -1,6 +1,5 @@
 use Prim.Native.Nat.{◌+◌}
 use native.Mathlib.Omega.{arith}
-use borrow.Author.Rules.{rules}
 use Rattle.table_frames.specs.TableLaws.{too_long, too_short, by_length}
 use Rattle.table_frames.proofs.is_tabled.Goals as goal
 

@@ -1,5 +1,4 @@
 use native.Mathlib.Omega.{arith}
-use borrow.Author.Rules.{rules}
 use Rattle.table_frames.specs.TableLaws.{tabled-says}
 use Rattle.table_frames.proofs.table_end.Goals as goal
 

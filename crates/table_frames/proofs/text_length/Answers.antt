@@ -3,7 +3,6 @@ use native.Mathlib.Omega.{arith}
 use mathlib.Core.Path.{◌∙◌}
 use lib.ListN.{length}
 use lib.Seq.{take_all}
-use borrow.Author.Rules.{rules}
 use Rattle.table_frames.specs.TableLaws.{ended, open-ended, nothing}
 use Rattle.table_frames.proofs.text_length.Goals as goal
 

@@ -1,4 +1,3 @@
-use borrow.Author.Rules.{rules}
 use Rattle.text_cut.specs.CutLaws.{number-over, number-missing, number-there}
 use Rattle.text_cut.proofs.cut_number.Goals as goal
 

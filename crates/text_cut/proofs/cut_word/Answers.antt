@@ -1,6 +1,5 @@
 use native.Mathlib.Omega.{arith}
 use mathlib.Core.Path.{sym, ◌∙◌}
-use borrow.Author.Rules.{rules}
 use Rattle.text_cut.specs.CutLaws.{word_fits, word-there, word-missing}
 use Rattle.text_cut.proofs.cut_word.Goals as goal
 

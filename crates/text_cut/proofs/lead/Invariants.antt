@@ -1,10 +1,7 @@
-use borrow.Author.Rules.{rules}
-use Prim.Native.Nat.{◌≤◌, ◌-◌, ◌+◌, ◌*◌}
-use native.Mathlib.Omega.{arith}
-use mathlib.Core.Path.{◌≡◌, refl, sym, ◌∙◌}
+use Prim.Native.Nat.{◌≤◌, ◌-◌}
+use mathlib.Core.Path.{◌≡◌}
 use lib.ListN.{length, drop}
 use Rattle.formula.specs.Lexer.{lead}
-use Rattle.text_cut.specs.CutLaws.{lead-below, lead-above, lead-turn, lead-end, lead-grows}
 use Rattle.text_cut.proofs.lead.Given as goal
 
 abbrev pub invariant-loop-i : goal.invariant-loop-i

@@ -1,9 +1,5 @@
-use borrow.Author.Rules.{rules}
-use Prim.Native.Nat.{◌≤◌, ◌-◌, ◌+◌}
 use native.Mathlib.Omega.{arith}
-use mathlib.Core.Path.{◌≡◌, sym, ◌∙◌}
-use lib.ListN.{length, drop}
-use Rattle.formula.specs.Lexer.{starts_with}
+use mathlib.Core.Path.{sym, ◌∙◌}
 use Rattle.text_cut.specs.CutLaws.{starts-start, starts-end, starts-short, starts-differs, starts_more}
 use Rattle.text_cut.proofs.starts_with.Goals as goal
 
