@@ -1,5 +1,5 @@
 -- (02, Paper 9) The quote page with 256 pairs and the account desk with 4,096: what is said of two calls, one of each, from their contracts.
-use Rattle.std.specs.Prelude.{◌≡◌, ◌⊎◌, ◌↔◌, Bool, true, List, ℕ, ◌≤◌, ◌<◌, length, take}
+use Rattle.std.specs.Prelude.{◌≡◌, ◌⊎◌, ◌↔◌, Bool, List, ℕ, ◌≤◌, ◌<◌, length, take}
 use Rattle.std.proofs.Math.Path.{refl, sym, ap}
 use Rattle.std.proofs.Common.{◌∙◌, arith}
 use Rattle.std.proofs.Math.Logic.{inl, inr}
@@ -8,7 +8,7 @@ use Rattle.spec.specs.Run.{limits_for}
 use Rattle.spec.specs.Listing.{listing_of}
 use Rattle.spec.specs.Merge.{merge_for, output_after}
 use Rattle.spec.specs.declared.Caller.TheVariants.{Page, Desk}
-use Rattle.laws.specs.Results.{ok-inj, refused-ok}
+use Rattle.laws.specs.Results.{ok-inj}
 use Rattle.pools.specs.Refused.{NoLess}
 use Rattle.lgg.specs.Pairs.{PairCount}
 use Rattle.lgg.specs.Limits.{run-same, skipped-same, merge-or-twelve}
@@ -16,19 +16,18 @@ use Rattle.pair_search.specs.declared.Pair.{Pair}
 use Rattle.contract.specs.declared.Answer.{Answer}
 use Rattle.contract.specs.declared.Answer.TheVariants.{Listing, Refused}
 use Rattle.contract.specs.Merges.{Merges}
-use Rattle.contract.specs.Answers.{answer_of, Cleared, Table}
 use Rattle.demands.specs.Calls.{Taken, shown, refused-iff, Accepted, accepted}
-use Rattle.demands.specs.Refusals.{refused-1, refused-12-only-beyond, refused-12-beyond, listing-where, answer-tells}
+use Rattle.demands.specs.Refusals.{refused-1, refused-12, run-12-only-beyond, refused-12-beyond, answer-tells}
 
 -- the page's limits are the desk's, but for the pairs
-page-less : NoLess (limits_for Page) (limits_for Desk)
+pub page-less : NoLess (limits_for Page) (limits_for Desk)
 page-less = record { pairs = omega arith; terms = omega arith; runs = omega arith }
 
 -- ---- "Refusal 12 is returned at the caller's own limit, one of these two"
 module _ (image : List ℕ) (left right budget : ℕ) (fit : Bool) (out out' : List ℕ) (r : Answer) where
   -- the quote page "may hold 256 pairs": 12 only where the queried pair has more
   pub page-12-only-beyond : Merges Page image left right budget fit out out' r → r ≡ Refused 12 → (n : ℕ) → PairCount (tables_of image) (left, right) n → 256 < n
-  page-12-only-beyond m = refused-12-only-beyond Page image left right budget fit out out' r m
+  page-12-only-beyond m e n c = run-12-only-beyond Page image left right budget fit out out' r m n c ((refused-12 Page image left right budget fit out out' r m).0 e).1
 
   -- .. and where it has, with 256 checks or more
   pub page-12-beyond : Merges Page image left right budget fit out out' r → Taken fit image left right → (n : ℕ) → PairCount (tables_of image) (left, right) n → 256 < n → 256 ≤ budget → r ≡ Refused 12
@@ -36,7 +35,7 @@ module _ (image : List ℕ) (left right budget : ℕ) (fit : Bool) (out out' : L
 
   -- "the account desk keeps 4,096"
   pub desk-12-only-beyond : Merges Desk image left right budget fit out out' r → r ≡ Refused 12 → (n : ℕ) → PairCount (tables_of image) (left, right) n → 4096 < n
-  desk-12-only-beyond m = refused-12-only-beyond Desk image left right budget fit out out' r m
+  desk-12-only-beyond m e n c = run-12-only-beyond Desk image left right budget fit out out' r m n c ((refused-12 Desk image left right budget fit out out' r m).0 e).1
 
   pub desk-12-beyond : Merges Desk image left right budget fit out out' r → Taken fit image left right → (n : ℕ) → PairCount (tables_of image) (left, right) n → 4096 < n → 4096 ≤ budget → r ≡ Refused 12
   desk-12-beyond m = refused-12-beyond Desk image left right budget fit out out' r m
@@ -48,7 +47,7 @@ module _ (image : List ℕ) (left right budget : ℕ) (fit fit₂ : Bool) (out o
   a = accepted Page image left right budget fit out out' n page
 
   -- it is the desk's too, and prints the same
-  desk-shows : shown Desk image left right budget a.o ≡ shown Page image left right budget a.o
+  pub desk-shows : shown Desk image left right budget a.o ≡ shown Page image left right budget a.o
   desk-shows = ap (λ (k : ℕ). listing_of k a.o) (skipped-same (limits_for Page) (limits_for Desk) page-less (tables_of image) (left, right) budget a.o a.ran)
 
   pub same-bytes : (n₂ : ℕ) → Merges Desk image left right budget fit₂ out₂ out₂' (Listing n₂) → (n ≡ n₂) × (take n out' ≡ take n₂ out₂')
@@ -57,15 +56,6 @@ module _ (image : List ℕ) (left right budget : ℕ) (fit fit₂ : Bool) (out o
       let q : z.o ≡ a.o = ok-inj (sym z.ran ∙ run-same (limits_for Page) (limits_for Desk) page-less (tables_of image) (left, right) budget a.o a.ran) in
       let w : shown Desk image left right budget z.o ≡ shown Page image left right budget a.o = ap (shown Desk image left right budget) q ∙ desk-shows in
       (a.long ∙ ap length (sym w) ∙ sym z.long, a.listed ∙ sym w ∙ sym z.listed)
-
-  -- ---- "whatever the quote page accepts, the desk accepts": with whatever buffers, if no work buffer is too short and the output has room for the listing
-  pub page-then-desk-any : (r : Answer) → Merges Desk image left right budget fit₂ out₂ out₂' r → fit₂ ≡ true → n ≤ length out₂ → (r ≡ Listing n) × (take n out₂' ≡ take n out')
-  page-then-desk-any r desk f h =
-      let (k, e) =
-      (listing-where Desk image left right budget fit₂ out₂ out₂' r desk).1
-      (record { fits = f; sound = a.taken.sound; asked = a.taken.asked }, (a.o, run-same (limits_for Page) (limits_for Desk) page-less (tables_of image) (left, right) budget a.o a.ran, rw (desk-shows, ← a.long) h)) in
-      let (s, t) = same-bytes k (rw e at desk) in
-      (e ∙ ap Listing (sym s), ap (λ (i : ℕ). take i out₂') s ∙ sym t)
 
 -- ---- both callers lent buffers that fit in both calls or in neither, and the same output
 module _ (image : List ℕ) (left right budget : ℕ) (fit : Bool) (out out₁ out₂ : List ℕ) (r₁ r₂ : Answer) (page : Merges Page image left right budget fit out out₁ r₁) (desk : Merges Desk image left right budget fit out out₂ r₂) where
@@ -76,10 +66,6 @@ module _ (image : List ℕ) (left right budget : ℕ) (fit : Bool) (out out₁ o
     | inl e ↦ inl ((refused-iff Page image left right budget fit out out₁ r₁ page 12 (λ z. absurd (omega arith))).1 e)
     | inr e ↦ inr (answer-tells image out₁ out₂ r₁ r₂ (page.answer ∙ e ∙ sym desk.answer) page.carries desk.carries, page.output ∙ ap (output_after out) e ∙ sym desk.output)
   ]
-
-  -- "for small tariffs": where the queried pair has at most 256 pairs, the page has the desk's answer and leaves the desk's output.
-  pub small-alike : (n : ℕ) → PairCount (tables_of image) (left, right) n → n ≤ 256 → (r₁ ≡ r₂) × (out₁ ≡ out₂)
-  small-alike n c h = elim page-or-12 [ inl e ↦ absurd (omega (arith, page-12-only-beyond image left right budget fit out out₁ r₁ page e n c)) | inr e ↦ e ]
 
 -- ---- "whatever the quote page accepts, the desk accepts with equal work and output buffers": lent the same, it writes the same listing and leaves every buffer as the page does
 pub record AsThePage (n : ℕ) (r : Answer) (out₁ out₂ : List ℕ) (table₁ table₂ : List Pair) (a₁ a₂ b₁ b₂ c₁ c₂ d₁ d₂ e₁ e₂ f₁ f₂ : List ℕ) : Type 0 where
@@ -92,29 +78,6 @@ pub record AsThePage (n : ℕ) (r : Answer) (out₁ out₂ : List ℕ) (table₁
   pub flow : d₂ ≡ d₁
   pub terms : e₂ ≡ e₁
   pub runs : f₂ ≡ f₁
-
-pub page-then-desk : (image : List ℕ) (left right budget : ℕ) (fit : Bool) (out out₁ out₂ : List ℕ) (n : ℕ) (r : Answer) → Merges Page image left right budget fit out out₁ (Listing n) → Merges Desk image left right budget fit out out₂ r
-    → (table table₁ table₂ : List Pair) → Table fit table table₁ → Table fit table table₂
-    → {a a₁ a₂ b b₁ b₂ c c₁ c₂ d d₁ d₂ e e₁ e₂ f f₁ f₂ : List ℕ} → Cleared fit a a₁ b b₁ c c₁ d d₁ e e₁ f f₁ → Cleared fit a a₂ b b₂ c c₂ d d₂ e e₂ f f₂
-    → AsThePage n r out₁ out₂ table₁ table₂ a₁ a₂ b₁ b₂ c₁ c₂ d₁ d₂ e₁ e₂ f₁ f₂
-page-then-desk image left right budget fit out out₁ out₂ n r page desk table table₁ table₂ t u k j =
-    let (s, o) = taken (page-or-12 image left right budget fit out out₁ out₂ (Listing n) r page desk) in
-    record {
-      answer = sym s;
-      output = sym o;
-      table = u ∙ sym t;
-      graph = j.graph ∙ sym k.graph;
-      pairs = j.pairs ∙ sym k.pairs;
-      work = j.work ∙ sym k.work;
-      flow = j.flow ∙ sym k.flow;
-      terms = j.terms ∙ sym k.terms;
-      runs = j.runs ∙ sym k.runs;
-    }
-  where
-    -- a listing is not 12
-    taken : (Listing n ≡ Refused 12) ⊎ ((Listing n ≡ r) × (out₁ ≡ out₂)) → (Listing n ≡ r) × (out₁ ≡ out₂)
-    taken (inl e) = absurd (refused-ok (sym (ap (answer_of out₁) e)))
-    taken (inr e) = e
 
 -- ---- "the work buffers' constant lengths are the same for both": whatever is asked, refusal 1 depends on these lengths alone (`fit`) and not on the caller
 pub same-lengths : (fit : Bool) (image image₂ : List ℕ) (left right budget left₂ right₂ budget₂ : ℕ) (out out' out₂ out₂' : List ℕ) (r r₂ : Answer)

@@ -1,6 +1,5 @@
 -- (02, Paper 13) Checks spent, and the fleets turned round, of calls of `merge`, from their contracts.
 use Rattle.std.specs.Prelude.{◌≡◌, Bool, true, false, List, [], ◌∷◌, ◌++◌, ℕ, ◌+◌, ◌*◌, ◌≤◌, take}
-use Rattle.std.proofs.Math.Path.{refl}
 use Rattle.spec.specs.Bytes.{each, text, decimal, ok}
 use Rattle.spec.specs.Image.{Tables, tables_of}
 use Rattle.spec.specs.Pairs.{pairs, making}
@@ -13,8 +12,6 @@ use Rattle.mirror.proofs.Runs.{turned_same, turned-alike}
 use Rattle.contract.specs.declared.Answer.TheVariants.{Listing}
 use Rattle.contract.specs.Merges.{Merges}
 use Rattle.demands.specs.Calls.{passed_over, accepted}
-use Rattle.demands.specs.SkippedPairs.{many-turned}
-use Rattle.demands.specs.Skipped.{counts-complete}
 
 -- ---- of a call that is not refused
 module _ (who : Caller) (image : List ℕ) (left right budget : ℕ) (fit : Bool) (out out' : List ℕ) (n : ℕ) (m : Merges who image left right budget fit out out' (Listing n)) where
@@ -66,19 +63,6 @@ module _ (who who₂ : Caller) (image : List ℕ) (left right b c : ℕ) (fit fi
   -- "Complete runs on (left, right) and (right, left), neither refused, must be shown to have equal pairs, rounds, size, mass and checks."
   pub turned_round : x.complete ≡ true → y.complete ≡ true → Alike x y
   turned_round e f = turned-alike (limits_for who) (limits_for who₂) (tables_of image) left right b c x y (ran who image left right b fit out out' n m) e (ran who₂ image right left c fit₂ out₂ out₂' n₂ m₂) f
-
-  -- They skip as many monomial pairs
-  pub turned-skipped : x.complete ≡ true → y.complete ≡ true → passed_over who image left right b ≡ passed_over who₂ image right left c
-  turned-skipped e f =
-      many-turned (tables_of image) (left, right) (passed_over who image left right b) (passed_over who₂ image right left c)
-      (counts-complete who image left right b fit out out' n m e) (counts-complete who₂ image right left c fit₂ out₂ out₂' n₂ m₂ f)
-
-  -- .. so that their first lines have the same bytes.
-  pub turned-first-line : x.complete ≡ true → y.complete ≡ true → first_line (passed_over who image left right b) x ≡ first_line (passed_over who₂ image right left c) y
-  unfolding first_line reported
-  turned-first-line e f =
-      let A = turned_round e f in
-      rw (e, f, A.nodes, A.rounds, A.quality, A.checks, turned-skipped e f) refl
 
 -- ---- the same with one budget for both, which may cut them short: the status is the same too
 pub turned-one-budget : (who who₂ : Caller) (image : List ℕ) (left right budget : ℕ) (fit fit₂ : Bool) (out out' out₂ out₂' : List ℕ) (n n₂ : ℕ)

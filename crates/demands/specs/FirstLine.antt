@@ -65,7 +65,3 @@ first-line-cut k j o u l m e =
     let (c, q, z) = fields-tell o.complete u.complete (reported k o) (reported j u) l m (names-solid k o) (names-solid j u) e in
     let at : (i : ℕ) → (get_or (reported k o) i ([], 0)).1 ≡ (get_or (reported j u) i ([], 0)).1 = λ i. ap (λ (f : List Field). (get_or f i ([], 0)).1) q in
     ((c, at 0, at 1, at 2, at 3, at 4, at 5), z)
-
--- Two first lines of the same bytes have the same status, pairs, rounds, size, mass, number skipped and checks.
-pub first-line-tells : (k j : ℕ) (o u : Outcome) → first_line k o ≡ first_line j u → SameReport k j o u
-first-line-tells k j o u e = (first-line-cut k j o u [] [] (ap (λ (z : List ℕ). z ++ []) e)).0

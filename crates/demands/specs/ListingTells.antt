@@ -1,5 +1,5 @@
 -- Equal listings have equal terms: the bytes tell the whole formula, and not its first line alone.
-use Rattle.std.specs.Prelude.{◌≡◌, Bool, true, false, eqb, take}
+use Rattle.std.specs.Prelude.{◌≡◌, Bool, true, false, eqb}
 use Rattle.std.proofs.Math.Path.{refl, sym, ap, ap₂}
 use Rattle.std.proofs.Common.{◌∙◌, inl, inr, not-suc-le-zero, arith, eqb-true}
 use mathlib.Core.List.{List, [], ◌∷◌, ◌++◌, map}
@@ -8,21 +8,14 @@ use Rattle.std.proofs.Math.ListN.{length, get_or, length-append}
 use Rattle.std.proofs.lemmas.Bool.{eqb-false}
 use Rattle.spec.specs.Bytes.{pick, Two, all, any, each, place, text, decimal}
 use Rattle.spec.specs.Pool.{Pool, Node, node_at, OP, LIT, VARIANTS}
-use Rattle.spec.specs.Run.{Outcome}
-use Rattle.spec.specs.declared.Caller.{Caller}
-use Rattle.spec.specs.Listing.{visit_runs, visit_term, subterms, line, run_field, head_fields, term_line, listing_of}
+use Rattle.spec.specs.Listing.{visit_runs, visit_term, subterms, line, run_field, head_fields, term_line}
 use Rattle.spec.specs.Meaning.{In, here, there, Term, lit, node, variants, run, runs_of, tree_of, trees_after, tree_at}
 use Rattle.laws.specs.Lists.{in-cons, in-nil}
 use Rattle.pools.specs.Pool.{Formed, operation, literal, marked, PoolValid, get_d-last, tree-operation, tree-literal, tree-marked}
 use Rattle.pools.specs.PoolTrees.{tree_is}
 use Rattle.numbering.specs.WalkLaws.{visit-fresh, visit-new, subterms-closed}
 use Rattle.numbering.specs.NumberLaws.{at_in}
-use Rattle.contract.specs.declared.Answer.TheVariants.{Listing}
-use Rattle.contract.specs.Merges.{Merges}
-use Rattle.demands.specs.Calls.{passed_over, accepted}
-use Rattle.demands.specs.Demand2 as D
 use Rattle.demands.specs.Fields.{Solid, Solids, all_append, solids-append, solid-of, heads, nil-cons, cut, line-cut, decimal-digits, decimal-solid, decimal-tells}
-use Rattle.demands.specs.FirstLine.{SameReport, first-line-cut}
 
 -- ---- the fields of a line
 -- behind the line's number
@@ -208,22 +201,3 @@ module _ (p q : Pool) (v : PoolValid p) (w : PoolValid q) (a b : ℕ) (ha : a < 
       let g : get_or L (length X) 0 ≡ a = ap (λ (z : List ℕ). get_or z (length X) 0) x ∙ get_d-last X a 0 in
       let k : get_or M (length X) 0 ≡ b = ap₂ (λ (z : List ℕ) (i : ℕ). get_or z i 0) y s ∙ get_d-last Y b 0 in
       sym (ap (tree_at p) g) ∙ line-tree (suc (get_or L (length X) 0)) (length X) (omega arith) (omega arith) ∙ ap (tree_at q) k
-
--- Two listings of the same bytes have the same first line and the same term.
-pub listing-tells : (k j : ℕ) (o u : Outcome) → PoolValid o.pool → PoolValid u.pool → o.root < length o.pool → u.root < length u.pool → listing_of k o ≡ listing_of j u
-    → SameReport k j o u × (tree_at o.pool o.root ≡ tree_at u.pool u.root)
-unfolding listing_of
-listing-tells k j o u v w h i e =
-    let (r, l) = first-line-cut k j o u _ _ e in
-    (r, root-tree o.pool u.pool v w o.root u.root h i l)
-
--- ---- of two calls
--- Two calls that print the same bytes have the same formula and the same number of pairs passed over, whatever their callers, images, queries and buffers: `D.o` is the run behind a call's listing.
-pub same-bytes-same-formula : (who who₂ : Caller) (image image₂ : List ℕ) (left right budget left₂ right₂ budget₂ : ℕ) (fit fit₂ : Bool) (out out' out₂ out₂' : List ℕ) (n n₂ : ℕ)
-    → (m : Merges who image left right budget fit out out' (Listing n)) (m₂ : Merges who₂ image₂ left₂ right₂ budget₂ fit₂ out₂ out₂' (Listing n₂)) → take n out' ≡ take n₂ out₂'
-    → SameReport (passed_over who image left right budget) (passed_over who₂ image₂ left₂ right₂ budget₂) (D.o who image left right budget fit out out' n m) (D.o who₂ image₂ left₂ right₂ budget₂ fit₂ out₂ out₂' n₂ m₂)
-    × (tree_at (D.o who image left right budget fit out out' n m).pool (D.o who image left right budget fit out out' n m).root ≡ tree_at (D.o who₂ image₂ left₂ right₂ budget₂ fit₂ out₂ out₂' n₂ m₂).pool (D.o who₂ image₂ left₂ right₂ budget₂ fit₂ out₂ out₂' n₂ m₂).root)
-same-bytes-same-formula who who₂ image image₂ left right budget left₂ right₂ budget₂ fit fit₂ out out' out₂ out₂' n n₂ m m₂ e =
-    let (v, h) = D.the_term who image left right budget fit out out' n m in
-    let (w, k) = D.the_term who₂ image₂ left₂ right₂ budget₂ fit₂ out₂ out₂' n₂ m₂ in
-    listing-tells _ _ _ _ v w h k (sym (accepted who image left right budget fit out out' n m).listed ∙ e ∙ (accepted who₂ image₂ left₂ right₂ budget₂ fit₂ out₂ out₂' n₂ m₂).listed)

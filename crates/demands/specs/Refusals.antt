@@ -139,13 +139,17 @@ module _ (who : Caller) (image : List ℕ) (left right budget : ℕ) (fit : Bool
       go (over o e T f h) q = absurd (omega (arith, as-refused e q))
       go (listed o e T f h) q = absurd (refused-ok (sym q ∙ e))
 
+  -- so is the run by 12 only where the queried pair has more pairs than the caller may hold
+  pub run-12-only-beyond : (n : ℕ) → PairCount (tables_of image) (left, right) n → R ≡ refused 12 → limit_of who < n
+  run-12-only-beyond n c e = elim (refused-by (pairs (tables_of image)) (making (limits_for who) (tables_of image)) (refuses13 (limits_for who) (tables_of image)) (left, right) n c budget 12 e) [ inl x ↦ x.1 | inr x ↦ absurd (omega arith) ]
+
   -- 12: (02, Paper 9) "Refusal 12 is returned at the caller's own limit": a pair beyond it would be entered
   pub refused-12 : (r ≡ Refused 12) ↔ (Taken fit image left right × (R ≡ refused 12))
   refused-12 = of-run 12 (omega arith) (omega arith)
 
   -- .. only where the queried pair has more pairs than the caller may hold
   pub refused-12-only-beyond : r ≡ Refused 12 → (n : ℕ) → PairCount (tables_of image) (left, right) n → limit_of who < n
-  refused-12-only-beyond e n c = elim (refused-by (pairs (tables_of image)) (making (limits_for who) (tables_of image)) (refuses13 (limits_for who) (tables_of image)) (left, right) n c budget 12 (refused-12.0 e).1) [ inl x ↦ x.1 | inr x ↦ absurd (omega arith) ]
+  refused-12-only-beyond e n c = run-12-only-beyond n c (refused-12.0 e).1
 
   -- .. and where it has, with as many checks as that or more; in plain numbers: Callers
   pub refused-12-beyond : Taken fit image left right → (n : ℕ) → PairCount (tables_of image) (left, right) n → limit_of who < n → limit_of who ≤ budget → r ≡ Refused 12
@@ -251,8 +255,5 @@ answer-tells image out out₂ (Doubled c) (Doubled d) e a b = ap Doubled (a ∙ 
 
 -- (02, Paper 2) "Refusal 10 then leaves nothing open": two calls with the same caller, image, classes and budget, work buffers that fit in both or in neither, and outputs of one length give the same answer; where the outputs were the same, they are so afterwards
 module _ (who : Caller) (image : List ℕ) (left right budget : ℕ) (fit : Bool) (out out' out₂ out₂' : List ℕ) (alike : length out ≡ length out₂) where
-  same : (r s : Answer) → Merges who image left right budget fit out out' r → Merges who image left right budget fit out₂ out₂' s → r ≡ s
-  same r s m w = answer-tells image out' out₂' r s (m.answer ∙ ap (merge_for who fit image left right budget) alike ∙ sym w.answer) m.carries w.carries
-
   pub nothing-open : (r s : Answer) → Merges who image left right budget fit out out' r → Merges who image left right budget fit out₂ out₂' s → (r ≡ s) × (out ≡ out₂ → out' ≡ out₂')
-  nothing-open r s m w = (same r s m w, λ e. m.output ∙ (rw e (sym w.output)))
+  nothing-open r s m w = (answer-tells image out' out₂' r s (m.answer ∙ ap (merge_for who fit image left right budget) alike ∙ sym w.answer) m.carries w.carries, λ e. m.output ∙ (rw e (sym w.output)))

@@ -11,16 +11,11 @@ use Rattle.spec.specs.Pairs.{starting_quality, ones, problem_over, pairs}
 use Rattle.spec.specs.Meaning as meaning
 use Rattle.spec.specs.Meaning.{Plan, Move, Reachable}
 use Rattle.laws.specs.Tests.{clash}
-use Rattle.laws.specs.Lists.{in-nil, in-cons, in_left, in_right, in-append, in_map, map-in, in-each, length-map, Distinct, none, more, distinct-map, pigeon}
+use Rattle.laws.specs.Lists.{in-nil, in-cons, in_left, in_right, in-append, in_map, map-in, in-each, length-map, Distinct, none, more, distinct-map}
 use Rattle.laws.specs.Bag.{each_in, filter-in, in-filter}
 use Rattle.skips.specs.Counted.{Once, nothing, also, Counted, counted}
 use Rattle.steps.specs.Rounds.{Moves, LeastOf}
 use Rattle.lgg.specs.Moves.{pair-moves}
-use Rattle.steps.specs.Mirror.{reach-flip}
-use Rattle.mirror.specs.Transpose.{flip, turn_transport}
-use Rattle.mirror.specs.Actions.{ops-turn}
-use Rattle.mirror.proofs.Actions.{pairs-turn}
-use Rattle.mirror.proofs.Runs.{fleets}
 
 -- ---- "A pair with a count above 4,294,967,295 on either side is skipped."
 abbrev pub Skipped : MonomialPair → Type 0
@@ -129,7 +124,7 @@ append-once [] m none b f = b
 append-once (x ∷ l) m (more g a) b f = more {x = x} {l = l ++ m} (λ i. elim (in-append l i) [ inl j ↦ g j | inr j ↦ f x here j ]) (append-once l m a b (λ y i j. f y (there i) j))
 
 -- by kinds: of each kind b so many as f says, of all together their sum
-many-sum : {A B : Type 0} (kind : A → B) (f : B → ℕ) (P : A → Type 0) (l : List B) → Distinct l → ((b : B) → In b l → Many (λ x. (kind x ≡ b) × P x) (f b)) → Many (λ x. In (kind x) l × P x) (sum (map f l))
+pub many-sum : {A B : Type 0} (kind : A → B) (f : B → ℕ) (P : A → Type 0) (l : List B) → Distinct l → ((b : B) → In b l → Many (λ x. (kind x ≡ b) × P x) (f b)) → Many (λ x. In (kind x) l × P x) (sum (map f l))
 unfolding sum
 many-sum kind f P [] d h = record { those = []; once = none; exactly = λ x. ((λ i. absurd (in-nil i)), λ z. absurd (in-nil z.0)); many = refl }
 many-sum {A = A} {B = B} kind f P (b ∷ l) (more n d) h = go (h b here) (many-sum kind f P l d (λ c i. h c (there i)))
@@ -248,40 +243,3 @@ many-at t p = go (eqb p.0 p.1) refl
           (subst (λ z. In x.act.sides (representation_pairs t p.0 p.1 z)) f (subst (λ z. In x.act.sides (representation_pairs t z.0 z.1 x.act.op)) q s.0.sides), s.1),
           λ i. record { pair = sym q i; act = record { op = sym f i; sides = x.act.sides } },
         )
-
--- of different pairs of classes
-pub many-over : (t : Tables) (ps : List Two) → Distinct ps → Many (λ x. In x.pair ps × SkippedPlace t x) (sum (map (skipped_at t) ps))
-many-over t ps d = many-sum (λ x. x.pair) (skipped_at t) (SkippedPlace t) ps d (λ p i. many-at t p)
-
--- ---- (02, Paper 13) turned round
--- no more things are P than Q, where f takes each to another
-few : {A : Type 0} (P Q : A → Type 0) (f : A → A) → ((x y : A) → f x ≡ f y → x ≡ y) → ((x : A) → P x → Q (f x)) → (n m : ℕ) → Many P n → Many Q m → n ≤ m
-few P Q f one to n m M N =
-    omega (
-      arith,
-      M.many,
-      N.many,
-      length-map f M.those,
-      pigeon (map f M.those) N.those (distinct-map f one M.those M.once)
-          (λ y i. let (x, j, e) = map-in f M.those y i in rw (← e) ((N.exactly (f x)).1 (to x ((M.exactly x).0 j)))),
-    )
-
-abbrev turn_place : Place → Place
-turn_place x = record { pair = flip x.pair; act = turn_transport x.act }
-
-turn-skipped : (t : Tables) (x : Place) → SkippedPlace t x → SkippedPlace t (turn_place x)
-turn-skipped t x (J, (e, i, h)) = (
-  record {
-    different = λ z. J.different (sym z);
-    operation = subst (λ l. In x.act.op l) (ops-turn t x.pair.0 x.pair.1) J.operation;
-    sides = pairs-turn t x.pair.0 x.pair.1 x.act.op x.act.sides J.sides;
-  },
-  (e, elim (in-append x.act.sides.rows i) [ inl j ↦ in_right x.act.sides.cols j | inr j ↦ in_left x.act.sides.rows j ], h),
-)
-
--- of the pairs reachable from (left, right) and from (right, left) as many are skipped
-pub many-turned : (t : Tables) (p : Two) (n m : ℕ) → Many (λ x. Reachable t p x.pair × SkippedPlace t x) n → Many (λ x. Reachable t (flip p) x.pair × SkippedPlace t x) m → n ≡ m
-many-turned t p n m M N = omega (arith, one_way p n m M N, one_way (flip p) m n N M)
-  where
-    one_way : (q : Two) (j k : ℕ) → Many (λ x. Reachable t q x.pair × SkippedPlace t x) j → Many (λ x. Reachable t (flip q) x.pair × SkippedPlace t x) k → j ≤ k
-    one_way q j k = few (λ x. Reachable t q x.pair × SkippedPlace t x) (λ x. Reachable t (flip q) x.pair × SkippedPlace t x) turn_place (λ x y e. ap turn_place e) (λ x z. (reach-flip (pairs t) (fleets t) q x.pair z.0, turn-skipped t x z.1)) j k
