@@ -1,6 +1,7 @@
 // The two monomials of a representation pair (ac_repr.rs), padded: at a state of the walk (crate ac_repr).
 // From `first`, over `next`, to `End` the actions that `monomials` finds are the transports of the two classes, in order (specs/Transports: left-first, left-next, left-end; specs/Sides: action-one, action-none).
 #![tactic(auto)]
+
 ghost use Rattle.std.specs.Prelude.{◌≡◌, ◌<◌, length};
 ghost use Rattle.spec.specs.Image.{tables_of};
 ghost use Rattle.laws.specs.Valid.{Valid};

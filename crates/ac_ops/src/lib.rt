@@ -1,5 +1,6 @@
 // "An MSet or Set operation of either class" (ac_repr.rs): the first one from an operation on.
 #![tactic(auto)]
+
 ghost use Rattle.std.specs.Prelude.{◌≡◌, ◌<◌, eqb};
 ghost use Rattle.spec.specs.Bytes.{any};
 ghost use Rattle.spec.specs.Image.{tables_of, members_of};

@@ -1,5 +1,6 @@
 // The representation pairs of two classes (ac_repr.rs), walked in the Rust's order without storing them: a state by value and a step.
 #![tactic(auto)]
+
 ghost use Rattle.std.specs.Prelude.{◌≡◌, suc, ◌≤◌, ◌<◌};
 ghost use Rattle.spec.specs.Image.{tables_of};
 ghost use Rattle.laws.specs.Valid.{Valid};

@@ -1,5 +1,6 @@
 // The terms of an action's pairs with their counts, as runs in a lent list (exact_fixed.rs).
 #![tactic(auto)]
+
 ghost use Rattle.std.specs.Prelude.{◌≡◌, ◌≤◌, length};
 ghost use Rattle.spec.specs.Image.{tables_of};
 ghost use Rattle.laws.specs.Buffers.{over};

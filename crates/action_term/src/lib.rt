@@ -1,5 +1,6 @@
 // The term of an action: "children of commutative kinds, sorted", joined and interned.
 #![tactic(auto)]
+
 ghost use Rattle.std.specs.Prelude.{◌≡◌, map, ◌+◌, ◌-◌, ◌^◌, ◌≤◌, ◌<◌, length, get_or};
 ghost use Rattle.spec.specs.Bytes.{sum};
 ghost use Rattle.spec.specs.Pool.{structural_cmp, is_greater};

@@ -1,5 +1,6 @@
 // A place among the structural actions of two classes, and the action there, read from the image (actions.rs under `without_ac_actions`).
 #![tactic(auto)]
+
 ghost use Rattle.std.specs.Prelude.{◌≡◌, ◌≤◌, ◌<◌, length, get_or};
 ghost use Rattle.spec.specs.Image.{tables_of};
 ghost use Rattle.laws.specs.Valid.{Valid};

@@ -1,5 +1,6 @@
 // How many structural actions two members of an image give (actions.rs under `without_ac_actions`).
 #![tactic(auto)]
+
 ghost use Rattle.std.specs.Prelude.{◌≡◌, ◌<◌, eqb, length, get_or};
 ghost use Rattle.spec.specs.Image.{tables_of, the_member, kind_of, SPair};
 ghost use Rattle.spec.specs.Action.{align_members, straight_and_crossed};

@@ -1,5 +1,6 @@
 // What program `merge` writes for an input: the listing, or `refused` and its number.
 #![tactic(auto)]
+
 ghost use Rattle.std.specs.Prelude.{◌≡◌, true, length};
 ghost use Rattle.frames.specs.Frame.{framed};
 ghost use Rattle.answer.specs.Responding.{Asks, Rooms, Responds};

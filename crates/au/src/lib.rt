@@ -1,5 +1,6 @@
 // The public merge: document 01's, which is the desk's; and for callers that lend plain buffers only.
 #![tactic(auto)]
+
 ghost use Rattle.std.specs.Prelude.{◌≡◌, length, replicate};
 ghost use Rattle.spec.specs.declared.Caller.TheVariants.{Desk};
 ghost use Rattle.pair_search.specs.Records.{none};

@@ -1,5 +1,6 @@
 // The least plan by successive shortest augmenting paths (transport.rs): one path after the other until all units are sent.
 #![tactic(auto)]
+
 ghost use Rattle.std.specs.Prelude.{◌≡◌, ℕ, ◌+◌, ◌*◌, ◌^◌, ◌≤◌, ◌<◌, length, get_or, set, drop};
 ghost use Rattle.spec.specs.Bytes.{sum_to, sum};
 ghost use Rattle.spec.specs.Transport.{WIDEST, Problem};

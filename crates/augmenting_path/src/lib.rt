@@ -1,5 +1,6 @@
 // An augmenting path (transport.rs): the least that is left along it.
 #![tactic(auto)]
+
 ghost use Rattle.std.specs.Prelude.{◌≡◌, ◌-◌, ◌*◌, ◌≤◌, length};
 ghost use Rattle.spec.specs.Transport.{WIDEST};
 ghost use Rattle.search_laws.specs.Walk.{LAST, steps_from};

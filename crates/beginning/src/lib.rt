@@ -1,5 +1,6 @@
 // A run's beginning: the root's starting term and the graph, with the first checks of its budget (`run` of exact_fixed.rs, up to its graph).
 #![tactic(auto)]
+
 ghost use Rattle.std.specs.Prelude.{◌+◌, ◌*◌, ◌≤◌, ◌<◌, length};
 ghost use Rattle.spec.specs.Image.{tables_of};
 ghost use Rattle.laws.specs.Valid.{Valid};

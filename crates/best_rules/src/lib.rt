@@ -1,5 +1,6 @@
 // Rule 9 of the table of refusals, "best member outside its class, or best size wrong or outside its range": the test equals its definition.
 #![tactic(auto)]
+
 ghost use Rattle.std.specs.Prelude.{◌≡◌, ◌<◌, ◌≤◌, ◌*◌, length, eqb};
 ghost use Rattle.spec.specs.Bytes.{all};
 ghost use Rattle.spec.specs.Image.{BEST-SIZE, best_right, best_size, children_of, size_over, tables_of, the_class, the_member};

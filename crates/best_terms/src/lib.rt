@@ -1,5 +1,6 @@
 // Best terms and starting terms: the best term of each class is built once in the term pool and kept by its number plus 1.
 #![tactic(auto)]
+
 ghost use Rattle.std.specs.Prelude.{◌≡◌, ◌<◌, length, get_or};
 ghost use Rattle.spec.specs.Image.{tables_of};
 ghost use Rattle.laws.specs.Valid.{Valid};

@@ -1,5 +1,6 @@
 // What program `card` writes for an input: the merged formula's card and a line feed, or `refused` and its number. The merge's listing is read line by line, and the card of its term is written.
 #![tactic(auto)]
+
 ghost use Rattle.std.specs.Prelude.{◌≡◌, true, ◌≤◌, length, drop};
 ghost use Rattle.frames.specs.Frame.{framed};
 ghost use Rattle.contract.specs.Answers.{Cleared};

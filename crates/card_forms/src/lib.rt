@@ -1,5 +1,6 @@
 // The form of a term on a card: a literal; an operation's sign between two children; a list or a marked place.
 #![tactic(auto)]
+
 ghost use Rattle.std.specs.Prelude.{◌≡◌, true, ◌+◌, ◌*◌, ◌-◌, ◌%◌, ◌≤◌, ◌<◌, eqb, length};
 ghost use Rattle.spec.specs.Pool.{expanded_length};
 ghost use Rattle.formula.specs.Card.{proper};

@@ -1,5 +1,6 @@
 // 18: whether every operation in a term has a proper sign of its own and precedence.
 #![tactic(auto)]
+
 ghost use Rattle.std.specs.Prelude.{◌≡◌, ◌↔◌, true, ◌+◌, ◌*◌, ◌-◌, ◌≤◌, ◌<◌, length};
 ghost use Rattle.terms.specs.Buffers.{part, count_in, pool_of};
 ghost use Rattle.terms.specs.Chains.{Holds};

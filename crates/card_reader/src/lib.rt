@@ -1,5 +1,6 @@
 // A card read: 17, then 13; the pool as before after either.
 #![tactic(auto)]
+
 ghost use Rattle.std.specs.Prelude.{◌≡◌, ◌^◌, ◌≤◌, ◌<◌, length, replicate};
 ghost use Rattle.query.specs.Settings.{limits_of};
 ghost use Rattle.terms.specs.Chains.{Holds, Rooms};

@@ -1,5 +1,6 @@
 // Whether a text is a formula, with no term in sight: the open frames on a stack.
 #![tactic(auto)]
+
 ghost use Rattle.std.specs.Prelude.{◌≡◌, ◌⊎◌, List, ℕ, ◌+◌, ◌≤◌, ◌<◌, length, replicate};
 ghost use Rattle.formula.specs.Card.{bindings};
 ghost use Rattle.formula_laws.specs.Syntax.{Open, Phase, begins, follows, pass};

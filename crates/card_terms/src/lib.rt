@@ -1,5 +1,6 @@
 // The terms of a formula entered: its marks from the left, over a stack of pool numbers.
 #![tactic(auto)]
+
 ghost use Rattle.std.specs.Prelude.{◌≡◌, ◌≢◌, true, map, [], ◌+◌, ◌*◌, ◌-◌, ◌^◌, ◌≤◌, ◌<◌, length, get_or, set, replicate};
 ghost use Rattle.spec.specs.Bytes.{sum};
 ghost use Rattle.spec.specs.Pool.{lit_node};

@@ -1,5 +1,6 @@
 // The lines of a card, for any caller: no precondition; refuses by its number.
 #![tactic(auto)]
+
 ghost use Rattle.std.specs.Prelude.{◌≡◌, not, ◌*◌, ◌≤◌, ◌<◌, length};
 ghost use Rattle.spec.specs.Run.{document_limits};
 ghost use Rattle.formula.specs.Lines.{lines_of_card};

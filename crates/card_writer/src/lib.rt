@@ -1,5 +1,6 @@
 // A card: 18, then 14, then written.
 #![tactic(auto)]
+
 ghost use Rattle.std.specs.Prelude.{◌≡◌, ◌≤◌, ◌<◌, length};
 ghost use Rattle.formula.specs.Card.{bindings};
 ghost use Rattle.terms.specs.Buffers.{count_in};

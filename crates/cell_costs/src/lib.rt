@@ -1,5 +1,6 @@
 // The cells of a transport action over two monomials (exact_fixed.rs): the largest mass, and the cost matrix laid out.
 #![tactic(auto)]
+
 ghost use Rattle.std.specs.Prelude.{◌≡◌, map, ◌*◌, ◌^◌, ◌≤◌, ◌<◌, length};
 ghost use Rattle.spec.specs.Monomial.{counts};
 ghost use Rattle.spec.specs.Transport.{largest, mass_of, weight};

@@ -1,5 +1,6 @@
 // The cells of two monomials, row by row: the pair of classes of each.
 #![tactic(auto)]
+
 ghost use Rattle.std.specs.Prelude.{◌≡◌, ◌*◌, ◌<◌, get_or};
 ghost use Rattle.spec.specs.Action.{cell_pairs};
 ghost use Rattle.cells.specs.Cells.{with, sides_of, Sides};

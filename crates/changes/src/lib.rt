@@ -1,5 +1,6 @@
 // Which classes can improve in the next round: those whose actions are over a class that changed in this one.
 #![tactic(auto)]
+
 ghost use Rattle.std.specs.Prelude.{◌≡◌, ◌≤◌, ◌<◌, length};
 ghost use Rattle.spec.specs.Bytes.{any, both, each, pick};
 ghost use Rattle.spec.specs.Image.{tables_of, the_operation, the_member, members_of, children_of};

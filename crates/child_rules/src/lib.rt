@@ -1,5 +1,6 @@
 // Rule 8 of the table of refusals, "a child entry or arity breaks its rule": the test equals its definition.
 #![tactic(auto)]
+
 ghost use Rattle.std.specs.Prelude.{◌≡◌, ◌<◌, length};
 ghost use Rattle.spec.specs.Bytes.{all};
 ghost use Rattle.spec.specs.Image.{child_right, children_of, children_right, kind_of, member_right, tables_of, the_member};

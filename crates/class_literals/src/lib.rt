@@ -1,5 +1,6 @@
 // Rule 10 of the table of refusals, one class: whether a literal of it stands in a later class.
 #![tactic(auto)]
+
 ghost use Rattle.std.specs.Prelude.{◌≡◌, ◌+◌, ◌<◌, drop, eqb};
 ghost use Rattle.spec.specs.Bytes.{any, both};
 ghost use Rattle.spec.specs.Image.{Lit, kind_of, tables_of, the_member};

@@ -1,5 +1,6 @@
 // "Every number zero": one loop for each width.
 #![tactic(auto)]
+
 ghost use Rattle.std.specs.Prelude.{◌≡◌, length, replicate};
 
 pub fn clear_u16(s: &mut [u16])

@@ -1,6 +1,7 @@
 // A pair entered in the pair graph. The graph stands in one array over w classes: at l * w + r the number of the pair (l, r); from w * w on, at k, the key of pair k.
 // The array is cleared first, so a pair is known exactly if the pair with its number there has its key.
 #![tactic(auto)]
+
 ghost use Rattle.std.specs.Prelude.{◌≡◌, ◌+◌, ◌*◌, ◌≤◌, ◌<◌, length};
 ghost use Rattle.spec.specs.Bytes.{any, same_two};
 ghost use Rattle.query.specs.Settings.{limits_of};

@@ -1,5 +1,6 @@
 // The enumeration of the structural actions of two classes, produced again from the image when wanted: left members outermost, right members, straight before crossed.
 #![tactic(auto)]
+
 ghost use Rattle.std.specs.Prelude.{◌≡◌, ◌≤◌, ◌<◌, eqb};
 ghost use Rattle.spec.specs.Image.{tables_of};
 ghost use Rattle.laws.specs.Valid.{Valid};

@@ -1,5 +1,6 @@
 // A run from its graph: starting terms, then its rounds, with the budget of checks that `begin` left; and its listing (`run`, `run_in` of exact_fixed.rs).
 #![tactic(auto)]
+
 ghost use Rattle.std.specs.Prelude.{◌≡◌, ◌+◌, ◌*◌, ◌≤◌, ◌<◌, length};
 ghost use Rattle.spec.specs.Image.{tables_of};
 ghost use Rattle.spec.specs.Graph.{skipped_in};

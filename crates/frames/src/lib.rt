@@ -1,5 +1,6 @@
 // The frame of program `merge`'s input: an image, then left class (2 bytes), right class (2), budget (4); the line of a refusal; and what is printed of an answer.
 #![tactic(auto)]
+
 ghost use Rattle.std.specs.Prelude.{◌≡◌, true, ◌+◌, ◌≤◌, ◌<◌, length};
 ghost use Rattle.spec.specs.Bytes as b;
 ghost use Rattle.decimals.specs.Writing.{Wrote};

@@ -1,5 +1,6 @@
 // The pair graph: from the queried pair on, pair after pair, the pairs that its actions join are entered.
 #![tactic(auto)]
+
 ghost use Rattle.std.specs.Prelude.{◌≡◌, map, ◌+◌, ◌*◌, ◌≤◌, ◌<◌, length, replicate};
 ghost use Rattle.spec.specs.Bytes.{each};
 ghost use Rattle.spec.specs.Image.{tables_of};

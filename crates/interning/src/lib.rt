@@ -1,5 +1,6 @@
 // Interning: a node's term, found in the pool or entered within the limits.
 #![tactic(auto)]
+
 ghost use Rattle.std.specs.Prelude.{◌≡◌, ◌+◌, ◌*◌, ◌^◌, ◌≤◌, ◌<◌, length};
 ghost use Rattle.spec.specs.Bytes.{sum};
 ghost use Rattle.query.specs.Settings.{limits_of};

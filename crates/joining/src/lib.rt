@@ -1,5 +1,6 @@
 // Joining: a list of runs in place, neighbours with the same child made one run.
 #![tactic(auto)]
+
 ghost use Rattle.std.specs.Prelude.{◌≡◌, ◌+◌, ◌^◌, ◌≤◌, ◌<◌, length};
 ghost use Rattle.spec.specs.Bytes.{sum};
 ghost use Rattle.terms.specs.Buffers.{part};

@@ -1,5 +1,6 @@
 // The verdict on an image: accepted, or the first rule of the table of refusals, 2 to 10, that it breaks.
 #![tactic(auto)]
+
 ghost use Rattle.std.specs.Prelude.{◌≡◌, ◌+◌, ◌*◌, ◌<◌, ◌≤◌, ◌^◌, length};
 ghost use Rattle.spec.specs.Bytes as b;
 ghost use Rattle.spec.specs.Image.{CHILD-BYTES, HEADER, tables_of, tables_rules};

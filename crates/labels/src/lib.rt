@@ -1,5 +1,6 @@
 // The labels of a search (transport.rs): how a search begins, and how the edge to a node gives it a lower label, a predecessor and a place in the queue.
 #![tactic(auto)]
+
 ghost use Rattle.std.specs.Prelude.{◌≡◌, ◌+◌, ◌≤◌, ◌<◌};
 ghost use Rattle.net.specs.Net.{NODES, NET, labelled, offered, improved, relaxed, unseen_to, begun};
 

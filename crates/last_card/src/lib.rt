@@ -1,5 +1,6 @@
 // The card of a pool's last term: its signs judged, then written or refused.
 #![tactic(auto)]
+
 ghost use Rattle.std.specs.Prelude.{◌-◌, ◌≤◌, ◌<◌, ◌≡◌, length};
 ghost use Rattle.formula.specs.Lexer.{write_card};
 ghost use Rattle.terms.specs.Buffers.{count_in, pool_of};

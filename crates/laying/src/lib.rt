@@ -1,5 +1,6 @@
 // A transport action over two monomials (exact_fixed.rs): its margins and its cost matrix laid out, and solved.
 #![tactic(auto)]
+
 ghost use Rattle.std.specs.Prelude.{◌≡◌, true, ◌*◌, ◌≤◌, length};
 ghost use Rattle.spec.specs.Monomial.{counts, narrow};
 ghost use Rattle.laws.specs.Buffers.{over};

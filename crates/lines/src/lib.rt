@@ -1,5 +1,6 @@
 // The listing's lines written: from a place on; each function answers the place after what it wrote.
 #![tactic(auto)]
+
 ghost use Rattle.std.specs.Prelude.{◌+◌, ◌*◌, ◌-◌, ◌%◌, ◌≤◌, ◌<◌, length, get_or};
 ghost use Rattle.terms.specs.Chains.{Holds};
 ghost use Rattle.decimals.specs.Writing.{Wrote};

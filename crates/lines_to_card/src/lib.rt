@@ -1,5 +1,6 @@
 // The card of a listing's lines, for any caller: no precondition; refuses by its number.
 #![tactic(auto)]
+
 ghost use Rattle.std.specs.Prelude.{◌≡◌, length};
 ghost use Rattle.spec.specs.Run.{document_limits};
 ghost use Rattle.formula.specs.Lines.{card_of_lines};

@@ -15,7 +15,6 @@ use Rattle.widths.specs.LineLaws.{lines_are}
 use Rattle.listing.specs.Lists.{answer_of, output_of, listing_in, Behind, Lists}
 use Rattle.listing.specs.declared.Written.{Written}
 use Rattle.listing.specs.declared.Written.TheVariants as W
-
 use Rattle.listing.specs.ListLaws.{first_of}
 
 module _ (head terms runs : List ℕ) (root : ℕ) (marks out w : List ℕ) (n : ℕ) (H : Holds terms runs) (b : root < count_in terms) (q : w ≡ numbers_of terms runs root marks) (L : Listed terms runs w root n) where

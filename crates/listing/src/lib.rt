@@ -1,5 +1,6 @@
 // The listing of a run: its first line written apart; its terms numbered, its lines measured; then written or refused.
 #![tactic(auto)]
+
 ghost use Rattle.std.specs.Prelude.{◌*◌, ◌≤◌, ◌<◌, length};
 ghost use Rattle.terms.specs.Buffers.{count_in};
 ghost use Rattle.terms.specs.Chains.{Holds};

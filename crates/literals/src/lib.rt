@@ -1,5 +1,6 @@
 // Rule 10 of the table of refusals, "a literal in two classes": the lowest class that holds a literal that also stands in another. The first class with a literal of a later one is it.
 #![tactic(auto)]
+
 ghost use Rattle.std.specs.Prelude.{◌≡◌, ◌+◌, ◌<◌, length};
 ghost use Rattle.spec.specs.Image.{lowest_doubled, tables_of};
 ghost use Rattle.laws.specs.Valid.{Spans};

@@ -1,5 +1,6 @@
 // The pairs that can improve in a round: both classes are over one that changed in the round before.
 #![tactic(auto)]
+
 ghost use Rattle.std.specs.Prelude.{◌≡◌, ◌+◌, ◌*◌, ◌≤◌, ◌<◌, length};
 ghost use Rattle.arrays.specs.Arrays.{pairs_in};
 ghost use Rattle.live_pairs.specs.Live.{live_in, next_live, due_of};

@@ -1,5 +1,6 @@
 // The marked place of two terms.
 #![tactic(auto)]
+
 ghost use Rattle.std.specs.Prelude.{◌<◌};
 ghost use Rattle.spec.specs.Pool.{intern, variants_node};
 ghost use Rattle.query.specs.Settings.{limits_of};

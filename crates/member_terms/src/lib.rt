@@ -1,5 +1,6 @@
 // A member's term: a literal, or an operation over the kept best terms of its children's classes.
 #![tactic(auto)]
+
 ghost use Rattle.std.specs.Prelude.{◌≤◌, ◌<◌};
 ghost use Rattle.spec.specs.Image.{tables_of, the_member};
 ghost use Rattle.spec.specs.Pool.{intern, lit_node};

@@ -1,5 +1,6 @@
 // The merge at given limits, in buffers with room for them: "the pair table is a lent slice of records", a thin layer above an engine on plain arrays.
 #![tactic(auto)]
+
 ghost use Rattle.std.specs.Prelude.{◌≡◌, true, ◌≤◌, length};
 ghost use Rattle.query.specs.Settings.{limits_of};
 ghost use Rattle.prepared.specs.Pairs.{pairs_of};

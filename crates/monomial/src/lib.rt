@@ -1,5 +1,6 @@
 // Monomials of members (ac_repr.rs): sums lined up class by class, in a lent buffer.
 #![tactic(auto)]
+
 ghost use Rattle.std.specs.Prelude.{◌≡◌, ◌<◌, length};
 ghost use Rattle.spec.specs.Image.{tables_of, the_member, children_of};
 ghost use Rattle.spec.specs.Monomial.{insert_add, monomial, itself};

@@ -1,5 +1,6 @@
 // The net of a search (transport.rs): each node's label, its distance from the source, and the first-in first-out queue of the nodes that have a new one.
 #![tactic(auto)]
+
 ghost use Rattle.std.specs.Prelude.{◌≡◌, ◌+◌, ◌<◌, slice_set};
 ghost use Rattle.net.specs.Net.{NODES, NET, label_of, joined, left, first_of, head_of, count_of};
 

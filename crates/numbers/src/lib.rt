@@ -1,5 +1,6 @@
 // Numbers of one width in another, each with the range that its width gives.
 #![tactic(auto)]
+
 ghost use Rattle.std.specs.Prelude.{◌≡◌, ◌<◌, ◌^◌};
 
 // ---- wider

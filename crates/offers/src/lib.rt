@@ -1,5 +1,6 @@
 // One transport action of a pair (exact_fixed.rs): laid out, solved, and its plan offered.
 #![tactic(auto)]
+
 ghost use Rattle.std.specs.Prelude.{◌≡◌, ◌*◌, ◌≤◌};
 ghost use Rattle.query.specs.Settings.{limits_of};
 ghost use Rattle.arrays.specs.Arrays.{Known, Scratch, quality_in, term_in};

@@ -1,5 +1,6 @@
 // The term of an operation over the kept best terms of a member's children's classes.
 #![tactic(auto)]
+
 ghost use Rattle.std.specs.Prelude.{◌≡◌, ℕ, ◌+◌, ◌^◌, ◌≤◌, ◌<◌, map, length, get_or};
 ghost use Rattle.spec.specs.Image.{tables_of, the_member, children_of};
 ghost use Rattle.spec.specs.Pool.{intern, op_node};

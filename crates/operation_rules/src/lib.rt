@@ -1,5 +1,6 @@
 // Rule 6 of the table of refusals, "an operation entry breaks its rule": the test equals its definition.
 #![tactic(auto)]
+
 ghost use Rattle.std.specs.Prelude.{◌≡◌, ◌<◌, length, eqb, ltb};
 ghost use Rattle.spec.specs.Bytes.{all, both, either, pick};
 ghost use Rattle.spec.specs.Image.{NO-IDENTITY, is_ac, is_commutative, operation_right, tables_of, the_operation};

@@ -1,5 +1,6 @@
 // The end of a run: what it came to, its listing or its refusal, and the work buffers cleared.
 #![tactic(auto)]
+
 ghost use Rattle.std.specs.Prelude.{◌*◌, ◌≤◌, ◌<◌, length};
 ghost use Rattle.spec.specs.Bytes.{ok};
 ghost use Rattle.terms.specs.Buffers.{count_in};

@@ -1,5 +1,6 @@
 // Two monomials in lent buffers, padded with the identity (ac_repr.rs): both classes as themselves, totals, narrowing.
 #![tactic(auto)]
+
 ghost use Rattle.std.specs.Prelude.{◌≡◌, ◌≤◌, ◌<◌, ◌^◌, length};
 ghost use Rattle.spec.specs.Bytes.{same_twos};
 ghost use Rattle.spec.specs.Monomial.{total, narrow, itself, both_itself};

@@ -1,5 +1,6 @@
 // One pair at the end of a round: whether what the round gives it differs from what it has, its classes marked, and what it is given.
 #![tactic(auto)]
+
 ghost use Rattle.std.specs.Prelude.{◌≡◌, ◌+◌, ◌*◌, ◌≤◌, ◌<◌, length, get_or};
 ghost use Rattle.arrays.specs.Arrays.{unkey};
 ghost use Rattle.pair_settling.specs.Settling.{differs_at, marked_by, left, right, settled_at, moved_by};

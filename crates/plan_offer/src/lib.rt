@@ -1,5 +1,6 @@
 // A plan of a transport action offered (exact_fixed.rs): its quality read off its cells, and its runs listed where it is better than the best so far.
 #![tactic(auto)]
+
 ghost use Rattle.std.specs.Prelude.{◌≡◌, true, ℕ, ◌+◌, ◌*◌, ◌^◌, ◌≤◌, ◌<◌, length, get_or};
 ghost use Rattle.std.proofs.Math.Option.{some};
 ghost use Rattle.spec.specs.Action.{cell_pairs};

@@ -1,5 +1,6 @@
 // Before the pair table: refusals 2 to 11 (and 13 where the graph's array has no room for the classes), the root's starting term, and building.
 #![tactic(auto)]
+
 ghost use Rattle.std.specs.Prelude.{◌≡◌, ◌≤◌};
 ghost use Rattle.spec.specs.Bytes.{ok};
 ghost use Rattle.spec.specs.Image.{image_of, tables_of};

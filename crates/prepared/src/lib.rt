@@ -1,5 +1,6 @@
 // What a call has come to before the pair table, and how many pairs its graph has.
 #![tactic(auto)]
+
 ghost use Rattle.std.specs.Prelude.{◌≡◌, ◌≤◌};
 ghost use Rattle.prepared.specs.Pairs.{pairs_begun, pairs_of, keys_of, counted_as, skipped_of};
 

@@ -1,5 +1,6 @@
 // The quality of a structural action (exact_fixed.rs), and which of two is better.
 #![tactic(auto)]
+
 ghost use Rattle.std.specs.Prelude.{◌≡◌};
 ghost use Rattle.spec.specs.Image.{tables_of};
 ghost use Rattle.spec.specs.Round as round;

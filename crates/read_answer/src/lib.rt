@@ -1,5 +1,6 @@
 // What program `read_card` writes for an input: the lines of the term's listing, or `refused` and its number.
 #![tactic(auto)]
+
 ghost use Rattle.std.specs.Prelude.{◌≡◌, true, ◌≤◌, length};
 ghost use Rattle.formula.specs.Programs.{tabled};
 ghost use Rattle.card_contract.specs.Calls.{Cleared};

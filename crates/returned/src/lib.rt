@@ -1,5 +1,6 @@
 // What a call with the C interface returns: each answer as numbers; and the lengths of the work buffers.
 #![tactic(auto)]
+
 ghost use Rattle.std.specs.Prelude.{◌≡◌};
 ghost use Rattle.returned.specs.Cards.{card_numbers, card_lengths};
 ghost use Rattle.returned.specs.Children.{added_numbers};

@@ -1,5 +1,6 @@
 // What a round came to, and what follows it: the next one, or the run's end with its outcome.
 #![tactic(auto)]
+
 ghost use Rattle.std.specs.Prelude.{◌≡◌, ◌≤◌, length};
 ghost use Rattle.round_outcome.specs.After.{reported_in, LeftOf, after_of};
 

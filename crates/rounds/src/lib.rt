@@ -1,5 +1,6 @@
 // Rounds over the pairs of a graph, with the budget that starting terms left, and their listing (`run_in` of exact_fixed.rs).
 #![tactic(auto)]
+
 ghost use Rattle.std.specs.Prelude.{◌≡◌, ◌*◌, ◌≤◌, length};
 ghost use Rattle.spec.specs.Image.{tables_of};
 ghost use Rattle.laws.specs.Valid.{Valid};

@@ -1,5 +1,6 @@
 // One search of the least-cost transport (transport.rs): labels by a first-in first-out queue. No network is built: edges are read off the plan so far.
 #![tactic(auto)]
+
 ghost use Rattle.std.specs.Prelude.{◌≡◌, not, ◌+◌, ◌*◌, ◌≤◌, ◌<◌, eqb, length};
 ghost use Rattle.spec.specs.Transport.{WIDEST};
 ghost use Rattle.net.specs.Net.{NODES, NET, label_of, state_of};

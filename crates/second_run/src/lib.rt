@@ -1,5 +1,6 @@
 // A call's second run: where the first met a limit that is not the caller's own, once more at the caller's limits, in arrays of its own.
 #![tactic(auto)]
+
 ghost use Rattle.std.specs.Prelude.{◌≡◌, true, replicate};
 ghost use Rattle.spec.specs.Run.{limits_for};
 ghost use Rattle.spec.specs.declared.Caller.TheVariants.{Page, Desk};

@@ -1,5 +1,6 @@
 // Units sent along an augmenting path (transport.rs).
 #![tactic(auto)]
+
 ghost use Rattle.std.specs.Prelude.{◌≡◌, ℕ, ◌+◌, ◌-◌, ◌*◌, ◌^◌, ◌≤◌, ◌<◌, length, get_or};
 ghost use Rattle.spec.specs.Transport.{WIDEST};
 ghost use Rattle.search_laws.specs.Walk.{LAST, steps_from};

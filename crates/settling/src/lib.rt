@@ -1,5 +1,6 @@
 // The end of a round: what it gave its pairs becomes what they have, and which pairs can improve in the next one.
 #![tactic(auto)]
+
 ghost use Rattle.std.specs.Prelude.{◌≡◌, ◌+◌, ◌*◌, ◌≤◌, ◌<◌, length};
 ghost use Rattle.spec.specs.Image.{tables_of};
 ghost use Rattle.laws.specs.Valid.{Valid};

@@ -1,5 +1,6 @@
 // The number of monomial pairs that are passed over for two classes (02, Paper 7), and whether an image can have any.
 #![tactic(auto)]
+
 ghost use Rattle.std.specs.Prelude.{◌≡◌, ◌<◌};
 ghost use Rattle.spec.specs.Image.{tables_of};
 ghost use Rattle.spec.specs.Action.{skipped_at};

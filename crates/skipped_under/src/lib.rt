@@ -1,5 +1,6 @@
 // The monomial pairs of two classes that are passed over under an operation (02, Paper 7): told by three numbers of each monomial, its total, the greatest total to which it can be padded, and its kin.
 #![tactic(auto)]
+
 ghost use Rattle.std.specs.Prelude.{◌≡◌, ◌+◌, ◌*◌, ◌≤◌, ◌<◌, eqb, length, get_or, set};
 ghost use Rattle.spec.specs.Bytes.{pick, same_two, same_twos};
 ghost use Rattle.spec.specs.Image.{tables_of};

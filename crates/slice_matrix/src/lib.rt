@@ -1,5 +1,6 @@
 // The cost matrix of the problem that slices give (transport.rs): V, then each cell by its flag.
 #![tactic(auto)]
+
 ghost use Rattle.std.specs.Prelude.{◌≡◌, List, map, ℕ, ◌+◌, ◌*◌, ◌^◌, ◌≤◌, ◌<◌, eqb, length};
 ghost use Rattle.spec.specs.Bytes.{pick};
 ghost use Rattle.spec.specs.Transport.{cost, forbidden, largest, mass_of, weight, WIDEST};

@@ -1,5 +1,6 @@
 // The least plan of a problem whose cost matrix is laid (transport.rs): where the totals differ or a side is empty there is none.
 #![tactic(auto)]
+
 ghost use Rattle.std.specs.Prelude.{◌*◌, ◌≤◌, length};
 ghost use Rattle.spec.specs.Transport.{Problem};
 ghost use Rattle.cost_matrix.specs.Matrix.{Given, Laid};

@@ -1,5 +1,6 @@
 // Rule 7 of the table of refusals, "a span, operation number, order or literal field breaks its rule": the test equals its definition. specs/Within: what rule 7 gives to the later ones.
 #![tactic(auto)]
+
 ghost use Rattle.std.specs.Prelude.{◌≡◌, map, ◌<◌, length, leb};
 ghost use Rattle.spec.specs.Bytes.{all};
 ghost use Rattle.spec.specs.Image.{member_right, members_in, rises, spans_follow, spans_right, tables_of, the_class, the_member};

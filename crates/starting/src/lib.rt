@@ -1,5 +1,6 @@
 // What a pair has before the rounds, and what a run reports that is cut short there.
 #![tactic(auto)]
+
 ghost use Rattle.std.specs.Prelude.{◌≡◌, ◌<◌};
 ghost use Rattle.spec.specs.Image.{tables_of};
 ghost use Rattle.spec.specs.Round.{starting_quality};

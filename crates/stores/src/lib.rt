@@ -1,5 +1,6 @@
 // A number read from a slice, with the range that its width gives, or stored in it.
 #![tactic(auto)]
+
 ghost use Rattle.std.specs.Prelude.{◌≡◌, ◌<◌, length, get_or, set};
 
 use numbers::{size_u16, size_u32};

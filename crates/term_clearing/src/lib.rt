@@ -1,5 +1,6 @@
 // "Every number zero" of the term buffers and the kept best terms.
 #![tactic(auto)]
+
 ghost use Rattle.term_clearing.specs.Cleared.{Cleared};
 
 pub fn clear(terms: &mut [u32], runs: &mut [u64], best: &mut [u16])

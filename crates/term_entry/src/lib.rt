@@ -1,5 +1,6 @@
 // A term entered: after the last one, in the chain of its key.
 #![tactic(auto)]
+
 ghost use Rattle.std.specs.Prelude.{◌≡◌, ◌+◌, ◌*◌, ◌≤◌, ◌<◌, length};
 ghost use Rattle.std.proofs.Math.Seq.{paste};
 ghost use Rattle.terms.specs.Buffers.{BUCKETS, LEAST, first_in, count_in};

@@ -1,5 +1,6 @@
 // A node's key: the chain of the pool in which its term stands.
 #![tactic(auto)]
+
 ghost use Rattle.std.specs.Prelude.{◌≡◌, ◌≤◌, ◌<◌, length};
 ghost use Rattle.terms.specs.Buffers.{BUCKETS, part};
 ghost use Rattle.terms.specs.Chains.{mix_of, fold, key_of};

@@ -1,5 +1,6 @@
 // The lines of a listing read: a term for each line, over the lines before it.
 #![tactic(auto)]
+
 ghost use Rattle.std.specs.Prelude.{◌≡◌, List, ℕ, ◌≤◌, length, drop};
 ghost use Rattle.spec.specs.Pool.{RUNS};
 ghost use Rattle.formula.specs.Lines.{CHILDREN, cut_node, cut_line};

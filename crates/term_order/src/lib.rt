@@ -1,5 +1,6 @@
 // "`structural_cmp` must order as it does on the expanded lists": on the terms of a pool, with no list expanded.
 #![tactic(auto)]
+
 ghost use Rattle.std.specs.Prelude.{◌≡◌, ◌≢◌, ◌+◌, ◌-◌, ◌^◌, ◌≤◌, ◌<◌, length, get_or};
 ghost use Rattle.spec.specs.Bytes.{sum};
 ghost use Rattle.spec.specs.Pool.{structural_cmp};

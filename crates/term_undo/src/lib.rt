@@ -1,5 +1,6 @@
 // Terms taken back: the pool as it was with so many terms.
 #![tactic(auto)]
+
 ghost use Rattle.std.specs.Prelude.{◌≡◌, ◌+◌, ◌*◌, ◌-◌, ◌≤◌, ◌<◌, length};
 ghost use Rattle.terms.specs.Buffers.{BUCKETS, LEAST, count_in, first_in};
 ghost use Rattle.terms.specs.Chains.{key_in, Holds};

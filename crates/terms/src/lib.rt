@@ -1,5 +1,6 @@
 // The term pool's layout: terms over runs of (child, count) in two buffers; a term's number is its place.
 #![tactic(auto)]
+
 ghost use Rattle.std.specs.Prelude.{◌≡◌, ◌+◌, ◌*◌, ◌/◌, ◌%◌, ◌≤◌, ◌<◌, length};
 ghost use Rattle.terms.specs.Buffers.{COUNT, HEADS, VALUES, LEAST, first_in, head_in, value_in, count_in};
 ghost use Rattle.terms.specs.Emptying.{emptied};

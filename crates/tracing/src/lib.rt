@@ -1,5 +1,6 @@
 // The walk back of a search of the least-cost transport (transport.rs): from the sink by predecessors to the source.
 #![tactic(auto)]
+
 ghost use Rattle.std.specs.Prelude.{◌≡◌, [], ◌-◌, ◌≤◌, ◌<◌, length, set};
 ghost use Rattle.net.specs.Net.{NODES};
 ghost use Rattle.search_laws.specs.Walk.{LAST, steps_from, walk_net, walked_at, walked_path, Leads};

@@ -1,5 +1,6 @@
 // Least-cost transport (transport.rs): the least plan of a problem that slices give, with its size and mass.
 #![tactic(auto)]
+
 ghost use Rattle.std.specs.Prelude.{◌≡◌, ℕ, ◌^◌, ◌≤◌, ◌<◌, length, get_or, take};
 ghost use Rattle.wide.specs.Wrap.{Natural};
 ghost use Rattle.cost_matrix.specs.Matrix.{CELLS, COSTS};

@@ -1,5 +1,6 @@
 // The end of a pair's turn (exact_fixed.rs, `relax`): its quality, its final term, and whether an action was chosen.
 #![tactic(auto)]
+
 ghost use Rattle.std.specs.Prelude.{◌≡◌, ◌^◌, ◌≤◌, ◌<◌, length};
 ghost use Rattle.spec.specs.Image.{tables_of};
 ghost use Rattle.spec.specs.Round as round;

@@ -1,5 +1,6 @@
 // The one final term of the winner of a pair's turn (exact_fixed.rs, `relax`): the term that the pair has, or that of the action chosen.
 #![tactic(auto)]
+
 ghost use Rattle.std.specs.Prelude.{map, ◌^◌, ◌≤◌, ◌<◌, length};
 ghost use Rattle.spec.specs.Bytes.{sum};
 ghost use Rattle.spec.specs.Image.{tables_of, kind_of, is_commutative};

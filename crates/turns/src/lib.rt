@@ -1,5 +1,6 @@
 // A pair's turn (exact_fixed.rs, `relax`): transports offered after structural actions, and what was found best made its end.
 #![tactic(auto)]
+
 ghost use Rattle.std.specs.Prelude.{◌≡◌, ◌^◌, ◌<◌};
 ghost use Rattle.spec.specs.Action.{TransportAction, transports};
 ghost use Rattle.spec.specs.Image.{tables_of};

@@ -1,5 +1,6 @@
 // A call: refusal 1, the first run at small limits in the lent buffers, and where a limit was met that is not the caller's own the second.
 #![tactic(auto)]
+
 ghost use Rattle.std.specs.Prelude.{◌≡◌, not};
 ghost use Rattle.contract.specs.Answers.{Cleared, Table};
 ghost use Rattle.contract.specs.declared.Answer.TheVariants.{Refused};

@@ -1,5 +1,6 @@
 // A pair's visit in a round: its turn, whose numbers go beside those of the round before (`relax` of exact_fixed.rs).
 #![tactic(auto)]
+
 ghost use Rattle.std.specs.Prelude.{◌+◌, ◌*◌, ◌≤◌, ◌<◌, length};
 ghost use Rattle.spec.specs.Image.{tables_of};
 ghost use Rattle.laws.specs.Valid.{Valid};

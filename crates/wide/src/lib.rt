@@ -1,5 +1,6 @@
 // Signed numbers of two 64-bit words, two's complement: the path costs of transport.rs (`i128`, `u128`).
 #![tactic(auto)]
+
 ghost use Rattle.std.specs.Prelude.{◌≡◌, ◌+◌, ◌*◌, ◌/◌, ◌%◌, ◌^◌, ◌<◌, pos, ◌+ℤ◌, ◌*ℤ◌, int_lt};
 ghost use Rattle.wide.specs.Value.{val, unsigned, Within, weight_of, weigh_of};
 ghost use Rattle.wide.specs.Wrap.{add_words, neg_words};

@@ -1,5 +1,6 @@
 // The width of a listing's lines before they are written: their bytes, counted.
 #![tactic(auto)]
+
 ghost use Rattle.std.specs.Prelude.{◌≡◌, ◌+◌, ◌*◌, ◌-◌, ◌%◌, ◌≤◌, ◌<◌, length, get_or};
 ghost use Rattle.terms.specs.Chains.{Holds};
 ghost use Rattle.widths.specs.Lines.{run_in, runs_in, head_bytes, line_in, lines_in, Named, Ready};

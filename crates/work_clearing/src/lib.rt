@@ -1,5 +1,6 @@
 // The work buffers of a run cleared, all six.
 #![tactic(auto)]
+
 ghost use Rattle.work_clearing.specs.Cleared.{Cleared};
 
 // "every number zero"

@@ -26,9 +26,9 @@ returns-then-member_op-op c =
 
 pub loop-i-preserved : goal.loop-i-preserved
 loop-i-preserved c = (
-      omega (arith, c.loop-i-test.true),
-      rw add-one (sym (any-more (tables_of c.args.s.now) c.args.op c.loop-i.i c.members_of-span.result.to c.member_op.result c.loop-i-test.true (span-within c.args.s.now c.args.im c.args.c c.members_of-span.result c.requires.0 c.requires.1 c.requires.2 c.members_of-span.ensures.0) c.member_op.ensures.0 c.if-member_op-op.false) ∙ c.loop-i.invariant.1),
-    )
+  omega (arith, c.loop-i-test.true),
+  rw add-one (sym (any-more (tables_of c.args.s.now) c.args.op c.loop-i.i c.members_of-span.result.to c.member_op.result c.loop-i-test.true (span-within c.args.s.now c.args.im c.args.c c.members_of-span.result c.requires.0 c.requires.1 c.requires.2 c.members_of-span.ensures.0) c.member_op.ensures.0 c.if-member_op-op.false) ∙ c.loop-i.invariant.1),
+)
 
 pub returns : goal.returns
 returns c =

@@ -31,6 +31,6 @@ loop-k-preserved c =
 
 pub returns : goal.returns
 returns c = (
-      c.count-m.ensures.0 ∙ sym (many-runs (term_in c.args.im.classes c.args.graph.now c.args.pairs.now) (action_at (tables_of c.args.s.now) c.args.v).pairs),
-      listed-all (term_in c.args.im.classes c.args.graph.now c.args.pairs.now) (action_at (tables_of c.args.s.now) c.args.v).pairs c.args.list.now c.loop-k.k c.loop-k.list c.loop-k.invariant (omega (arith, c.loop-k-test.false, c.count-m.ensures.0)),
-    )
+  c.count-m.ensures.0 ∙ sym (many-runs (term_in c.args.im.classes c.args.graph.now c.args.pairs.now) (action_at (tables_of c.args.s.now) c.args.v).pairs),
+  listed-all (term_in c.args.im.classes c.args.graph.now c.args.pairs.now) (action_at (tables_of c.args.s.now) c.args.v).pairs c.args.list.now c.loop-k.k c.loop-k.list c.loop-k.invariant (omega (arith, c.loop-k-test.false, c.count-m.ensures.0)),
+)

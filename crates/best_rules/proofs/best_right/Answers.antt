@@ -21,12 +21,12 @@ returns-then-size-gt-BEST_SIZE c =
 
 pub size_right-requires : goal.size_right-requires
 size_right-requires c = (
-      c.requires.0,
-      best-room c.args.s.now c.args.im c.requires.0 c.requires.2 c.requires.1 c.first_member-from.ensures.0 c.member_count.ensures.0 c.if-b-from-2.false,
-      c.if-size-gt-BEST_SIZE.false,
-      c.requires.2,
-      c.requires.3,
-    )
+  c.requires.0,
+  best-room c.args.s.now c.args.im c.requires.0 c.requires.2 c.requires.1 c.first_member-from.ensures.0 c.member_count.ensures.0 c.if-b-from-2.false,
+  c.if-size-gt-BEST_SIZE.false,
+  c.requires.2,
+  c.requires.3,
+)
 
 pub returns : goal.returns
 returns c =

@@ -22,11 +22,11 @@ loop-i-init c =
 
 pub child_size-sum-requires : goal.child_size-sum-requires
 child_size-sum-requires c = (
-      c.requires.0,
-      omega arith,
-      child-room c.args.s.now c.args.im c.requires.0 c.requires.3 c.requires.1 c.first_child-from.result c.loop-i.i c.requires.4
-          c.first_child-from.ensures.0 (omega (arith, c.child_count-n.ensures.0)),
-    )
+  c.requires.0,
+  omega arith,
+  child-room c.args.s.now c.args.im c.requires.0 c.requires.3 c.requires.1 c.first_child-from.result c.loop-i.i c.requires.4
+      c.first_child-from.ensures.0 (omega (arith, c.child_count-n.ensures.0)),
+)
 
 pub returns-then-sum-gt-BEST_SIZE : goal.returns-then-sum-gt-BEST_SIZE
 returns-then-sum-gt-BEST_SIZE c =

@@ -17,5 +17,5 @@ read_lines-x-requires c = (c.requires.staged, staged-rooms _ c.limits_for-lim.en
 
 -- src/lib.rt:53:1
 pub returns : goal.returns
-returns c =    let x = c.read_lines-x in
+returns c = let x = c.read_lines-x in
     rw c.merged_of.ensures (reads-behind _ c.args.listing.now _ _ _ _ _ _ _ x.result c.limits_for-lim.ensures (part_to_end c.args.listing.now c.first_end-at.result ∙ c.first_end-at.ensures.1) x.ensures)

@@ -12,11 +12,11 @@ loop-v-init c = refl
 
 pub seek_right-requires : goal.seek_right-requires
 seek_right-requires c = (
-      c.requires.0,
-      c.requires.1,
-      omega (arith, c.loop-v-test.true, span-end c.args.s.now c.args.im c.requires.0 c.requires.1 c.args.l c.members_of-to.result c.requires.2 c.members_of-to.ensures.0),
-      span-end c.args.s.now c.args.im c.requires.0 c.requires.1 c.args.r c.members_of-right.result c.requires.3 c.members_of-right.ensures.0,
-    )
+  c.requires.0,
+  c.requires.1,
+  omega (arith, c.loop-v-test.true, span-end c.args.s.now c.args.im c.requires.0 c.requires.1 c.args.l c.members_of-to.result c.requires.2 c.members_of-to.ensures.0),
+  span-end c.args.s.now c.args.im c.requires.0 c.requires.1 c.args.r c.members_of-right.result c.requires.3 c.members_of-right.ensures.0,
+)
 
 pub returns-in-At : goal.returns-in-At
 returns-in-At c =

@@ -9,6 +9,6 @@ add_class-requires c =
 
 pub returns : goal.returns
 returns c = (
-      rw (← c.child_class.ensures.0, ← c.long_size-c.ensures, ← c.child_times-times.ensures.0) c.add_class.ensures,
-      omega (arith, c.child_times-times.ensures),
-    )
+  rw (← c.child_class.ensures.0, ← c.long_size-c.ensures, ← c.child_times-times.ensures.0) c.add_class.ensures,
+  omega (arith, c.child_times-times.ensures),
+)

@@ -12,12 +12,12 @@ loop-k-init c =
 
 pub add_kth-n-requires : goal.add_kth-n-requires
 add_kth-n-requires c = (
-      c.requires.0,
-      omega (arith, span-within c.args.s.now c.args.im c.requires.0 c.requires.1 c.args.m c.children_of-span.result c.requires.2 c.children_of-span.ensures.0, c.loop-k.invariant.from),
-      upto-room (tables_of c.args.s.now) c.children_of-span.result.from c.children_of-span.result.to
-          (member-few c.args.s.now c.args.im c.requires.0 c.requires.1 c.args.m c.children_of-span.result c.requires.2 c.children_of-span.ensures.0)
-          c.args.mono.now c.loop-k.mono c.loop-k.n c.loop-k.k c.loop-k.invariant (omega arith),
-    )
+  c.requires.0,
+  omega (arith, span-within c.args.s.now c.args.im c.requires.0 c.requires.1 c.args.m c.children_of-span.result c.requires.2 c.children_of-span.ensures.0, c.loop-k.invariant.from),
+  upto-room (tables_of c.args.s.now) c.children_of-span.result.from c.children_of-span.result.to
+      (member-few c.args.s.now c.args.im c.requires.0 c.requires.1 c.args.m c.children_of-span.result c.requires.2 c.children_of-span.ensures.0)
+      c.args.mono.now c.loop-k.mono c.loop-k.n c.loop-k.k c.loop-k.invariant (omega arith),
+)
 
 pub loop-k-preserved : goal.loop-k-preserved
 loop-k-preserved c =

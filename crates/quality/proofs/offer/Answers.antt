@@ -16,8 +16,8 @@ offer-by {size = size} {mass = mass} v b e f =
 
 pub returns-then-better : goal.returns-then-better
 returns-then-better c =
-    let w = c.structural_quality-q in    offer-by c.args.v c.args.b w.ensures (sym c.if-better.true ∙ c.better.ensures)
+    let w = c.structural_quality-q in offer-by c.args.v c.args.b w.ensures (sym c.if-better.true ∙ c.better.ensures)
 
 pub returns : goal.returns
 returns c =
-    let w = c.structural_quality-q in    offer-by c.args.v c.args.b w.ensures (sym c.if-better.false ∙ c.better.ensures)
+    let w = c.structural_quality-q in offer-by c.args.v c.args.b w.ensures (sym c.if-better.false ∙ c.better.ensures)

@@ -18,10 +18,10 @@ overflow_add-sum c =
 
 pub loop-k-preserved : goal.loop-k-preserved
 loop-k-preserved c = (
-      omega (arith, c.loop-k-test.true),
-      counted-more (tables_of c.args.s.now) c.loop-k.sum c.loop-k.k c.loop-k.invariant.1 c.child_times-sum.result (rw (children-many c.args.s.now c.args.im c.requires.0) c.loop-k-test.true) c.child_times-sum.ensures.0,
-      omega (arith, c.loop-k.invariant.2, c.child_times-sum.ensures.1),
-    )
+  omega (arith, c.loop-k-test.true),
+  counted-more (tables_of c.args.s.now) c.loop-k.sum c.loop-k.k c.loop-k.invariant.1 c.child_times-sum.result (rw (children-many c.args.s.now c.args.im c.requires.0) c.loop-k-test.true) c.child_times-sum.ensures.0,
+  omega (arith, c.loop-k.invariant.2, c.child_times-sum.ensures.1),
+)
 
 pub returns : goal.returns
 returns c =

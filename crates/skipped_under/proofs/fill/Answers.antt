@@ -11,6 +11,6 @@ total-all-requires c =
 
 pub returns : goal.returns
 returns c = (
-      fill-held (monomial_at (tables_of c.args.s.now) c.args.c c.args.x) c.args.id c.total-all.result c.args.mono.now c.of_place-n.new.mono c.level.new.mono c.of_place-n.result c.level.result c.of_place-n.ensures c.total-all.ensures c.level.ensures,
-      fill-few (monomial_at (tables_of c.args.s.now) c.args.c c.args.x) c.args.id c.total-all.result c.args.mono.now c.of_place-n.new.mono c.level.new.mono c.of_place-n.result c.level.result c.of_place-n.ensures c.total-all.ensures c.level.ensures,
-    )
+  fill-held (monomial_at (tables_of c.args.s.now) c.args.c c.args.x) c.args.id c.total-all.result c.args.mono.now c.of_place-n.new.mono c.level.new.mono c.of_place-n.result c.level.result c.of_place-n.ensures c.total-all.ensures c.level.ensures,
+  fill-few (monomial_at (tables_of c.args.s.now) c.args.c c.args.x) c.args.id c.total-all.result c.args.mono.now c.of_place-n.new.mono c.level.new.mono c.of_place-n.result c.level.result c.of_place-n.ensures c.total-all.ensures c.level.ensures,
+)

@@ -17,6 +17,6 @@ most_of-most-requires c =
 
 pub returns : goal.returns
 returns c = (
-      put_is (monomial_at (tables_of c.args.s.now) c.args.c c.args.x) c.args.id c.args.x c.long_size.result c.total-all.result c.most_of-most.result c.args.i c.of_place-n.result _ _ c.args.f.now c.put_facts.new.f c.of_place-n.ensures c.long_size.ensures c.total-all.ensures c.most_of-most.ensures c.put_facts.ensures,
-      c.of_place-n.ensures.small,
-    )
+  put_is (monomial_at (tables_of c.args.s.now) c.args.c c.args.x) c.args.id c.args.x c.long_size.result c.total-all.result c.most_of-most.result c.args.i c.of_place-n.result _ _ c.args.f.now c.put_facts.new.f c.of_place-n.ensures c.long_size.ensures c.total-all.ensures c.most_of-most.ensures c.put_facts.ensures,
+  c.of_place-n.ensures.small,
+)

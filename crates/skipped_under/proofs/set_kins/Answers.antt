@@ -18,10 +18,10 @@ kin_of-k-requires c =
 
 pub loop-i-preserved : goal.loop-i-preserved
 loop-i-preserved c = (
-      omega arith,
-      c.put_kin.auto.f ∙ c.loop-i.invariant.1,
-      λ ps q h. told-kin c.args.id (monomial_at (tables_of c.args.s.now) c.args.c) ps c.args.n c.loop-i.i c.long_size.result c.loop-i.f c.put_kin.new.f q (omega arith) (omega (arith, c.requires, c.loop-i.invariant.1)) (c.long_size.ensures ∙ c.kin_of-k.ensures) c.put_kin.ensures (c.loop-i.invariant.2 ps q h),
-    )
+  omega arith,
+  c.put_kin.auto.f ∙ c.loop-i.invariant.1,
+  λ ps q h. told-kin c.args.id (monomial_at (tables_of c.args.s.now) c.args.c) ps c.args.n c.loop-i.i c.long_size.result c.loop-i.f c.put_kin.new.f q (omega arith) (omega (arith, c.requires, c.loop-i.invariant.1)) (c.long_size.ensures ∙ c.kin_of-k.ensures) c.put_kin.ensures (c.loop-i.invariant.2 ps q h),
+)
 
 pub shape_of-f : goal.shape_of-f
 shape_of-f c = c.loop-i.invariant.1
