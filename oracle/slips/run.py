@@ -1,13 +1,11 @@
 #!/usr/bin/env python3
-# run.py [LABEL | mod:MODULE ..]: tries slips of slips.py, each on a copy of crate spec that is checked against the test modules of crates spec and samples one after the other, and prints what refuses it; those of modules Terms and Adding on a copy of these definitions, of crates monomial_terms and child_list (with those of class_place between them), over the library in target/ (rt check spec). From the repository's root; --jobs N at a time (2).
+# run.py [LABEL | mod:MODULE ..]: tries slips of slips.py, each on a copy of crate spec that is checked against the test modules of crates spec and samples one after the other, and prints what refuses it; those of modules Terms and Adding on a copy of these definitions, of crates monomial_terms and child_list (with those of class_place between them), over crate spec as it is. From the repository's root; --jobs N at a time (2).
 import os, queue, re, shutil, subprocess, sys, tempfile, threading
 
 from slips import SLIPS
 
 here = os.path.dirname(os.path.abspath(__file__))
 crates = os.path.join(here, '../../crates')
-home = os.path.dirname(os.path.dirname(os.path.realpath(shutil.which('rt'))))
-own = f'{home}/on/{os.uname().machine}'
 definitions = 'Bytes Image Monomial Transport Action Pool System Pairs Graph Round Run Listing Merge Meaning'.split()
 # groups of test modules, the quickest first; those of crate samples stand in the copy as modules of spec
 samples = 'Samples Slips Bounds Refusals Limits Skipped Callers Checks'.split()
@@ -23,30 +21,31 @@ beside_tests = ['Trials', 'Drawn']
 def check(module, changes, group):
     folder = tempfile.mkdtemp()
     try:
-        os.makedirs(folder + '/src')
-        os.makedirs(folder + '/specs')
         crate = 'child_list' if module in beside else 'spec'
+        copy = f'{folder}/crates/{crate}'
+        os.makedirs(copy + '/src')
+        os.makedirs(copy + '/specs')
+        # a repository of its own
+        open(folder + '/crates.txt', 'w').write('spec:\nchild_list: spec\n' if module in beside else 'spec:\n')
+        if module in beside:
+            for part in ('src', 'specs'):
+                shutil.copytree(f'{crates}/spec/{part}', f'{folder}/crates/spec/{part}')
         code = open(f'{crates}/{crate}/src/lib.rt', encoding='utf-8').read()
-        open(folder + '/src/lib.rt', 'w', encoding='utf-8').write(re.search(r'pub enum Added \{.*?\n\}\n', code, re.S).group() if module in beside else code)
+        open(copy + '/src/lib.rt', 'w', encoding='utf-8').write(re.search(r'pub enum Added \{.*?\n\}\n', code, re.S).group() if module in beside else code)
         modules = (list(beside) if module in beside else definitions) + group
         for m in modules:
             text = open(f"{crates}/{'samples' if m in samples else beside.get(m, crate)}/specs/{m}.antt", encoding='utf-8').read()
             if module in beside:
-                text = text.replace('Rattle·monomial_terms.specs.', 'Rattle·child_list·specs.specs.').replace('Rattle·class_place.specs.', 'Rattle·child_list·specs.specs.')
-            else:
-                text = text.replace('Rattle·spec.', 'Rattle·spec·specs.')
+                text = text.replace('Rattle.monomial_terms.specs.', 'Rattle.child_list.specs.').replace('Rattle.class_place.specs.', 'Rattle.child_list.specs.')
             if m == module:
                 for old, new in changes:
                     if text.count(old) != 1:
                         return 'BAD', [f'the text occurs {text.count(old)} times']
                     text = text.replace(old, new)
-            open(f'{folder}/specs/{m}.antt', 'w', encoding='utf-8').write(text)
-        open(folder + '/specs/Lib.antt', 'w', encoding='utf-8').write(''.join(f'pub mod {m}\n' for m in modules))
-        built = os.path.join(here, '../../target/rlib')
-        externs = ['--extern', f'spec={built}/spec.rlib', '-L', f'dependency={built}'] if module in beside else []
-        command = [own + '/bin/rattle', 'check', '--crate-name', crate, folder + '/src/lib.rt', '--extern', f'std={own}/rlib/std.rlib', *externs, '-L', f'dependency={own}/rlib', '--antt-project', home + '/logic/antt-project.json', '--logic-built', own + '/logic-built']
+            open(f'{copy}/specs/{m}.antt', 'w', encoding='utf-8').write(text)
+        open(copy + '/specs/Lib.antt', 'w', encoding='utf-8').write(''.join(f'pub mod {m}\n' for m in modules))
         try:
-            done = subprocess.run(command, capture_output=True, text=True, timeout=300)
+            done = subprocess.run(['rt', 'check'], cwd=copy, capture_output=True, text=True, timeout=600)
         except subprocess.TimeoutExpired:
             return 'TIMEOUT', []
         out = done.stdout + done.stderr
