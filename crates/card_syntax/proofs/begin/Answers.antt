@@ -1,10 +1,8 @@
 use Rattle.formula_laws.specs.Syntax.{begins, aBracket, items, choices}
 use Rattle.card_syntax.specs.PassLaws.{pushed}
-use Prim.Native.Nat.{◌-◌}
 use native.Mathlib.Omega.{arith}
 use mathlib.Core.Path.{refl}
 use mathlib.Core.List.{◌∷◌}
-use borrow.Author.Rules.{rules}
 use Rattle.card_syntax.proofs.begin.Goals as goal
 
 pub returns-in-Literal : goal.returns-in-Literal

@@ -1,8 +1,6 @@
 use Rattle.card_syntax.specs.PassLaws.{count_none, count-below, count-above, count_most, count-more}
-use Prim.Native.Nat.{◌-◌}
 use native.Mathlib.Omega.{arith}
 use mathlib.Core.Logic.{⊎_elim}
-use borrow.Author.Rules.{rules}
 use Rattle.card_syntax.proofs.count.Goals as goal
 
 pub returns-then-n-eq0 : goal.returns-then-n-eq0

@@ -1,10 +1,8 @@
 use mathlib.Core.Logic.{inl, inr}
 use Rattle.formula_laws.specs.Syntax.{follows}
 use Rattle.card_syntax.specs.PassLaws.{pop-close, pop-shut, pop-end, count_next, count-or, room-more}
-use Prim.Native.Nat.{◌-◌}
 use native.Mathlib.Omega.{arith}
 use mathlib.Core.Path.{refl}
-use borrow.Author.Rules.{rules}
 use Rattle.card_syntax.proofs.follow.Goals as goal
 
 pub count-requires : goal.count-requires

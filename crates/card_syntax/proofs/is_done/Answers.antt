@@ -1,6 +1,4 @@
 use Rattle.card_syntax.specs.Reading.{done-by, not-done-fresh, not-done-wanted, not-done-failed}
-use Prim.Native.Nat.{◌-◌}
-use borrow.Author.Rules.{rules}
 use Rattle.card_syntax.proofs.is_done.Goals as goal
 
 pub returns-in-Fresh : goal.returns-in-Fresh

@@ -1,5 +1,5 @@
 use lib.ListN.{replicate, length}
-use Prim.Native.Nat.{ℕ, ◌-◌}
+use Prim.Native.Nat.{ℕ}
 use mathlib.Core.Path.{◌≡◌, ap, ◌∙◌}
 use borrow.Author.Rules.{rules}
 use Rattle.card_syntax.proofs.is_formula.Goals as goal

@@ -1,7 +1,5 @@
 use Rattle.card_syntax.specs.PassLaws.{pop-none, pop-first, pop-second, pop-other}
-use Prim.Native.Nat.{◌-◌}
 use native.Mathlib.Omega.{arith}
-use borrow.Author.Rules.{rules}
 use Rattle.card_syntax.proofs.pop.Goals as goal
 
 pub returns-then-n-eq0 : goal.returns-then-n-eq0

@@ -1,11 +1,10 @@
 use Rattle.card_cut.specs.Cutting.{Cuts}
 use Rattle.card_cut.specs.CutLaws.{mark-behind}
 use Rattle.card_cut.specs.declared.Cut.TheVariants as C
-use Rattle.card_syntax.specs.Reading.{Reading, reading-starts, reading-room, reading-mark, reading-stops, reading-ends}
+use Rattle.card_syntax.specs.Reading.{reading-starts, reading-room, reading-mark, reading-stops, reading-ends}
 use borrow.Author.Rules.{rules}
-use Prim.Native.Nat.{◌-◌}
 use native.Mathlib.Omega.{arith}
-use mathlib.Core.Path.{◌≡◌, refl, ◌∙◌}
+use mathlib.Core.Path.{refl, ◌∙◌}
 use lib.ListN.{length}
 use Rattle.card_syntax.proofs.read.Goals as goal
 

@@ -2,10 +2,8 @@ use Rattle.card_cut.specs.Cutting.{mark_of}
 use Rattle.card_syntax.specs.Passing.{Room}
 use Rattle.card_syntax.specs.PassLaws.{step-closes, step-freshly, step-begins, step_follows, step-fails}
 use Rattle.card_syntax.specs.declared.Pass.TheVariants as P
-use Prim.Native.Nat.{◌-◌}
 use native.Mathlib.Omega.{arith}
 use mathlib.Core.Path.{sym, ◌∙◌}
-use borrow.Author.Rules.{rules}
 use Rattle.card_syntax.proofs.step.Goals as goal
 
 pub overflow_sub-result : goal.overflow_sub-result

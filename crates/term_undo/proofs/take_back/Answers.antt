@@ -1,5 +1,4 @@
-use Rattle.term_undo.specs.UndoLaws.{Undoing, undoing-start, undoing-turn, undoing-end}
-use borrow.Author.Rules.{rules}
+use Rattle.term_undo.specs.UndoLaws.{undoing-start, undoing-turn, undoing-end}
 use Prim.Native.Nat.{◌-◌}
 use native.Mathlib.Omega.{arith}
 use Rattle.term_undo.proofs.take_back.Goals as goal

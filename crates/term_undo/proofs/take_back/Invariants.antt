@@ -1,7 +1,4 @@
-use Rattle.term_undo.specs.UndoLaws.{Undoing, undoing-start, undoing-turn, undoing-end}
-use borrow.Author.Rules.{rules}
-use Prim.Native.Nat.{◌-◌}
-use native.Mathlib.Omega.{arith}
+use Rattle.term_undo.specs.UndoLaws.{Undoing}
 use Rattle.term_undo.proofs.take_back.Given as goal
 
 abbrev pub invariant-loop-i : goal.invariant-loop-i

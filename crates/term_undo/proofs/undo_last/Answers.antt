@@ -2,7 +2,6 @@ use Rattle.term_undo.specs.Undoing.{undo_term}
 use Rattle.term_undo.specs.UndoLaws.{span-rises, span-inside, span_rest, span_key, span-cleared}
 use native.Mathlib.Omega.{arith}
 use mathlib.Core.Path.{ap, ◌∙◌}
-use borrow.Author.Rules.{rules}
 use Rattle.term_undo.proofs.undo_last.Goals as goal
 
 pub slice_bounds-key-count : goal.slice_bounds-key-count
