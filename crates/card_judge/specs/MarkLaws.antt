@@ -34,6 +34,7 @@ mark-keeps (r ∷ l) w i h = mark-keeps l (set w (r % 16384) 1) i (put-marked w 
 -- the children are marked
 pub mark-marks : (l w : List ℕ) (r : ℕ) → In r l → r % 16384 < length w → 0 < get_or (mark_all w l) (r % 16384) 0
 unfolding mark_all
+mark-marks [] w s x'' h = elim x'' [ ]
 mark-marks (r ∷ l) w s here h = mark-keeps l (set w (s % 16384) 1) (s % 16384) (rw (get_or-set_same w (s % 16384) 1 0 h) (omega arith))
 mark-marks (r ∷ l) w s (there i) h = mark-marks l (set w (r % 16384) 1) s i (omega (arith, length-set w (r % 16384) 1))
 

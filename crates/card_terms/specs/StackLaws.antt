@@ -12,7 +12,7 @@ use Rattle.formula.specs.Card as card
 use Rattle.formula.specs.Card.{Tree, two, many, Trees, none, also, count, branches, Mark, literal, between, list, next, close, opens, shuts, begin, or, end, prec_of, left_level}
 use Rattle.formula.specs.Reader.{Frame, left, in_list, in_marked, State, wants, has, wrong, snoc, Top, reduce, next_item, close_list, next_branch, close_marked, close_bracket, close_empty, step, run, alone, finish, read_marks}
 use Rattle.formula.specs.Reader as reader
-use Rattle.formula.specs.Lexer.{marked_node, enter}
+use Rattle.formula.specs.Lexer.{marked_node}
 use Rattle.card_terms.specs.Words.{Reached, whole, full, stuck, ◌>>=◌, intern_at, enter_at, enter_all_at, Word, bracket, list_head, marked_head, left_child, child, Stack, on_top, reduce_on, reduce_top, turn_left, close_on, shut_on, step_on, only_term, run_on}
 
 -- ---- steps one after the other

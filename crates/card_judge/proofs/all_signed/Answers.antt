@@ -1,4 +1,3 @@
-use borrow.Author.Rules.{rules}
 use native.Mathlib.Omega.{arith}
 use Rattle.terms.specs.Buffers.{count_in}
 use Rattle.card_judge.specs.MarkLaws.{cleared-length, cleared-none, cleared-again}

@@ -1,9 +1,8 @@
 use mathlib.Core.Path.{ap}
 use mathlib.Core.Bool.{not}
-use borrow.Author.Rules.{rules}
 use Prim.Native.Nat.{◌-◌}
 use native.Mathlib.Omega.{arith}
-use Rattle.card_judge.specs.JudgeLaws.{Judging, root-length, judging-start, judged-from, judging-turn, judging-stop, judging-end, visit-asks}
+use Rattle.card_judge.specs.JudgeLaws.{root-length, judging-start, judged-from, judging-turn, judging-stop, judging-end, visit-asks}
 use Rattle.card_judge.proofs.judge.Goals as goal
 
 pub overflow_add-c : goal.overflow_add-c

@@ -1,7 +1,4 @@
-use borrow.Author.Rules.{rules}
-use Prim.Native.Nat.{◌-◌}
-use native.Mathlib.Omega.{arith}
-use Rattle.card_judge.specs.JudgeLaws.{Judging, root-length, judging-start, judged-from, judging-turn, judging-stop, judging-end, visit-asks}
+use Rattle.card_judge.specs.JudgeLaws.{Judging}
 use Rattle.card_judge.proofs.judge.Given as goal
 
 abbrev pub invariant-loop-c : goal.invariant-loop-c

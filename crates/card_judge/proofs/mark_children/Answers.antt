@@ -1,7 +1,5 @@
-use borrow.Author.Rules.{rules}
-use Prim.Native.Nat.{◌-◌}
 use native.Mathlib.Omega.{arith}
-use Rattle.card_judge.specs.JudgeLaws.{Marking, marking-start, marking-turn, marking-end}
+use Rattle.card_judge.specs.JudgeLaws.{marking-start, marking-turn, marking-end}
 use Rattle.card_judge.proofs.mark_children.Goals as goal
 
 pub loop-i-init : goal.loop-i-init

@@ -1,4 +1,3 @@
-use borrow.Author.Rules.{rules}
 use native.Mathlib.Omega.{arith}
 use Rattle.card_judge.specs.JudgeLaws.{visit-none, visit-some}
 use Rattle.card_forms.specs.RunLaws.{runs-rise, runs-within, runs-few, child-lower}

@@ -5,7 +5,6 @@ use Rattle.card_terms.specs.Words.{step_on, turn_left, words_in}
 use Rattle.card_terms.specs.StepLaws.{not_stuck, topped-of, then-full, then-stands, then-most, then-not, steps_then, turn-some, turn-steps, level-of}
 use native.Mathlib.Omega.{arith}
 use mathlib.Core.Path.{◌≡◌, ap, ◌∙◌}
-use borrow.Author.Rules.{rules}
 use Rattle.card_terms.proofs.between.Goals as goal
 
 pub precedence-requires : goal.precedence-requires

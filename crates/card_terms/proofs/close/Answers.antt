@@ -3,7 +3,6 @@ use Rattle.terms.specs.Buffers.{pool_of}
 use Rattle.query.specs.Settings.{limits_of}
 use native.Mathlib.Omega.{arith}
 use mathlib.Core.Logic.{⊎_elim}
-use borrow.Author.Rules.{rules}
 use Rattle.card_terms.proofs.close.Goals as goal
 
 pub short_u64-h-requires : goal.short_u64-h-requires

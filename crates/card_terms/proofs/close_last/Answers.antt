@@ -5,7 +5,6 @@ use Rattle.card_terms.specs.Words.{Reached, Stack, step_on, close_on, words_in}
 use Rattle.card_terms.specs.StepLaws.{not_stuck, topped-of, closes-of, then-full, then-stands, then-most, then-not, steps_then}
 use native.Mathlib.Omega.{arith}
 use mathlib.Core.List.{[]}
-use borrow.Author.Rules.{rules}
 use Rattle.card_terms.proofs.close_last.Goals as goal
 
 pub reduce-r-requires : goal.reduce-r-requires
@@ -21,7 +20,7 @@ close-requires c =
     let a = c.args in
     let X = c.reduce-r.ensures in
     let f : Stack → Reached Stack = λ r. close_on (limits_of a.lim) r.0 r.1 [] in
-    (then-stands X f _ c.in-Top.is, closes-of (limits_of a.lim) _ _ [] (then-not X f _ c.in-Top.is c.requires.3), omega (arith, then-most X f _ c.in-Top.is, c.requires.2))
+    (then-stands X f _ c.in-Top.is, closes-of (limits_of a.lim) (pool_of c.reduce-r.new.terms c.reduce-r.new.runs) (words_in c.reduce-r.new.frames c.in-Top.n) [] (then-not X f _ c.in-Top.is c.requires.3), omega (arith, then-most X f _ c.in-Top.is, c.requires.2))
 
 pub returns-in-Top : goal.returns-in-Top
 unfolding step_on

@@ -4,7 +4,6 @@ use Rattle.query.specs.Settings.{limits_of}
 use Rattle.terms.specs.Buffers.{count_in, part, unpack}
 use Rattle.joining.specs.JoinLaws.{begins-fits}
 use Rattle.card_terms.specs.ItemLaws.{items-light, items-valid, items-node, enters-of}
-use borrow.Author.Rules.{rules}
 use Rattle.card_terms.proofs.enter_items.Goals as goal
 
 pub intern-requires : goal.intern-requires

@@ -1,7 +1,6 @@
 use lib.ListN.{replicate}
 use Prim.Native.Nat.{ℕ}
 use mathlib.Core.Path.{ap, ◌∙◌}
-use borrow.Author.Rules.{rules}
 use Rattle.card_terms.proofs.enter_terms.Goals as goal
 
 pub returns : goal.returns

@@ -1,5 +1,4 @@
-use Rattle.card_terms.specs.CloseLaws.{Scanning, scan-start, scan-some, scan-turn, scan-end}
-use borrow.Author.Rules.{rules}
+use Rattle.card_terms.specs.CloseLaws.{scan-start, scan-some, scan-turn, scan-end}
 use native.Mathlib.Omega.{arith}
 use Rattle.card_terms.proofs.first_item.Goals as goal
 

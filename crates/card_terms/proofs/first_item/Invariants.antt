@@ -1,6 +1,4 @@
-use Rattle.card_terms.specs.CloseLaws.{Scanning, scan-start, scan-some, scan-turn, scan-end}
-use borrow.Author.Rules.{rules}
-use native.Mathlib.Omega.{arith}
+use Rattle.card_terms.specs.CloseLaws.{Scanning}
 use Rattle.card_terms.proofs.first_item.Given as goal
 
 abbrev pub invariant-loop-i : goal.invariant-loop-i

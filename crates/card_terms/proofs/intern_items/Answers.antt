@@ -6,7 +6,6 @@ use Rattle.terms.specs.Buffers.{count_in, part, unpack}
 use Rattle.card_terms.specs.StandLaws.{items-below, items-fit, part-drop, back-same, back_long, rest-long, term-most, enters-placed}
 use Prim.Native.Nat.{◌-◌}
 use native.Mathlib.Omega.{arith}
-use borrow.Author.Rules.{rules}
 use Rattle.card_terms.proofs.intern_items.Goals as goal
 
 pub enter_items-r-requires : goal.enter_items-r-requires

@@ -6,7 +6,6 @@ use Rattle.card_terms.specs.StandLaws.{term-most, enters-placed}
 use Prim.Native.Nat.{◌+◌}
 use native.Mathlib.Omega.{arith}
 use mathlib.Core.Path.{◌≡◌, refl}
-use borrow.Author.Rules.{rules}
 use Rattle.card_terms.proofs.intern_literal.Goals as goal
 
 pub intern-r-requires : goal.intern-r-requires

@@ -1,7 +1,6 @@
 use Rattle.query.specs.Settings.{limits_of}
 use Rattle.card_terms.specs.ReadLaws.{last-topped, last-full, last-only, last-inside, last-term}
 use native.Mathlib.Omega.{arith}
-use borrow.Author.Rules.{rules}
 use Rattle.card_terms.proofs.last.Goals as goal
 
 pub reduce-r-requires : goal.reduce-r-requires

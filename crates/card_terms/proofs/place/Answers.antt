@@ -1,6 +1,5 @@
 use Rattle.card_terms.specs.ItemLaws.{term-small, placed-term, placed-full}
 use native.Mathlib.Omega.{arith}
-use borrow.Author.Rules.{rules}
 use Rattle.card_terms.proofs.place.Goals as goal
 
 pub overflow_add-long_size : goal.overflow_add-long_size

@@ -4,9 +4,8 @@ use Rattle.card_cut.specs.declared.Cut.TheVariants as C
 use Rattle.card_cut.specs.CutLaws.{mark-behind}
 use Rattle.card_cut.specs.Cutting.{Cuts}
 use Rattle.query.specs.Settings.{limits_of}
-use Rattle.card_terms.specs.ReadLaws.{Entering, entering-start, entering-some, entering-proper, entering-free, entering-stop, entering-turn, entering-end, ending-free}
-use borrow.Author.Rules.{rules}
-use Prim.Native.Nat.{◌≤◌, ◌<◌, ◌-◌}
+use Rattle.card_terms.specs.ReadLaws.{entering-start, entering-some, entering-proper, entering-free, entering-stop, entering-turn, entering-end, ending-free}
+use Prim.Native.Nat.{◌≤◌, ◌<◌}
 use native.Mathlib.Omega.{arith}
 use lib.ListN.{length}
 use Rattle.card_terms.proofs.read_terms.Goals as goal
@@ -21,7 +20,6 @@ pub step-r-requires : goal.step-r-requires
 step-r-requires c =
     let a = c.args in
     let l = c.loop-at in
-    let m = c.c-1.given in
     let X : Cuts a.table.now a.text.now l.at (C.Mark c.in-Mark.m c.in-Mark.e) = rw c.in-Mark.is at c.cut_mark-c.ensures in
     let h : l.at < length a.text.now = omega (arith, c.loop-at-test) in
     (l.invariant.stands, l.invariant.known, omega (arith, h, l.invariant.low, l.invariant.long_frames, c.requires.2), omega (arith, h, l.invariant.low, c.requires.3), entering-proper (limits_of a.lim) a.table.now a.text.now a.terms.now a.runs.now a.frames.now l.terms l.runs l.frames l.at l.top l.invariant h c.in-Mark.m c.in-Mark.e X, entering-free (limits_of a.lim) a.table.now a.text.now a.terms.now a.runs.now a.frames.now l.terms l.runs l.frames l.at l.top l.invariant h c.in-Mark.m c.in-Mark.e X)
@@ -30,7 +28,6 @@ pub loop-at-smaller : goal.loop-at-smaller
 loop-at-smaller c =
     let a = c.args in
     let l = c.loop-at in
-    let m = c.c-1.given in
     let X : Cuts a.table.now a.text.now l.at (C.Mark c.in-Mark.m c.in-Mark.e) = rw c.in-Mark.is at c.cut_mark-c.ensures in
     let h : l.at < length a.text.now = omega (arith, c.loop-at-test) in
     let (x, y) = mark-behind a.table.now a.text.now l.at h c.in-Mark.m c.in-Mark.e X in
@@ -40,7 +37,6 @@ pub loop-at-preserved : goal.loop-at-preserved
 loop-at-preserved c =
     let a = c.args in
     let l = c.loop-at in
-    let m = c.c-1.given in
     let X : Cuts a.table.now a.text.now l.at (C.Mark c.in-Mark.m c.in-Mark.e) = rw c.in-Mark.is at c.cut_mark-c.ensures in
     let h : l.at < length a.text.now = omega (arith, c.loop-at-test) in
     let i = c.step-r in
@@ -50,7 +46,6 @@ pub returns-in-Full : goal.returns-in-Full
 returns-in-Full c =
     let a = c.args in
     let l = c.loop-at in
-    let m = c.c-1.given in
     let X : Cuts a.table.now a.text.now l.at (C.Mark c.in-Mark.m c.in-Mark.e) = rw c.in-Mark.is at c.cut_mark-c.ensures in
     let h : l.at < length a.text.now = omega (arith, c.loop-at-test) in
     let i = c.step-r in

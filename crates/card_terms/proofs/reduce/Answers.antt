@@ -1,8 +1,7 @@
 use mathlib.Core.Bool.{true, false}
 use Rattle.card_terms.specs.Reading.{Waits}
 use Rattle.query.specs.Settings.{limits_of}
-use Rattle.card_terms.specs.ReduceLaws.{Reducing, reducing-start, reducing-end, reducing-full, reducing-turn, reducing-less}
-use borrow.Author.Rules.{rules}
+use Rattle.card_terms.specs.ReduceLaws.{reducing-start, reducing-end, reducing-full, reducing-turn, reducing-less}
 use native.Mathlib.Omega.{arith}
 use Rattle.card_terms.proofs.reduce.Goals as goal
 

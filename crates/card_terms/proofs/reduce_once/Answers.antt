@@ -3,7 +3,6 @@ use Rattle.query.specs.Settings.{limits_of}
 use Rattle.card_terms.specs.ReduceLaws.{once-stands, once-items, once-made}
 use native.Mathlib.Omega.{arith}
 use lib.ListN.{length-set}
-use borrow.Author.Rules.{rules}
 use Rattle.card_terms.proofs.reduce_once.Goals as goal
 
 pub intern_items-requires : goal.intern_items-requires

@@ -3,7 +3,6 @@ use Rattle.query.specs.Settings.{limits_of}
 use Rattle.card_terms.specs.Words.{step_on, shut_on, words_in}
 use Rattle.card_terms.specs.StepLaws.{not_stuck, topped-of, then-full, then-stands, then-most, then-not, steps_then, shut-two, shut-steps}
 use native.Mathlib.Omega.{arith}
-use borrow.Author.Rules.{rules}
 use Rattle.card_terms.proofs.shut.Goals as goal
 
 pub reduce-r-requires : goal.reduce-r-requires

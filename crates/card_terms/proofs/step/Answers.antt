@@ -14,7 +14,6 @@ use Rattle.card_terms.proofs.step.Goals as goal
 pub intern_literal-requires : goal.intern_literal-requires
 unfolding step_on proper_mark WordsBelow
 intern_literal-requires c =
-    let m = c.mark-1.given in
     (c.requires.0, c.requires.2, literal-small c.args.table.now c.in-Literal.v c.in-Literal.o (rw c.in-Literal.is at c.requires.4))
 
 pub size_u8-requires : goal.size_u8-requires

@@ -1,4 +1,3 @@
-use borrow.Author.Rules.{rules}
 use Rattle.card_terms.proofs.turn_left.Goals as goal
 
 pub returns : goal.returns

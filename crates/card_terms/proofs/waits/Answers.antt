@@ -6,7 +6,6 @@ use Prim.Native.Nat.{◌≤◌, ◌-◌}
 use native.Mathlib.Omega.{arith}
 use mathlib.Core.Path.{refl, ap, ◌∙◌}
 use lib.ListN.{get_or}
-use borrow.Author.Rules.{rules}
 use Rattle.card_terms.proofs.waits.Goals as goal
 
 pub returns-then-top-lt2 : goal.returns-then-top-lt2
