@@ -1,7 +1,6 @@
 -- Live pairs: the test, and the search for the next one.
 use Rattle.std.specs.Prelude.{◌≡◌, refl, Bool, true, false, List, ℕ, suc, ◌+◌, ◌*◌, ◌-◌, ◌≤◌, ◌<◌, ltb, get_or}
 use Rattle.std.proofs.Common.{sym, ap, ◌∙◌, arith, lt-ltb, le-ltb}
-use Rattle.spec.specs.Bytes.{Two}
 use Rattle.laws.specs.Firsts.{first_from, first-stop, first_more, first-end}
 use Rattle.arrays.specs.Arrays.{unkey, pairs_in}
 use Rattle.arrays.specs.ArrayLaws.{unkeyed-at}

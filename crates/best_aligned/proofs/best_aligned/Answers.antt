@@ -18,7 +18,7 @@ mass_of-requires c = (c.requires.4, c.requires.2, c.requires.3)
 pub loop-best-init : goal.loop-best-init
 loop-best-init c =
     best-first c.requires.0 c.requires.1 (quality_in c.args.im.classes c.args.graph.now c.args.pairs.now) c.requires.2 c.requires.3 c.start-w.ensures
-    (c.long_u32.ensures.0 ∙ c.type_size.ensures) (c.long_u32-2.ensures.0 ∙ c.mass_of.ensures)
+    (c.long_u32.ensures.0 ∙ c.size_of.ensures) (c.long_u32-2.ensures.0 ∙ c.mass_of.ensures)
 
 pub returns-in-End : goal.returns-in-End
 returns-in-End c =

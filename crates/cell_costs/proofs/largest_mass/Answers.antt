@@ -1,12 +1,10 @@
 use Rattle.spec.specs.Transport.{cost}
-use Rattle.cost_matrix.specs.Laying.{LargestTo, largest-none, largest-more, largest-all}
+use Rattle.cost_matrix.specs.Laying.{largest-none, largest-more, largest-all}
 use Rattle.arrays.specs.Arrays.{quality_in}
 use Rattle.cells.specs.Cells.{with, sides_of, cells-few, cell-within}
 use Rattle.cells.specs.Problem.{problem_at, problem-many, problem-cell}
-use borrow.Author.Rules.{rules}
-use Prim.Native.Nat.{◌≤◌, ◌-◌, ◌*◌}
 use native.Mathlib.Omega.{arith}
-use mathlib.Core.Path.{◌≡◌, refl}
+use mathlib.Core.Path.{refl}
 use Rattle.cell_costs.proofs.largest_mass.Goals as goal
 
 pub overflow_mul-count : goal.overflow_mul-count

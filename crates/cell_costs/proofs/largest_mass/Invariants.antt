@@ -1,12 +1,9 @@
-use Rattle.spec.specs.Transport.{cost}
-use Rattle.cost_matrix.specs.Laying.{LargestTo, largest-none, largest-more, largest-all}
+use Rattle.cost_matrix.specs.Laying.{LargestTo}
 use Rattle.arrays.specs.Arrays.{quality_in}
-use Rattle.cells.specs.Cells.{with, sides_of, cells-few, cell-within}
-use Rattle.cells.specs.Problem.{problem_at, problem-many, problem-cell}
-use borrow.Author.Rules.{rules}
+use Rattle.cells.specs.Cells.{sides_of}
+use Rattle.cells.specs.Problem.{problem_at}
 use Prim.Native.Nat.{◌≤◌, ◌-◌, ◌*◌}
-use native.Mathlib.Omega.{arith}
-use mathlib.Core.Path.{◌≡◌, refl}
+use mathlib.Core.Path.{◌≡◌}
 use Rattle.cell_costs.proofs.largest_mass.Given as goal
 
 abbrev pub invariant-loop-k : goal.invariant-loop-k

@@ -80,8 +80,8 @@ loop-k-preserved c =
       omega (arith, c.loop-k-test.true),
       c.loop-k.invariant.1,
       laying-more (problem_at q (sides_of a.left.now a.rows a.right.now a.cols)) a.costs.now k c.loop-k.costs c.loop-k.invariant.2 (rw (problem-wide a.left.now a.rows a.right.now a.cols c.requires.1 q) h)
-          (cost c.type_size.result c.mass_of-mass.result) (unsigned a.x) (get_or a.supply.now (k / a.cols) 0) (get_or a.demand.now (k % a.cols) 0)
-          (problem-cell a.left.now a.rows a.right.now a.cols c.requires.1 q k h c.cell-p.result.left c.cell-p.result.right c.type_size.result c.mass_of-mass.result c.cell-p.ensures c.type_size.ensures c.mass_of-mass.ensures) c.requires.5
+          (cost c.size_of-size.result c.mass_of-mass.result) (unsigned a.x) (get_or a.supply.now (k / a.cols) 0) (get_or a.demand.now (k % a.cols) 0)
+          (problem-cell a.left.now a.rows a.right.now a.cols c.requires.1 q k h c.cell-p.result.left c.cell-p.result.right c.size_of-size.result c.mass_of-mass.result c.cell-p.ensures c.size_of-size.ensures c.mass_of-mass.ensures) c.requires.5
           (λ i. get_or (c.requires.3 i) (k / sym (cols-are a.left.now a.rows a.right.now a.cols c.requires.1) i) 0) (λ i. get_or (c.requires.4 i) (k % sym (cols-are a.left.now a.rows a.right.now a.cols c.requires.1) i) 0) _ c.lay_cell.ensures,
     )
 

@@ -3,7 +3,6 @@ use Rattle.term_entry.specs.EnterLaws.{first-at}
 use Rattle.query.specs.Settings.{limits_of}
 use native.Mathlib.Omega.{arith}
 use mathlib.Core.Path.{◌≡◌}
-use borrow.Author.Rules.{rules}
 use Rattle.interning.proofs.intern.Goals as goal
 
 pub returns-then-found-gt0 : goal.returns-then-found-gt0

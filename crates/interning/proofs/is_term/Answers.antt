@@ -2,7 +2,6 @@ use Rattle.interning.specs.SameLaws.{sub_same, not-head, not-value, not-length, 
 use Rattle.terms.specs.PoolLaws.{runs-inside}
 use native.Mathlib.Omega.{arith}
 use mathlib.Core.Path.{sym, ◌∙◌}
-use borrow.Author.Rules.{rules}
 use Rattle.interning.proofs.is_term.Goals as goal
 
 pub returns-then-head-h : goal.returns-then-head-h

@@ -1,14 +1,7 @@
 use Rattle.terms.specs.Buffers.{part}
-use Rattle.interning.specs.ChainLaws.{Walking, walk_start, walk_turn, walk-found, walk_none, walk-falls}
-use borrow.Author.Rules.{rules}
-use borrow.Author.Tests.{lt-ltb, le-ltb, le-leb, lt-leb, eq-eqb, ne_eqb}
-use Prim.Native.Nat.{ℕ, zero, suc, ◌≤◌, ◌<◌, ◌-◌, ◌+◌, ◌*◌, ◌^◌}
+use Rattle.interning.specs.ChainLaws.{walk_start, walk_turn, walk-found, walk_none, walk-falls}
 use native.Mathlib.Omega.{arith}
-use native.Mathlib.Numerals.{add-one}
-use mathlib.Core.Path.{◌≡◌, refl, ap, sym, ◌∙◌}
-use mathlib.Core.Logic.{⊎_elim}
-use mathlib.Core.List.{List, [], ◌∷◌, ◌++◌, append-nil}
-use lib.ListN.{length, take, drop, get_or, set, length-set, length-take, length-drop, length-append, drop_of_length-le}
+use mathlib.Core.Path.{◌≡◌}
 use Rattle.interning.proofs.look_up.Goals as goal
 
 pub loop-t-init : goal.loop-t-init

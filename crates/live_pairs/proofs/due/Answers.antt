@@ -1,5 +1,4 @@
 use native.Mathlib.Omega.{arith}
-use borrow.Author.Rules.{rules}
 use Rattle.live_pairs.specs.LiveLaws.{due-idle, due-live}
 use Rattle.live_pairs.proofs.due.Goals as goal
 

@@ -1,5 +1,4 @@
 use Rattle.live_pairs.specs.LiveLaws.{live-left, live-none}
-use borrow.Author.Rules.{rules}
 use Rattle.live_pairs.proofs.live.Goals as goal
 
 pub returns-then-llive-l-gt0 : goal.returns-then-llive-l-gt0

@@ -27,6 +27,6 @@ pub returns : goal.returns
 returns c =
     let a = c.args in
     let q = quality_in a.w a.graph.now a.pairs.now in
-    let s = c.add_units-size.ensures ∙ ap (λ (y : ℕ). add_units a.t.size a.x y) (c.type_size.ensures ∙ ap (λ (p : Two). (q p).0) c.cell-p.ensures) in
+    let s = c.add_units-size.ensures ∙ ap (λ (y : ℕ). add_units a.t.size a.x y) (c.size_of.ensures ∙ ap (λ (p : Two). (q p).0) c.cell-p.ensures) in
     let m = c.add_units-mass.ensures ∙ ap (λ (y : ℕ). add_units a.t.mass a.x y) (c.mass_of.ensures ∙ ap (λ (p : Two). (q p).1) c.cell-p.ensures) in
     rw (ne_eqb a.x 0 c.if-x-eq0.false) (λ i. record { size = s i; mass = m i })

@@ -1,9 +1,7 @@
 use Rattle.prepared.specs.Pairs.{keys_of}
 use Rattle.prepared.specs.declared.Prepared.TheVariants.{Go}
-use Prim.Native.Nat.{◌-◌}
 use native.Mathlib.Omega.{arith}
 use mathlib.Core.Path.{◌≡◌, ap, sym}
-use borrow.Author.Rules.{rules}
 use Rattle.prepared.proofs.keys_of.Goals as goal
 
 pub overflow_mul-result : goal.overflow_mul-result

@@ -1,6 +1,5 @@
 use Rattle.prepared.specs.Pairs.{pairs_begun}
 use mathlib.Core.Path.{ap, sym}
-use borrow.Author.Rules.{rules}
 use Rattle.prepared.proofs.pairs_begun.Goals as goal
 
 pub returns-in-Stopped : goal.returns-in-Stopped

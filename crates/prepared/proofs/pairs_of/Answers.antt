@@ -1,7 +1,5 @@
 use Rattle.prepared.specs.Pairs.{pairs_of}
-use Prim.Native.Nat.{◌-◌}
 use mathlib.Core.Path.{ap, sym, ◌∙◌}
-use borrow.Author.Rules.{rules}
 use Rattle.prepared.proofs.pairs_of.Goals as goal
 
 pub returns-in-Go : goal.returns-in-Go

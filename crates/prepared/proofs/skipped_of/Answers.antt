@@ -1,6 +1,5 @@
 use Rattle.prepared.specs.Pairs.{skipped_of}
 use mathlib.Core.Path.{ap, sym}
-use borrow.Author.Rules.{rules}
 use Rattle.prepared.proofs.skipped_of.Goals as goal
 
 pub returns-in-Stopped : goal.returns-in-Stopped

@@ -24,7 +24,7 @@ mass_of-requires c = (c.requires.3, c.left_class-l.ensures.1, c.right_class-r.en
 pub loop-k-preserved : goal.loop-k-preserved
 loop-k-preserved c =
     summed-more (quality_in c.args.im.classes c.args.graph.now c.args.pairs.now) (action_at (tables_of c.args.s.now) c.args.v).pairs c.loop-k.k c.loop-k.size c.loop-k.mass c.loop-k.invariant (omega (arith, c.loop-k-test.true, c.count-m.ensures.0)) _ _ _ _
-    c.left_class-l.ensures.0 c.right_class-r.ensures.0 (c.long_u32-size.ensures.0 ∙ c.type_size.ensures) (c.long_u32-mass.ensures.0 ∙ c.mass_of.ensures)
+    c.left_class-l.ensures.0 c.right_class-r.ensures.0 (c.long_u32-size.ensures.0 ∙ c.size_of.ensures) (c.long_u32-mass.ensures.0 ∙ c.mass_of.ensures)
     c.long_u32-size.ensures.1 c.long_u32-mass.ensures.1
 
 pub returns : goal.returns

@@ -1,9 +1,9 @@
 use Rattle.search_laws.specs.Laws.{column-start, column-first, column-next, column-cell, column-turn, column-end}
 use Rattle.wide.specs.declared.Wide.{Wide}
 use borrow.Author.Rules.{rules}
-use Prim.Native.Nat.{ℕ, ◌≤◌, ◌-◌, ◌+◌, ◌*◌}
+use Prim.Native.Nat.{ℕ, ◌-◌, ◌+◌}
 use native.Mathlib.Omega.{arith}
-use mathlib.Core.Path.{◌≡◌, ap, sym, ◌∙◌}
+use mathlib.Core.Path.{ap, sym, ◌∙◌}
 use mathlib.Core.List.{List}
 use Rattle.search_laws.specs.Edges.{against_column}
 use Rattle.search.proofs.against_column.Goals as goal

@@ -1,10 +1,5 @@
-use Rattle.search_laws.specs.Laws.{column-start, column-first, column-next, column-cell, column-turn, column-end}
-use Rattle.wide.specs.declared.Wide.{Wide}
-use borrow.Author.Rules.{rules}
-use Prim.Native.Nat.{ℕ, ◌≤◌, ◌-◌, ◌+◌, ◌*◌}
-use native.Mathlib.Omega.{arith}
-use mathlib.Core.Path.{◌≡◌, ap, sym, ◌∙◌}
-use mathlib.Core.List.{List}
+use Prim.Native.Nat.{◌≤◌, ◌-◌, ◌+◌, ◌*◌}
+use mathlib.Core.Path.{◌≡◌}
 use Rattle.search_laws.specs.Edges.{against_column}
 use Rattle.search.proofs.against_column.Given as goal
 

@@ -1,9 +1,7 @@
 use Rattle.search_laws.specs.Laws.{cell-yes, cell-not}
 use Rattle.wide.specs.Wrap.{add_words}
 use Rattle.wide.specs.declared.Wide.{Wide}
-use Prim.Native.Nat.{◌-◌}
 use mathlib.Core.Path.{ap, ◌∙◌}
-use borrow.Author.Rules.{rules}
 use Rattle.net.specs.Net.{relaxed}
 use Rattle.search.proofs.along_cell.Goals as goal
 

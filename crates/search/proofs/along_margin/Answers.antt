@@ -1,8 +1,6 @@
 use Rattle.search_laws.specs.Laws.{margin-yes, margin-not}
-use Prim.Native.Nat.{◌-◌}
 use native.Mathlib.Omega.{arith}
 use mathlib.Core.Path.{◌∙◌}
-use borrow.Author.Rules.{rules}
 use Rattle.search.proofs.along_margin.Goals as goal
 
 pub returns-then-r-gt0 : goal.returns-then-r-gt0

@@ -1,10 +1,5 @@
-use Rattle.search_laws.specs.Laws.{row-start, row-turn, row-end}
-use Rattle.wide.specs.declared.Wide.{Wide}
-use borrow.Author.Rules.{rules}
-use Prim.Native.Nat.{ℕ, ◌≤◌, ◌-◌, ◌+◌}
-use native.Mathlib.Omega.{arith}
-use mathlib.Core.Path.{◌≡◌, ap, sym, ◌∙◌}
-use mathlib.Core.List.{List}
+use Prim.Native.Nat.{◌≤◌, ◌-◌, ◌+◌}
+use mathlib.Core.Path.{◌≡◌}
 use Rattle.search_laws.specs.Edges.{along_row}
 use Rattle.search.proofs.along_row.Given as goal
 

@@ -1,11 +1,9 @@
-use Rattle.search_laws.specs.SearchLoop.{Searching, begins, turn, ends, not-reached, reached, Ran, ran-start, ran-turn, ran-end, searched-net, unseen-sink, seen-sink}
+use Rattle.search_laws.specs.SearchLoop.{begins, turn, ends, not-reached, reached, ran-start, ran-turn, ran-end, searched-net, unseen-sink, seen-sink}
 use Rattle.search_laws.specs.Fits.{none_left}
-use Rattle.search_laws.specs.Holds.{Ready}
-use borrow.Author.Rules.{rules}
-use Prim.Native.Nat.{◌-◌, ◌+◌}
+use Prim.Native.Nat.{◌+◌}
 use mathlib.Core.Path.{◌≡◌, ◌∙◌}
 use Rattle.net.specs.Net.{first_of, left}
-use Rattle.search_laws.specs.Edges.{visited, measure}
+use Rattle.search_laws.specs.Edges.{visited}
 use Rattle.search.proofs.search.Goals as goal
 
 pub loop-net-init : goal.loop-net-init

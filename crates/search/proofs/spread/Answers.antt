@@ -1,9 +1,8 @@
 use Rattle.search_laws.specs.Laws.{spread-start, spread-turn, spread_end}
 use Rattle.wide.specs.declared.Wide.{Wide}
-use borrow.Author.Rules.{rules}
-use Prim.Native.Nat.{ℕ, ◌≤◌, ◌-◌, ◌+◌}
+use Prim.Native.Nat.{ℕ, ◌-◌, ◌+◌}
 use native.Mathlib.Omega.{arith}
-use mathlib.Core.Path.{◌≡◌, ap, sym, ◌∙◌}
+use mathlib.Core.Path.{ap, sym, ◌∙◌}
 use mathlib.Core.List.{List}
 use Rattle.search_laws.specs.Edges.{spread_to}
 use Rattle.search.proofs.spread.Goals as goal

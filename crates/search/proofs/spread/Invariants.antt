@@ -1,10 +1,5 @@
-use Rattle.search_laws.specs.Laws.{spread-start, spread-turn, spread_end}
-use Rattle.wide.specs.declared.Wide.{Wide}
-use borrow.Author.Rules.{rules}
-use Prim.Native.Nat.{ℕ, ◌≤◌, ◌-◌, ◌+◌}
-use native.Mathlib.Omega.{arith}
-use mathlib.Core.Path.{◌≡◌, ap, sym, ◌∙◌}
-use mathlib.Core.List.{List}
+use Prim.Native.Nat.{◌≤◌, ◌-◌, ◌+◌}
+use mathlib.Core.Path.{◌≡◌}
 use Rattle.search_laws.specs.Edges.{spread_to}
 use Rattle.search.proofs.spread.Given as goal
 

@@ -7,7 +7,7 @@ use mathlib.Core.List.{List}
 use lib.ListN.{get_or}
 use borrow.Author.Rules.{rules}
 use Rattle.cost_matrix.specs.Places.{row_fits}
-use Rattle.net.specs.Net.{label_of, left}
+use Rattle.net.specs.Net.{label_of}
 use Rattle.search_laws.specs.Edges.{along_margin, against_column}
 use Rattle.spec.specs.Transport.{WIDEST}
 use Rattle.search.proofs.visit.Goals as goal

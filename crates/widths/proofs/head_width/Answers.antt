@@ -1,6 +1,5 @@
 use Rattle.widths.specs.WidthLaws.{lit-length, variants_length, op-length}
 use native.Mathlib.Omega.{arith}
-use borrow.Author.Rules.{rules}
 use Rattle.widths.proofs.head_width.Goals as goal
 
 pub returns-then-h-eq1 : goal.returns-then-h-eq1

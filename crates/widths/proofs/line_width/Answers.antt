@@ -1,6 +1,5 @@
 use Rattle.widths.specs.WidthLaws.{line-few, line-term, line-rises, line-ends, line-within, line-named, line-length}
 use native.Mathlib.Omega.{arith}
-use borrow.Author.Rules.{rules}
 use Rattle.widths.proofs.line_width.Goals as goal
 
 pub first-from-requires : goal.first-from-requires

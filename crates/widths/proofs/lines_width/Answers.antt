@@ -1,7 +1,5 @@
 use Rattle.widths.specs.WidthLaws.{lines-nil, lines-length}
-use Rattle.widths.specs.Lines.{lines_in}
-use borrow.Author.Rules.{rules}
-use Prim.Native.Nat.{◌≤◌, ◌-◌, ◌+◌, ◌*◌}
+use Prim.Native.Nat.{◌-◌}
 use native.Mathlib.Omega.{arith}
 use mathlib.Core.Path.{◌≡◌, ap}
 use lib.ListN.{length}

@@ -1,9 +1,6 @@
-use Rattle.widths.specs.WidthLaws.{lines-nil, lines-length}
 use Rattle.widths.specs.Lines.{lines_in}
-use borrow.Author.Rules.{rules}
 use Prim.Native.Nat.{◌≤◌, ◌-◌, ◌+◌, ◌*◌}
-use native.Mathlib.Omega.{arith}
-use mathlib.Core.Path.{◌≡◌, ap}
+use mathlib.Core.Path.{◌≡◌}
 use lib.ListN.{length}
 use Rattle.widths.proofs.lines_width.Given as goal
 

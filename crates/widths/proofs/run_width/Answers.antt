@@ -1,6 +1,5 @@
 use Rattle.widths.specs.WidthLaws.{run_length}
 use native.Mathlib.Omega.{arith}
-use borrow.Author.Rules.{rules}
 use Rattle.widths.proofs.run_width.Goals as goal
 
 pub number_of-requires : goal.number_of-requires

@@ -1,9 +1,6 @@
-use Rattle.widths.specs.WidthLaws.{runs-nil, runs-length}
 use Rattle.widths.specs.Lines.{runs_in}
-use borrow.Author.Rules.{rules}
 use Prim.Native.Nat.{◌≤◌, ◌-◌, ◌+◌, ◌*◌}
-use native.Mathlib.Omega.{arith}
-use mathlib.Core.Path.{◌≡◌, ap}
+use mathlib.Core.Path.{◌≡◌}
 use lib.ListN.{length}
 use Rattle.widths.proofs.runs_width.Given as goal
 
