@@ -1,13 +1,13 @@
 use Rattle.spec.specs.Transport.{cost}
 use Rattle.wide.specs.Value.{unsigned}
 use Rattle.cost_matrix.specs.Places.{div-in}
-use Rattle.cost_matrix.specs.Laying.{Laying, laying-none, laying-more, laying-all}
+use Rattle.cost_matrix.specs.Laying.{laying-none, laying-more, laying-all}
 use Rattle.arrays.specs.Arrays.{quality_in}
 use Rattle.cells.specs.Cells.{sides_of, cells-few, some-col, cell-within}
 use Rattle.cells.specs.Problem.{problem_at, rows_are, cols-are, problem-wide, problem-cell}
-use Prim.Native.Nat.{◌≤◌, ◌<◌, ◌-◌, ◌*◌, ◌/◌, ◌%◌}
+use Prim.Native.Nat.{◌<◌, ◌*◌, ◌/◌, ◌%◌}
 use native.Mathlib.Omega.{arith}
-use mathlib.Core.Path.{◌≡◌, refl, ap, sym}
+use mathlib.Core.Path.{refl, ap, sym}
 use lib.ListN.{length, get_or}
 use Rattle.cell_costs.proofs.lay_cells.Goals as goal
 

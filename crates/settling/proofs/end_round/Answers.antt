@@ -8,7 +8,6 @@ use Rattle.spec.specs.Image.{tables_of}
 use Rattle.laws.specs.Buffers.{over}
 use Rattle.image.specs.Loaded.{classes-many}
 use Rattle.changes.specs.Marks.{live_of}
-use borrow.Author.Rules.{rules}
 use Rattle.settling.proofs.end_round.Goals as goal
 
 pub settle-requires : goal.settle-requires

@@ -1,9 +1,6 @@
-use Rattle.pair_settling.specs.SettleLaws.{settled-none, marks-none, settled-differs, settled-more, marks-more}
 use Rattle.pair_settling.specs.Settling.{left, right, settled, marks_of}
-use borrow.Author.Rules.{rules}
-use Prim.Native.Nat.{ℕ, ◌≤◌, ◌-◌}
-use native.Mathlib.Omega.{arith}
-use mathlib.Core.Path.{◌≡◌, refl, ap, ◌∙◌}
+use Prim.Native.Nat.{◌≤◌, ◌-◌}
+use mathlib.Core.Path.{◌≡◌}
 use lib.ListN.{length}
 use Rattle.settling.proofs.settle.Given as goal
 
