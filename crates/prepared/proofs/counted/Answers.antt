@@ -14,5 +14,4 @@ returns-in-Cut c = sym (ap (λ (z : Begun). counted_as z c.args.c.pairs) c.in-Cu
 
 pub returns-in-All : goal.returns-in-All
 returns-in-All c =
-    let x = c.b-in-All-1.given in
     ap (λ (n : ℕ). All c.in-All.root n c.in-All.left c.in-All.k) c.pairs_in-n.ensures ∙ sym (ap (λ (z : Begun). counted_as z c.args.c.pairs) c.in-All.is)
