@@ -1,10 +1,7 @@
 use Rattle.enumeration.proofs.Turns.{span-end, seek-here, seek-next, seek-over}
-use Rattle.enumeration.specs.Seek.{seek_of}
 use Rattle.spec.specs.Image.{tables_of}
-use Prim.Native.Nat.{◌-◌}
 use native.Mathlib.Omega.{arith}
-use mathlib.Core.Path.{◌≡◌, refl, sym, ◌∙◌}
-use borrow.Author.Rules.{rules}
+use mathlib.Core.Path.{refl, sym, ◌∙◌}
 use Rattle.enumeration.proofs.seek.Goals as goal
 
 pub loop-v-init : goal.loop-v-init

@@ -1,10 +1,7 @@
-use Rattle.enumeration.proofs.Turns.{row_here, row_next, row-over}
 use Rattle.enumeration.specs.Seek.{seek_right_of}
 use Rattle.spec.specs.Image.{tables_of}
 use Prim.Native.Nat.{◌-◌}
-use native.Mathlib.Omega.{arith}
-use mathlib.Core.Path.{◌≡◌, refl, sym, ◌∙◌}
-use borrow.Author.Rules.{rules}
+use mathlib.Core.Path.{◌≡◌}
 use Rattle.enumeration.proofs.seek_right.Given as goal
 
 abbrev pub invariant-loop-j : goal.invariant-loop-j

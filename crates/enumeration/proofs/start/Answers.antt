@@ -1,7 +1,6 @@
 use Rattle.enumeration.proofs.Turns.{start-at}
 use Rattle.spec.specs.Image.{tables_of}
 use mathlib.Core.Path.{sym, ◌∙◌}
-use borrow.Author.Rules.{rules}
 use Rattle.enumeration.proofs.start.Goals as goal
 
 pub returns-then-itself : goal.returns-then-itself

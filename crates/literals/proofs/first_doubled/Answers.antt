@@ -1,11 +1,9 @@
 use Rattle.laws.specs.Doubled.{doubled_later, first-later}
-use Rattle.laws.specs.Firsts.{first_from, turn-stop, turn_more, turn_end}
+use Rattle.laws.specs.Firsts.{turn-stop, turn_more, turn_end}
 use Rattle.image.specs.Loaded.{classes-many}
 use Rattle.spec.specs.Image.{tables_of}
-use borrow.Author.Rules.{rules}
-use Prim.Native.Nat.{◌-◌}
 use native.Mathlib.Omega.{arith}
-use mathlib.Core.Path.{◌≡◌, refl, ◌∙◌}
+use mathlib.Core.Path.{refl, ◌∙◌}
 use lib.ListN.{length}
 use Rattle.literals.proofs.first_doubled.Goals as goal
 

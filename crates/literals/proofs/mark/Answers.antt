@@ -1,11 +1,8 @@
-use Rattle.class_literals.specs.Slots.{SLOTS, Marked, mark-next, slot_is}
+use Rattle.class_literals.specs.Slots.{mark-next, slot_is}
 use Rattle.image.specs.Loaded.{members-many}
 use Rattle.spec.specs.Image.{tables_of}
-use borrow.Author.Rules.{rules}
-use Prim.Native.Nat.{◌≤◌, ◌-◌}
 use native.Mathlib.Omega.{arith}
-use mathlib.Core.Path.{◌≡◌, ◌∙◌}
-use lib.ListN.{length}
+use mathlib.Core.Path.{◌∙◌}
 use Rattle.literals.proofs.mark.Goals as goal
 
 pub loop-m-init : goal.loop-m-init

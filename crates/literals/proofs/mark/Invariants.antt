@@ -1,10 +1,7 @@
-use Rattle.class_literals.specs.Slots.{SLOTS, Marked, mark-next, slot_is}
-use Rattle.image.specs.Loaded.{members-many}
+use Rattle.class_literals.specs.Slots.{SLOTS, Marked}
 use Rattle.spec.specs.Image.{tables_of}
-use borrow.Author.Rules.{rules}
 use Prim.Native.Nat.{◌≤◌, ◌-◌}
-use native.Mathlib.Omega.{arith}
-use mathlib.Core.Path.{◌≡◌, ◌∙◌}
+use mathlib.Core.Path.{◌≡◌}
 use lib.ListN.{length}
 use Rattle.literals.proofs.mark.Given as goal
 
