@@ -2,7 +2,7 @@
 use Rattle.std.specs.Prelude.{◌≡◌, refl, true, false, List, [], ◌∷◌, map, ℕ, ◌+◌, ◌/◌, ◌%◌, ◌≤◌, length, drop}
 use Rattle.std.proofs.Common.{sym, ap, ◌∙◌, arith, drop-drop}
 use borrow.Author.Tests.{eq-eqb, ne_eqb}
-use Rattle.spec.specs.Bytes.{text, decimal, ok, ◌>>=◌}
+use Rattle.spec.specs.Bytes.{text, decimal, ok}
 use Rattle.spec.specs.Pool.{Node, expanded_length}
 use Rattle.formula.specs.Lexer.{starts_with}
 use Rattle.formula.specs.Lines.{Cut, cut_word, cut_node, cut_line}

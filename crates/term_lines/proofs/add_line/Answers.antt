@@ -1,7 +1,6 @@
 use Prim.Native.Nat.{◌≤◌}
 use native.Mathlib.Omega.{arith}
 use lib.ListN.{length, drop}
-use borrow.Author.Rules.{rules}
 use Rattle.spec.specs.Pool.{RUNS}
 use Rattle.formula.specs.Lines.{cut_line}
 use Rattle.query.specs.Settings.{limits_of}

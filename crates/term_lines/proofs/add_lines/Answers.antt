@@ -1,11 +1,9 @@
 use borrow.Author.Rules.{rules}
-use Prim.Native.Nat.{◌-◌}
 use native.Mathlib.Omega.{arith}
 use mathlib.Core.Path.{◌∙◌}
-use lib.ListN.{length}
 use Rattle.query.specs.Settings.{limits_of}
 use Rattle.term_lines.specs.Loading.{AddsLine}
-use Rattle.term_lines.specs.LoadLaws.{Loading, loading-start, loading-turn, loading-broken, loading-full, loading-none, loading-end}
+use Rattle.term_lines.specs.LoadLaws.{loading-start, loading-turn, loading-broken, loading-full, loading-none, loading-end}
 use Rattle.term_lines.specs.declared.Added.TheVariants as A
 use Rattle.term_lines.proofs.add_lines.Goals as goal
 

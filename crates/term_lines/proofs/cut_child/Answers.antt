@@ -1,5 +1,4 @@
 use native.Mathlib.Omega.{arith}
-use borrow.Author.Rules.{rules}
 use Rattle.spec.specs.Bytes.{text}
 use Rattle.text_cut.specs.Cutting.{CutsWord, CutsNumber}
 use Rattle.text_cut.specs.declared.Place.TheVariants as P

@@ -1,5 +1,4 @@
 use native.Mathlib.Omega.{arith}
-use borrow.Author.Rules.{rules}
 use Rattle.text_cut.specs.Cutting.{CutsNumber}
 use Rattle.text_cut.specs.declared.Number.TheVariants as N
 use Rattle.term_lines.specs.LineLaws.{op-no-operation, op-broken, op-full, op-there}

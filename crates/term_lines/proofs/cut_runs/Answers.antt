@@ -1,12 +1,10 @@
-use borrow.Author.Rules.{rules}
-use Prim.Native.Nat.{◌-◌}
 use native.Mathlib.Omega.{arith}
 use mathlib.Core.Path.{◌≡◌, refl, sym, ◌∙◌}
 use mathlib.Core.List.{[], ◌∷◌}
-use lib.ListN.{length, drop}
+use lib.ListN.{drop}
 use Rattle.term_lines.specs.Reading.{CutsChild, CutsCount}
 use Rattle.text_cut.specs.declared.Number.TheVariants as N
-use Rattle.term_lines.specs.RunLaws.{Staging, staging-start, staging-end, staging-no-child, staging-no-count, staging-full, staging-turn}
+use Rattle.term_lines.specs.RunLaws.{staging-start, staging-end, staging-no-child, staging-no-count, staging-full, staging-turn}
 use mathlib.Core.Bool.{false}
 use Rattle.formula.specs.Lexer.{starts_with}
 use Rattle.term_lines.proofs.cut_runs.Goals as goal

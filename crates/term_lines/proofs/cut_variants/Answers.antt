@@ -1,4 +1,3 @@
-use borrow.Author.Rules.{rules}
 use Rattle.spec.specs.Bytes.{text}
 use Rattle.text_cut.specs.Cutting.{CutsWord}
 use Rattle.text_cut.specs.declared.Place.TheVariants as P
