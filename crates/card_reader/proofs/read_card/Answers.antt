@@ -1,13 +1,11 @@
 use Rattle.card_terms.specs.StandLaws.{grows-count}
 use lib.ListN.{replicate}
-use borrow.Author.Tests.{not-true, not-false}
 use Rattle.query.specs.Settings.{limits_of}
 use Rattle.card_syntax.specs.Reading.{formula-read, formula-refused}
 use Rattle.card_reader.specs.CardLaws.{read_none, read-term, read-full}
 use Prim.Native.Nat.{ℕ}
 use native.Mathlib.Omega.{arith}
 use mathlib.Core.Path.{ap, sym, ◌∙◌}
-use borrow.Author.Rules.{rules}
 use Rattle.card_reader.proofs.read_card.Goals as goal
 
 pub returns-then-not-is_formula : goal.returns-then-not-is_formula
