@@ -1,5 +1,4 @@
 use mathlib.Core.Path.{ap, sym}
-use borrow.Author.Rules.{rules}
 use Rattle.returned.specs.Returns.{returned_of}
 use Rattle.returned.proofs.numbers_of.Goals as goal
 

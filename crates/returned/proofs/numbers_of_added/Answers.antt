@@ -1,5 +1,4 @@
 use mathlib.Core.Path.{ap, sym}
-use borrow.Author.Rules.{rules}
 use Rattle.child_list.specs.declared.Added.{Added}
 use Rattle.returned.specs.Children.{added_numbers}
 use Rattle.returned.proofs.numbers_of_added.Goals as goal

@@ -1,5 +1,4 @@
 use mathlib.Core.Path.{ap, sym}
-use borrow.Author.Rules.{rules}
 use Rattle.returned.specs.Cards.{card_numbers}
 use Rattle.returned.proofs.numbers_of_card.Goals as goal
 

@@ -1,5 +1,4 @@
 use mathlib.Core.Path.{ap, sym}
-use borrow.Author.Rules.{rules}
 use Rattle.narrowing.specs.declared.Narrowed.{Narrowed}
 use Rattle.returned.specs.Narrows.{narrowed_numbers}
 use Rattle.returned.proofs.numbers_of_narrowed.Goals as goal
