@@ -1,18 +1,16 @@
 -- The list of an action's children is what `intern_action_result` of the definitions interns.
-use Rattle.std.specs.Prelude.{◌≡◌, refl, Bool, true, false, List, [], ◌∷◌, ◌++◌, map, ℕ, zero, suc, ◌+◌, ◌*◌, ◌-◌, ◌/◌, ◌%◌, ◌^◌, ◌≤◌, ◌<◌, length, get_or, take, drop}
-use Rattle.std.proofs.Common.{sym, ap, ap₂, ◌∙◌, arith, take-append-drop, length-append}
-use Rattle.spec.specs.Bytes.{Limits, pick, sum, Two}
+use Rattle.std.specs.Prelude.{◌≡◌, refl, Bool, true, false, List, [], map, ℕ, ◌^◌, ◌≤◌, ◌<◌, length, drop}
+use Rattle.std.proofs.Common.{sym, ap, ◌∙◌, arith, take-append-drop}
+use Rattle.spec.specs.Bytes.{Limits, pick, sum}
 use Rattle.spec.specs.Pool.{Pool, Node, op_node, join_runs, sort_runs, intern}
 use Rattle.pools.specs.Pool.{RunsBelow, NodeValid, op-valid}
 use Rattle.pools.specs.PoolSort.{sort-perm, perm-below}
-use Rattle.terms.specs.Buffers.{part, unpack, nodes_in, pool_of, node_of, count_in}
-use Rattle.terms.specs.Chains.{Holds}
+use Rattle.terms.specs.Buffers.{part, unpack, pool_of, node_of}
 use Rattle.interning.specs.Interning.{entered_of, pool_after, Interning}
 use Rattle.joining.specs.Joining.{join_numbers, over, Begins, joined_in}
-use Rattle.action_term.specs.Sorting.{sort_numbers, ordered_in}
-use Rattle.interning.specs.Growing.{Grows}
+use Rattle.action_term.specs.Sorting.{ordered_in}
 use Rattle.interning.specs.GrowLaws.{grows-intern}
-use Rattle.action_term.specs.Results.{action_list, ActionResult}
+use Rattle.action_term.specs.Results.{ActionResult}
 use Rattle.terms.specs.PartLaws.{part_length, part-take, part-front}
 use Rattle.joining.specs.JoinLaws.{joined-runs, join-sum, begins-fits, op-node}
 use Rattle.action_term.specs.SortLaws.{sorted-runs, sort-length, sort-sum}

@@ -5,8 +5,8 @@ use Rattle.spec.specs.Pool.{op_node, sort_runs, intern}
 use Rattle.terms.specs.Buffers.{part, unpack, pool_of}
 use Rattle.terms.specs.Chains.{Holds}
 use Rattle.interning.specs.Interning.{entered_of, pool_after, Interning}
-use Rattle.interning.specs.Growing.{laid_over, Grows}
-use Rattle.joining.specs.Joining.{over, joined_in, join_numbers}
+use Rattle.interning.specs.Growing.{Grows}
+use Rattle.joining.specs.Joining.{over, join_numbers}
 use Rattle.action_term.specs.Sorting.{ordered_in}
 use Rattle.interning.specs.declared.Entered.{Entered}
 

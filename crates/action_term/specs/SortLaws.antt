@@ -1,20 +1,20 @@
 -- Sorting in place is `sort_runs`.
-use Rattle.std.specs.Prelude.{◌≡◌, Bool, true, false, List, [], ◌∷◌, ◌++◌, map, ℕ, zero, suc, ◌+◌, ◌*◌, ◌-◌, ◌/◌, ◌%◌, ◌≤◌, ◌<◌, length, get_or, set}
+use Rattle.std.specs.Prelude.{◌≡◌, Bool, true, false, List, [], ◌∷◌, ◌++◌, map, ℕ, zero, suc, ◌+◌, ◌-◌, ◌%◌, ◌≤◌, ◌<◌, length, get_or, set}
 use Rattle.std.proofs.Math.Path.{refl}
-use Rattle.std.proofs.Common.{sym, ap, ap₂, ◌∙◌, append_assoc, not-suc-le-zero, length-append, length-set, take-append-drop, length-take, length-drop, get_or-drop, take-suc-set, drop-set-lt, take_at, drop_at, length-take-le, get_or-take, drop-cons, get_or-append-add, drop-drop, take-take, ext_get_or}
+use Rattle.std.proofs.Common.{sym, ap, ◌∙◌, append_assoc, not-suc-le-zero, length-append, length-set, take-append-drop, get_or-drop, take-suc-set, drop-set-lt, drop_at, length-take-le, get_or-take, drop-cons, get_or-append-add, drop-drop, take-take}
 use native.Mathlib.Omega.{arith}
 use Rattle.std.proofs.Math.ListN.{take, drop, get_or-append}
-use Rattle.std.proofs.lemmas.List.{take-set-le, set_split, take-append-le}
+use Rattle.std.proofs.lemmas.List.{set_split, take-append-le}
 use Rattle.spec.specs.Bytes.{sum, Two}
 use Rattle.term_order.specs.Comparing.{order_of}
 use Rattle.term_order.specs.declared.Order.TheVariants as O
 use Rattle.spec.specs.Pool.{Pool, Order, less, equal, greater, structural_cmp, is_greater, insert_run, sort_runs}
 use Rattle.spec.specs.Meaning.{In, here, there}
-use Rattle.pools.specs.Pool.{RunsBelow, runs-below-cons, runs-below-tail, runs-below-nil}
+use Rattle.pools.specs.Pool.{RunsBelow, runs-below-cons, runs-below-nil}
 use Rattle.pools.specs.PoolSort.{sort-perm, perm-below}
 use Rattle.terms.specs.Buffers.{part, unpack}
 use Rattle.action_term.specs.Sorting.{insert_number, sort_numbers, within}
-use Rattle.terms.specs.PartLaws.{part_length, part-cons, part-over, part-cong, part_at, part-take, part-front}
+use Rattle.terms.specs.PartLaws.{part_length, part-cons, part-over, part-cong, part-front}
 
 -- ---- against the definitions
 insert-unpack : (p : Pool) (x : ℕ) (l : List ℕ) → map unpack (insert_number p x l) ≡ insert_run p (unpack x) (map unpack l)

@@ -1,22 +1,21 @@
 -- The runs of a member's best term in a list.
-use Rattle.std.specs.Prelude.{◌≡◌, ◌≢◌, ◌⊎◌, Bool, true, false, List, [], ◌∷◌, ◌++◌, map, ℕ, zero, suc, ◌+◌, ◌*◌, ◌-◌, ◌/◌, ◌%◌, ◌^◌, ◌≤◌, ◌<◌, min, eqb, length, get_or, set, take, drop}
+use Rattle.std.specs.Prelude.{◌≡◌, ◌⊎◌, List, [], ◌∷◌, map, ℕ, zero, suc, ◌+◌, ◌*◌, ◌-◌, ◌/◌, ◌%◌, ◌^◌, ◌≤◌, ◌<◌, length, get_or, set, drop}
 use Rattle.std.proofs.Math.Path.{refl}
-use Rattle.std.proofs.Common.{sym, ap, ap₂, ◌∙◌, inl, inr, not-suc-le-zero, eq-or-lt_of_le, mul-le-mul_right, arith, eq-eqb, ne_eqb, length-take, length-drop, get_or-take, get_or-drop}
+use Rattle.std.proofs.Common.{ap, ap₂, ◌∙◌, inl, inr, not-suc-le-zero, eq-or-lt_of_le, mul-le-mul_right, arith, eq-eqb, ne_eqb, length-take, length-drop, get_or-take, get_or-drop}
 use Rattle.std.proofs.Math.ListN.{length-set}
 use Rattle.std.proofs.Math.Seq.{get_or-set_same, get_or-set_other}
-use Rattle.spec.specs.Bytes.{Limits, Two, pick, sum}
-use Rattle.spec.specs.Image.{Tables, Member, Lit, kind_of, children_of, the_member, tables_of}
-use Rattle.spec.specs.Pool.{Pool, Node, lit_node, op_node, variants_node, join_runs, intern}
+use Rattle.spec.specs.Bytes.{Limits, Two, sum}
+use Rattle.spec.specs.Image.{Tables, Member, Lit, kind_of, children_of, the_member}
+use Rattle.spec.specs.Pool.{Node, lit_node, op_node, variants_node, join_runs, intern}
 use Rattle.spec.specs.Meaning.{In, here, there}
 use Rattle.pools.specs.Pool.{RunsBelow, runs-below-nil, runs-below-cons, NodeValid, lit-valid, op-valid, variants-valid}
-use Rattle.image.specs.Loaded.{Loaded, the_child, children-many}
+use Rattle.image.specs.Loaded.{the_child}
 use Rattle.image.specs.declared.Image.{Image}
-use Rattle.terms.specs.Buffers.{part, unpack, nodes_in, pool_of, node_of, count_in}
-use Rattle.terms.specs.Chains.{Holds}
-use Rattle.interning.specs.Interning.{entered_of, pool_after, Interning}
-use Rattle.joining.specs.Joining.{join_numbers, over, Begins, joined_in}
-use Rattle.op_terms.specs.Members.{Gives, Built, kept_run, kept_number, member_node, MemberReady}
-use Rattle.terms.specs.PartLaws.{part_length, part-front}
+use Rattle.terms.specs.Buffers.{part, unpack, pool_of, node_of}
+use Rattle.interning.specs.Interning.{Interning}
+use Rattle.joining.specs.Joining.{Begins, joined_in}
+use Rattle.op_terms.specs.Members.{Gives, kept_run, kept_number, member_node, MemberReady}
+use Rattle.terms.specs.PartLaws.{part-front}
 use Rattle.joining.specs.JoinLaws.{joined-runs, join-sum, op-node}
 use Rattle.interning.specs.GrowLaws.{grows-intern}
 use Rattle.interning.specs.declared.Entered.{Entered}

@@ -1,13 +1,13 @@
 -- A member's term over the kept best terms of its children's classes: kept by their number plus 1, 0 where a class is still unbuilt.
-use Rattle.std.specs.Prelude.{◌≡◌, List, [], ◌∷◌, map, ℕ, ◌+◌, ◌*◌, ◌-◌, ◌≤◌, ◌<◌, eqb, length, get_or}
-use Rattle.spec.specs.Bytes.{Two, pick, Res, ok, refused}
+use Rattle.std.specs.Prelude.{◌≡◌, List, map, ℕ, ◌+◌, ◌*◌, ◌-◌, ◌≤◌, ◌<◌, eqb, length, get_or}
+use Rattle.spec.specs.Bytes.{Two, pick, Res}
 use Rattle.spec.specs.Image.{Tables, Member, Lit, kind_of, children_of, the_member}
 use Rattle.spec.specs.Pool.{Node, lit_node, op_node, Interned}
 use Rattle.spec.specs.Meaning.{In}
-use Rattle.terms.specs.Buffers.{pool_of, count_in}
+use Rattle.terms.specs.Buffers.{pool_of}
 use Rattle.terms.specs.Chains.{Holds}
 use Rattle.interning.specs.Interning.{entered_of, pool_after}
-use Rattle.interning.specs.Growing.{laid_over, Grows}
+use Rattle.interning.specs.Growing.{Grows}
 use Rattle.interning.specs.declared.Entered.{Entered}
 
 -- the answer and the buffers where the definitions give m

@@ -2,7 +2,6 @@ use Rattle.padding.specs.PadLaws.{paddable, pads-made}
 use Rattle.monomial.specs.Places.{monomial_at}
 use Rattle.spec.specs.Image.{tables_of, identity_of}
 use mathlib.Core.Path.{◌∙◌}
-use borrow.Author.Rules.{rules}
 use Rattle.ac_monomials.proofs.monomials.Goals as goal
 
 pub of_place-n-requires : goal.of_place-n-requires

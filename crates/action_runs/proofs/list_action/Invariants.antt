@@ -1,13 +1,8 @@
 use Rattle.arrays.specs.Arrays.{term_in}
-use Rattle.action_runs.specs.Listed.{Listed, listed_more, listed-all, many-runs}
-use Rattle.action_runs.specs.Runs.{runs_of}
-use Rattle.laws.specs.Buffers.{filled_none}
+use Rattle.action_runs.specs.Listed.{Listed}
 use Rattle.actions.specs.Place.{action_at}
 use Rattle.spec.specs.Image.{tables_of}
 use Prim.Native.Nat.{◌-◌}
-use native.Mathlib.Omega.{arith}
-use mathlib.Core.Path.{sym, ◌∙◌}
-use borrow.Author.Rules.{rules}
 use Rattle.action_runs.proofs.list_action.Given as goal
 
 abbrev pub invariant-loop-k : goal.invariant-loop-k

@@ -3,7 +3,6 @@ use Rattle.action_term.specs.ResultLaws.{action-join, action-light, action-valid
 use Rattle.joining.specs.JoinLaws.{begins-fits}
 use Rattle.query.specs.Settings.{limits_of}
 use native.Mathlib.Omega.{arith}
-use borrow.Author.Rules.{rules}
 use Rattle.action_term.proofs.intern_action_result.Goals as goal
 
 pub join_runs-m-requires : goal.join_runs-m-requires

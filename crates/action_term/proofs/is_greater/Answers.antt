@@ -2,15 +2,7 @@ use Rattle.spec.specs.Pool.{structural_cmp}
 use Rattle.terms.specs.Buffers.{pool_of, count_in}
 use Rattle.action_term.specs.SortLaws.{less-not, equal-not, greater-is}
 use Rattle.terms.specs.PoolLaws.{pool-length}
-use borrow.Author.Tests.{lt-ltb, le-ltb, le-leb, lt-leb, eq-eqb, ne_eqb}
-use Prim.Native.Nat.{ℕ, zero, suc, ◌≤◌, ◌<◌, ◌-◌, ◌+◌, ◌*◌, ◌^◌}
-use native.Mathlib.Omega.{arith}
-use native.Mathlib.Numerals.{add-one}
-use mathlib.Core.Path.{◌≡◌, refl, ap, sym, ◌∙◌}
-use mathlib.Core.Logic.{⊎_elim}
-use mathlib.Core.List.{List, [], ◌∷◌, ◌++◌, append-nil}
-use lib.ListN.{length, take, drop, get_or, set, length-set, length-take, length-drop, length-append, drop_of_length-le}
-use borrow.Author.Rules.{rules}
+use mathlib.Core.Path.{sym, ◌∙◌}
 use Rattle.action_term.proofs.is_greater.Goals as goal
 
 pub returns-in-Less : goal.returns-in-Less

@@ -1,15 +1,8 @@
-use Rattle.terms.specs.Buffers.{part, pool_of, count_in}
-use Rattle.action_term.specs.Sorting.{within, sort_numbers}
+use Rattle.terms.specs.Buffers.{pool_of, count_in}
 use Rattle.action_term.specs.SortLaws.{sort-start, sort-requires, sort-turn, sort-end}
-use borrow.Author.Rules.{rules}
-use borrow.Author.Tests.{lt-ltb, le-ltb, le-leb, lt-leb, eq-eqb, ne_eqb}
-use Prim.Native.Nat.{ℕ, zero, suc, ◌≤◌, ◌<◌, ◌-◌, ◌+◌, ◌*◌, ◌^◌}
+use Prim.Native.Nat.{◌-◌}
 use native.Mathlib.Omega.{arith}
-use native.Mathlib.Numerals.{add-one}
-use mathlib.Core.Path.{◌≡◌, refl, ap, sym, ◌∙◌}
-use mathlib.Core.Logic.{⊎_elim}
-use mathlib.Core.List.{List, [], ◌∷◌, ◌++◌, append-nil}
-use lib.ListN.{length, take, drop, get_or, set, length-set, length-take, length-drop, length-append, drop_of_length-le}
+use mathlib.Core.Path.{◌≡◌, refl, ◌∙◌}
 use Rattle.action_term.proofs.sort.Goals as goal
 
 pub loop-i-init : goal.loop-i-init

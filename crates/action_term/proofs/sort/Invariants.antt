@@ -1,15 +1,8 @@
-use Rattle.terms.specs.Buffers.{part, pool_of, count_in}
+use Rattle.terms.specs.Buffers.{part, pool_of}
 use Rattle.action_term.specs.Sorting.{within, sort_numbers}
-use Rattle.action_term.specs.SortLaws.{sort-start, sort-requires, sort-turn, sort-end}
-use borrow.Author.Rules.{rules}
-use borrow.Author.Tests.{lt-ltb, le-ltb, le-leb, lt-leb, eq-eqb, ne_eqb}
-use Prim.Native.Nat.{ℕ, zero, suc, ◌≤◌, ◌<◌, ◌-◌, ◌+◌, ◌*◌, ◌^◌}
-use native.Mathlib.Omega.{arith}
-use native.Mathlib.Numerals.{add-one}
-use mathlib.Core.Path.{◌≡◌, refl, ap, sym, ◌∙◌}
-use mathlib.Core.Logic.{⊎_elim}
-use mathlib.Core.List.{List, [], ◌∷◌, ◌++◌, append-nil}
-use lib.ListN.{length, take, drop, get_or, set, length-set, length-take, length-drop, length-append, drop_of_length-le}
+use Prim.Native.Nat.{◌≤◌, ◌-◌}
+use mathlib.Core.Path.{◌≡◌}
+use lib.ListN.{length}
 use Rattle.action_term.proofs.sort.Given as goal
 
 abbrev pub invariant-loop-i : goal.invariant-loop-i

@@ -39,7 +39,7 @@ returns-then-not-sp c =
     let l = c.loop-k in
     let h = c.loop-k-test.true in
     let n = unkeyed-length a.graph.now (a.im.classes * a.im.classes) a.n in
-    start-cut (limits_of a.lim) (tables_of a.s.now) (pairs_in a.im.classes a.graph.now a.n) (starting_terms (limits_of a.lim) (tables_of a.s.now) (pairs_in a.im.classes a.graph.now a.n) a.b.left (pool_of a.terms.now a.runs.now)) (pool_of a.terms.now a.runs.now) l.pairs l.terms l.runs l.k l.bud.left (omega (arith, n, h)) l.invariant.7 (expired l.bud c.spend-sp.result c.spend-sp.ensures (ap not c.if-not-sp.true))
+    start-cut (limits_of a.lim) (tables_of a.s.now) (pairs_in a.im.classes a.graph.now a.n) (starting_terms (limits_of a.lim) (tables_of a.s.now) (pairs_in a.im.classes a.graph.now a.n) a.b.left (pool_of a.terms.now a.runs.now)) (pool_of a.terms.now a.runs.now) l.pairs l.terms l.runs l.k l.bud.left (omega (arith, n, h)) l.invariant.7 (expired l.bud c.spend-sp.result c.spend-sp.ensures c.if-not-sp.true)
 
 pub left_at-l-requires : goal.left_at-l-requires
 left_at-l-requires c =
@@ -82,7 +82,7 @@ returns-in-Full c =
     let l = c.loop-k in
     let h = c.loop-k-test.true in
     let n = unkeyed-length a.graph.now (a.im.classes * a.im.classes) a.n in
-    let e = spent l.bud c.spend-sp.result c.spend-sp.ensures (ap not c.if-not-sp.false) in
+    let e = spent l.bud c.spend-sp.result c.spend-sp.ensures c.if-not-sp.false in
     let p = pair-at (tables_of a.s.now) a.im.classes a.graph.now a.n l.k h x.result y.result x.ensures.0 y.ensures.0 in
     let z = rw c.in-Full.is at c.start_one-one.ensures in
     start-full (limits_of a.lim) (tables_of a.s.now) (pairs_in a.im.classes a.graph.now a.n) (starting_terms (limits_of a.lim) (tables_of a.s.now) (pairs_in a.im.classes a.graph.now a.n) a.b.left (pool_of a.terms.now a.runs.now)) (pool_of a.terms.now a.runs.now) l.pairs l.terms l.runs l.k l.bud.left (omega (arith, n, h)) l.invariant.7 c.spend-sp.result.budget.left z.0 e (rw (← p) z.1)
@@ -101,7 +101,7 @@ loop-k-preserved c =
     let l = c.loop-k in
     let h = c.loop-k-test.true in
     let n = unkeyed-length a.graph.now (a.im.classes * a.im.classes) a.n in
-    let e = spent l.bud c.spend-sp.result c.spend-sp.ensures (ap not c.if-not-sp.false) in
+    let e = spent l.bud c.spend-sp.result c.spend-sp.ensures c.if-not-sp.false in
     let p = pair-at (tables_of a.s.now) a.im.classes a.graph.now a.n l.k h x.result y.result x.ensures.0 y.ensures.0 in
     let z = rw (c.in-Entered.is, p) at c.start_one-one.ensures in
     let k = c.start_one-one.auto in

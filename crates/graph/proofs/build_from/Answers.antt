@@ -20,7 +20,7 @@ loop-i-init c =
 
 pub returns-then-not-check : goal.returns-then-not-check
 returns-then-not-check c =
-    turning-cut (limits_of c.args.lim) (tables_of c.args.s.now) c.args.im.classes c.loop-i.invariant.0 c.loop-i-test.true (check-none c.loop-i.b c.spend-check.result c.spend-check.ensures (ap not c.if-not-check.true))
+    turning-cut (limits_of c.args.lim) (tables_of c.args.s.now) c.args.im.classes c.loop-i.invariant.0 c.loop-i-test.true (check-none c.loop-i.b c.spend-check.result c.spend-check.ensures c.if-not-check.true)
 
 pub left_at-l-requires : goal.left_at-l-requires
 left_at-l-requires c =
@@ -54,7 +54,7 @@ enter_joins-requires c =
 
 pub returns-in-Full : goal.returns-in-Full
 returns-in-Full c =
-    turning-full (limits_of c.args.lim) (tables_of c.args.s.now) c.args.im.classes c.loop-i.invariant.0 c.loop-i-test.true c.left_at-l.result c.right_at-r.result c.left_at-l.ensures.0 c.right_at-r.ensures.0 c.spend-check.result.budget.left (check-one c.loop-i.b c.spend-check.result c.spend-check.ensures (ap not c.if-not-check.false)) c.enter_joins.result c.enter_joins.ensures c.in-Full.is
+    turning-full (limits_of c.args.lim) (tables_of c.args.s.now) c.args.im.classes c.loop-i.invariant.0 c.loop-i-test.true c.left_at-l.result c.right_at-r.result c.left_at-l.ensures.0 c.right_at-r.ensures.0 c.spend-check.result.budget.left (check-one c.loop-i.b c.spend-check.result c.spend-check.ensures c.if-not-check.false) c.enter_joins.result c.enter_joins.ensures c.in-Full.is
 
 pub overflow_add-i : goal.overflow_add-i
 overflow_add-i c =
@@ -68,7 +68,7 @@ loop-i-smaller c =
 
 pub loop-i-preserved : goal.loop-i-preserved
 loop-i-preserved c =
-    (turning-on (limits_of c.args.lim) (tables_of c.args.s.now) c.args.im.classes c.loop-i.invariant.0 c.loop-i-test.true c.left_at-l.result c.right_at-r.result c.left_at-l.ensures.0 c.right_at-r.ensures.0 c.spend-check.result.budget.left (check-one c.loop-i.b c.spend-check.result c.spend-check.ensures (ap not c.if-not-check.false)) c.requires.1 c.passed_over-skipped.result c.passed_over-skipped.ensures c.enter_joins.result c.enter_joins.ensures c.in-To.is, omega (arith, c.loop-i.invariant.1, c.enter_joins.auto))
+    (turning-on (limits_of c.args.lim) (tables_of c.args.s.now) c.args.im.classes c.loop-i.invariant.0 c.loop-i-test.true c.left_at-l.result c.right_at-r.result c.left_at-l.ensures.0 c.right_at-r.ensures.0 c.spend-check.result.budget.left (check-one c.loop-i.b c.spend-check.result c.spend-check.ensures c.if-not-check.false) c.requires.1 c.passed_over-skipped.result c.passed_over-skipped.ensures c.enter_joins.result c.enter_joins.ensures c.in-To.is, omega (arith, c.loop-i.invariant.1, c.enter_joins.auto))
 
 pub returns : goal.returns
 returns c =

@@ -1,18 +1,12 @@
-use Prim.Native.Nat.{◌+◌, ◌-◌, ◌<◌, ◌≤◌}
+use Prim.Native.Nat.{◌-◌, ◌≤◌}
 use Rattle.actions.specs.Place.{action_at}
 use Rattle.arrays.specs.Arrays.{pairs_in}
-use Rattle.entering.specs.GrowLaws.{going_end, going-full, going_on, going-small, going_start}
 use Rattle.entering.specs.Growing.{Going}
-use Rattle.graph.specs.JoinLaws.{pair_end, pair-next}
 use Rattle.query.specs.Settings.{limits_of}
 use Rattle.spec.specs.Graph.{enter_all}
 use Rattle.spec.specs.Image.{tables_of}
-use Rattle.spec.specs.Meaning.{here}
 use lib.ListN.{drop, length}
-use mathlib.Core.List.{[], ◌∷◌}
-use mathlib.Core.Path.{◌≡◌, refl}
-use native.Mathlib.Omega.{arith}
-use borrow.Author.Rules.{rules}
+use mathlib.Core.Path.{◌≡◌}
 use Rattle.graph.proofs.enter_action.Given as goal
 
 abbrev pub invariant-loop-k : goal.invariant-loop-k

@@ -1,20 +1,13 @@
-use Rattle.actions.specs.Place.{action_at, after_of}
 use Rattle.enumeration.specs.Remaining.{list_from}
-use Rattle.enumeration.specs.SeekLaws.{found-fewer, found-stands, start-list}
-use Rattle.actions.specs.declared.State.{State}
 use Rattle.arrays.specs.Arrays.{pairs_in}
-use Rattle.entering.specs.GrowLaws.{going_end, going-full, going_on, going-same, going-small, going_start}
 use Rattle.entering.specs.Growing.{Going}
-use Rattle.graph.specs.JoinLaws.{actions-end, actions-next, pairs_of, structural-small}
-use Rattle.image.specs.Loaded.{classes-many}
+use Rattle.graph.specs.JoinLaws.{pairs_of}
 use Rattle.query.specs.Settings.{limits_of}
 use Rattle.spec.specs.Action.{structural}
 use Rattle.spec.specs.Graph.{enter_all}
 use Rattle.spec.specs.Image.{tables_of}
 use lib.ListN.{length}
-use mathlib.Core.Path.{◌≡◌, ap, refl, sym}
-use native.Mathlib.Omega.{arith}
-use borrow.Author.Rules.{rules}
+use mathlib.Core.Path.{◌≡◌}
 use Rattle.graph.proofs.enter_actions.Given as goal
 
 abbrev pub invariant-loop-w : goal.invariant-loop-w

@@ -1,17 +1,11 @@
-use Prim.Native.Nat.{◌+◌, ◌-◌, ◌≤◌}
+use Prim.Native.Nat.{◌+◌}
 use Rattle.monomial_terms.specs.Terms.{held}
-use Rattle.arrays.specs.Arrays.{pairs_in}
 use Rattle.entering.specs.GrowLaws.{going_end, going-full, going_on, going-same, going-small, going_start}
-use Rattle.entering.specs.Growing.{Going}
 use Rattle.graph.specs.JoinLaws.{cells-end, cells-next, cells-start, cells_from, row_from}
-use Rattle.query.specs.Settings.{limits_of}
 use Rattle.spec.specs.Action.{cell_pairs}
-use Rattle.spec.specs.Graph.{enter_all}
 use Rattle.spec.specs.Monomial.{pair_of}
-use lib.ListN.{length}
-use mathlib.Core.Path.{◌≡◌, refl}
+use mathlib.Core.Path.{refl}
 use native.Mathlib.Omega.{arith}
-use borrow.Author.Rules.{rules}
 use Rattle.graph.proofs.enter_cells.Goals as goal
 
 pub loop-i-init : goal.loop-i-init

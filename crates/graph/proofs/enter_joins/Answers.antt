@@ -4,7 +4,6 @@ use Rattle.image.specs.Loaded.{classes-many}
 use Rattle.spec.specs.Action.{joins, structural, transports}
 use Rattle.spec.specs.Image.{tables_of}
 use native.Mathlib.Omega.{arith}
-use borrow.Author.Rules.{rules}
 use Rattle.graph.proofs.enter_joins.Goals as goal
 
 pub enter_transports-requires : goal.enter_transports-requires

@@ -1,16 +1,10 @@
-use Prim.Native.Nat.{◌+◌, ◌-◌, ◌≤◌}
-use Rattle.arrays.specs.Arrays.{pairs_in}
+use Prim.Native.Nat.{◌+◌}
 use Rattle.entering.specs.GrowLaws.{going_end, going-full, going_on, going-small, going_start}
-use Rattle.entering.specs.Growing.{Going}
 use Rattle.graph.specs.JoinLaws.{row-end, row_next, row_from}
-use Rattle.query.specs.Settings.{limits_of}
-use Rattle.spec.specs.Graph.{enter_all}
 use Rattle.spec.specs.Meaning.{here}
-use lib.ListN.{length}
 use mathlib.Core.List.{[], ◌∷◌}
-use mathlib.Core.Path.{◌≡◌, refl}
+use mathlib.Core.Path.{refl}
 use native.Mathlib.Omega.{arith}
-use borrow.Author.Rules.{rules}
 use Rattle.graph.proofs.enter_row.Goals as goal
 
 pub loop-j-init : goal.loop-j-init

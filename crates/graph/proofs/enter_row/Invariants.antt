@@ -1,16 +1,11 @@
-use Prim.Native.Nat.{◌+◌, ◌-◌, ◌≤◌}
+use Prim.Native.Nat.{◌-◌, ◌≤◌}
 use Rattle.arrays.specs.Arrays.{pairs_in}
-use Rattle.entering.specs.GrowLaws.{going_end, going-full, going_on, going-small, going_start}
 use Rattle.entering.specs.Growing.{Going}
-use Rattle.graph.specs.JoinLaws.{row-end, row_next, row_from}
+use Rattle.graph.specs.JoinLaws.{row_from}
 use Rattle.query.specs.Settings.{limits_of}
 use Rattle.spec.specs.Graph.{enter_all}
-use Rattle.spec.specs.Meaning.{here}
 use lib.ListN.{length}
-use mathlib.Core.List.{[], ◌∷◌}
-use mathlib.Core.Path.{◌≡◌, refl}
-use native.Mathlib.Omega.{arith}
-use borrow.Author.Rules.{rules}
+use mathlib.Core.Path.{◌≡◌}
 use Rattle.graph.proofs.enter_row.Given as goal
 
 abbrev pub invariant-loop-j : goal.invariant-loop-j

@@ -4,7 +4,6 @@ use Rattle.graph.specs.JoinLaws.{cells_of, transport-few, transport-none, transp
 use Rattle.spec.specs.Image.{tables_of}
 use mathlib.Core.List.{[], append-nil}
 use mathlib.Core.Path.{◌∙◌}
-use borrow.Author.Rules.{rules}
 use Rattle.graph.proofs.enter_transport.Goals as goal
 
 pub enter_cells-requires : goal.enter_cells-requires

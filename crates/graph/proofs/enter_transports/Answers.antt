@@ -1,21 +1,16 @@
 use Prim.Native.Nat.{◌<◌}
 use Rattle.ac_monomials.specs.Transports.{actions_left}
-use Rattle.ac_repr.specs.Walk.{Within, after_of, walks}
+use Rattle.ac_repr.specs.Walk.{after_of, walks}
 use Rattle.ac_monomials.specs.Actions.{actions_at}
-use Rattle.arrays.specs.Arrays.{pairs_in}
 use Rattle.entering.specs.GrowLaws.{going_end, going-full, going_on, going-same, going-small, going_start}
-use Rattle.entering.specs.Growing.{Going}
-use Rattle.graph.specs.JoinLaws.{cells_of, transports-end, transports-first, transports-later, transports-small, transports-start, walks-fewer, walks_left, within-here}
+use Rattle.graph.specs.JoinLaws.{cells_of, transports-end, transports-first, transports-later, transports-small, transports-start, walks-fewer, within-here}
 use Rattle.image.specs.Loaded.{classes-many, operations-many}
-use Rattle.query.specs.Settings.{limits_of}
 use Rattle.spec.specs.Action.{transports}
 use Rattle.spec.specs.Bytes.{each}
-use Rattle.spec.specs.Graph.{enter_all}
 use Rattle.spec.specs.Image.{tables_of}
 use lib.ListN.{length}
-use mathlib.Core.Path.{◌≡◌, refl}
+use mathlib.Core.Path.{refl}
 use native.Mathlib.Omega.{arith}
-use borrow.Author.Rules.{rules}
 use Rattle.graph.proofs.enter_transports.Goals as goal
 
 pub loop-x-init : goal.loop-x-init

@@ -1,7 +1,6 @@
 use Rattle.skips.specs.Large.{nothing-large}
 use Rattle.spec.specs.Image.{tables_of}
 use mathlib.Core.Path.{sym, ◌∙◌}
-use borrow.Author.Rules.{rules}
 use Rattle.graph.proofs.passed_over.Goals as goal
 
 pub returns : goal.returns

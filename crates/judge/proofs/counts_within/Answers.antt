@@ -2,7 +2,6 @@ use mathlib.Core.Path.{ap}
 use mathlib.Core.Bool.{not}
 use Rattle.judge.proofs.VerdictLaws.{operations-out, classes-out, members-out, children-left}
 use Rattle.laws.specs.AcceptedTurns.{failed, passed}
-use borrow.Author.Rules.{rules}
 use Rattle.judge.proofs.counts_within.Goals as goal
 
 pub returns-then-not-within : goal.returns-then-not-within

@@ -1,5 +1,4 @@
 use Rattle.judge.proofs.VerdictLaws.{header_is}
-use borrow.Author.Rules.{rules}
 use Rattle.judge.proofs.header.Goals as goal
 
 pub returns : goal.returns

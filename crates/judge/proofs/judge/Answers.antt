@@ -6,7 +6,6 @@ use Rattle.spec.specs.Image.{image_of, tables_of, tables_rules}
 use Rattle.laws.specs.AcceptedTurns.{failed, passed}
 use native.Mathlib.Omega.{arith}
 use mathlib.Core.Path.{◌≡◌, refl, sym, ap, ◌∙◌}
-use borrow.Author.Rules.{rules}
 use Rattle.judge.proofs.judge.Goals as goal
 
 pub returns-then-s-lt-HEADER : goal.returns-then-s-lt-HEADER

@@ -9,7 +9,6 @@ use Rattle.laws.specs.AcceptedRules.{spans-rule, children-rule}
 use Rattle.spec.specs.Image.{tables_of}
 use native.Mathlib.Omega.{arith}
 use mathlib.Core.Path.{ap, ◌∙◌}
-use borrow.Author.Rules.{rules}
 use Rattle.judge.proofs.tables.Goals as goal
 
 pub returns-then-not-operations_right : goal.returns-then-not-operations_right

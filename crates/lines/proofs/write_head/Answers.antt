@@ -1,6 +1,5 @@
 use Rattle.spec.specs.Bytes.{text}
 use Rattle.lines.specs.PieceWriting.{lit-first, lit-second, lit-wrote, variants-room, variants-wrote, op_room, op-wrote}
-use borrow.Author.Rules.{rules}
 use Rattle.lines.proofs.write_head.Goals as goal
 
 pub labelled-a-requires : goal.labelled-a-requires

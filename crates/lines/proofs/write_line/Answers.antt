@@ -1,8 +1,6 @@
-use Rattle.spec.specs.Bytes.{text, decimal}
 use Rattle.widths.specs.WidthLaws.{line-few, line-term, line-rises, line-within, line-named}
 use Rattle.lines.specs.LineWriting.{number-room, head-room, runs-room, feed-room, line_wrote}
 use native.Mathlib.Omega.{arith}
-use borrow.Author.Rules.{rules}
 use Rattle.lines.proofs.write_line.Goals as goal
 
 pub first-from-requires : goal.first-from-requires

@@ -1,8 +1,7 @@
 use Rattle.widths.specs.WidthLaws.{lines_cons, lines-nil}
 use Rattle.widths.specs.Lines.{line_in, lines_in}
-use Rattle.decimals.specs.WriteLaws.{Left, left-start, left-turn, left_end, left-room}
-use borrow.Author.Rules.{rules}
-use Prim.Native.Nat.{◌≤◌, ◌-◌, ◌+◌}
+use Rattle.decimals.specs.WriteLaws.{left-start, left-turn, left_end, left-room}
+use Prim.Native.Nat.{◌-◌, ◌+◌}
 use native.Mathlib.Omega.{arith}
 use mathlib.Core.Path.{◌≡◌}
 use Rattle.lines.proofs.write_lines.Goals as goal

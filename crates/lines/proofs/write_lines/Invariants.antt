@@ -1,10 +1,6 @@
-use Rattle.widths.specs.WidthLaws.{lines_cons, lines-nil}
-use Rattle.widths.specs.Lines.{line_in, lines_in}
-use Rattle.decimals.specs.WriteLaws.{Left, left-start, left-turn, left_end, left-room}
-use borrow.Author.Rules.{rules}
-use Prim.Native.Nat.{◌≤◌, ◌-◌, ◌+◌}
-use native.Mathlib.Omega.{arith}
-use mathlib.Core.Path.{◌≡◌}
+use Rattle.widths.specs.Lines.{lines_in}
+use Rattle.decimals.specs.WriteLaws.{Left}
+use Prim.Native.Nat.{◌≤◌, ◌-◌}
 use Rattle.lines.proofs.write_lines.Given as goal
 
 abbrev pub invariant-loop-k : goal.invariant-loop-k

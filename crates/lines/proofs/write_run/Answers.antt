@@ -1,6 +1,5 @@
 use Rattle.spec.specs.Bytes.{text}
 use Rattle.lines.specs.PieceWriting.{run-first, run-second, run-wrote}
-use borrow.Author.Rules.{rules}
 use Rattle.lines.proofs.write_run.Goals as goal
 
 pub number_of-requires : goal.number_of-requires

@@ -1,8 +1,7 @@
 use Rattle.widths.specs.WidthLaws.{runs-cons, runs-nil}
 use Rattle.widths.specs.Lines.{run_in, runs_in}
-use Rattle.decimals.specs.WriteLaws.{Left, left-start, left-turn, left_end, left-room}
-use borrow.Author.Rules.{rules}
-use Prim.Native.Nat.{◌≤◌, ◌-◌, ◌+◌}
+use Rattle.decimals.specs.WriteLaws.{left-start, left-turn, left_end, left-room}
+use Prim.Native.Nat.{◌-◌, ◌+◌}
 use native.Mathlib.Omega.{arith}
 use lib.ListN.{get_or}
 use Rattle.lines.proofs.write_runs.Goals as goal

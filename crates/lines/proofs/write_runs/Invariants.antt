@@ -1,10 +1,6 @@
-use Rattle.widths.specs.WidthLaws.{runs-cons, runs-nil}
-use Rattle.widths.specs.Lines.{run_in, runs_in}
-use Rattle.decimals.specs.WriteLaws.{Left, left-start, left-turn, left_end, left-room}
-use borrow.Author.Rules.{rules}
-use Prim.Native.Nat.{◌≤◌, ◌-◌, ◌+◌}
-use native.Mathlib.Omega.{arith}
-use lib.ListN.{get_or}
+use Rattle.widths.specs.Lines.{runs_in}
+use Rattle.decimals.specs.WriteLaws.{Left}
+use Prim.Native.Nat.{◌≤◌, ◌-◌}
 use Rattle.lines.proofs.write_runs.Given as goal
 
 abbrev pub invariant-loop-i : goal.invariant-loop-i

@@ -1,17 +1,9 @@
-use native.Mathlib.Nat.{not-suc-le-zero}
 use Rattle.spec.specs.Image.{tables_of}
 use Rattle.image.specs.Loaded.{the_child}
 use Rattle.op_terms.specs.Members.{kept_number}
-use Rattle.op_terms.specs.MemberRuns.{fill-turn}
-use borrow.Author.Rules.{rules}
-use borrow.Author.Tests.{lt-ltb, le-ltb, le-leb, lt-leb, eq-eqb, ne_eqb}
-use Prim.Native.Nat.{ℕ, zero, suc, ◌≤◌, ◌<◌, ◌-◌, ◌+◌, ◌*◌, ◌^◌}
-use native.Mathlib.Omega.{arith}
-use native.Mathlib.Numerals.{add-one}
-use mathlib.Core.Path.{◌≡◌, refl, ap, sym, ◌∙◌}
-use mathlib.Core.Logic.{⊎_elim}
-use mathlib.Core.List.{List, [], ◌∷◌, ◌++◌, append-nil}
-use lib.ListN.{length, take, drop, get_or, set, length-set, length-take, length-drop, length-append, drop_of_length-le}
+use Prim.Native.Nat.{ℕ, ◌≤◌, ◌<◌, ◌-◌, ◌+◌, ◌^◌}
+use mathlib.Core.Path.{◌≡◌}
+use lib.ListN.{length, get_or}
 use Rattle.op_terms.proofs.kept_runs.Given as goal
 
 abbrev pub invariant-loop-i : goal.invariant-loop-i

@@ -8,7 +8,6 @@ use Rattle.op_terms.specs.Members.{kept_run}
 use Rattle.joining.specs.JoinLaws.{begins-fits}
 use Rattle.op_terms.specs.MemberRuns.{ready, kept-light, kept-valid, joined-light, kept-node, gives_of}
 use native.Mathlib.Omega.{arith}
-use borrow.Author.Rules.{rules}
 use Rattle.op_terms.proofs.op_term.Goals as goal
 
 pub kept_runs-requires : goal.kept_runs-requires

@@ -5,7 +5,6 @@ use Rattle.plan_offer.specs.Sums.{add_units}
 use borrow.Author.Tests.{eq-eqb, ne_eqb}
 use Prim.Native.Nat.{ℕ}
 use mathlib.Core.Path.{refl, ap, ◌∙◌}
-use borrow.Author.Rules.{rules}
 use Rattle.plan_offer.proofs.add_cell.Goals as goal
 
 pub returns-then-x-eq0 : goal.returns-then-x-eq0

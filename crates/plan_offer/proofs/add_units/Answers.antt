@@ -1,7 +1,6 @@
 use Rattle.plan_offer.specs.Sums.{add_units, product-fits}
 use Prim.Native.Nat.{ℕ}
 use mathlib.Core.Path.{ap, ◌∙◌}
-use borrow.Author.Rules.{rules}
 use Rattle.plan_offer.proofs.add_units.Goals as goal
 
 pub overflow_mul-x : goal.overflow_mul-x

@@ -1,7 +1,6 @@
 use mathlib.Core.Path.{ap, sym, ◌∙◌}
 use Prim.Native.Nat.{◌<◌, ◌^◌}
 use native.Mathlib.Omega.{arith}
-use borrow.Author.Rules.{rules}
 use Rattle.spec.specs.Round.{better}
 use Rattle.spec.specs.Bytes.{Two}
 use Rattle.plan_offer.specs.Better.{high-not, low-not, words-one, better-words, false-true}

@@ -1,9 +1,8 @@
 use Rattle.spec.specs.Action.{cell_pairs}
 use Rattle.arrays.specs.Arrays.{term_in}
 use Rattle.cells.specs.Cells.{sides_of, cells-few, cell-count}
-use Rattle.plan_offer.specs.Listing.{Listed, listed-none, listed_more, listed-many, listed-all}
-use borrow.Author.Rules.{rules}
-use Prim.Native.Nat.{◌≤◌, ◌-◌}
+use Rattle.plan_offer.specs.Listing.{listed-none, listed_more, listed-many, listed-all}
+use Prim.Native.Nat.{◌≤◌}
 use native.Mathlib.Omega.{arith}
 use mathlib.Core.Path.{refl, sym, ◌∙◌}
 use lib.ListN.{length, get_or}

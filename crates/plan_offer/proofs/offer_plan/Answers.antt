@@ -3,7 +3,6 @@ use Rattle.arrays.specs.ArrayLaws.{known-low}
 use Rattle.cells.specs.Cells.{sides_of}
 use Rattle.plan_offer.specs.Plans.{action_of}
 use Rattle.plan_offer.specs.PlanLaws.{mass-le, plan-kept, plan-replaced}
-use borrow.Author.Rules.{rules}
 use Rattle.plan_offer.proofs.offer_plan.Goals as goal
 
 pub cheaper-requires : goal.cheaper-requires

@@ -2,12 +2,10 @@ use Rattle.spec.specs.Action.{cell_pairs}
 use Rattle.arrays.specs.Arrays.{quality_in}
 use Rattle.cells.specs.Cells.{sides_of, cells-few}
 use Rattle.cells.specs.Problem.{problem_at, problem-many, problem-at}
-use Rattle.plan_offer.specs.Sums.{Summed, summed-none, summed-more, summed-all}
-use borrow.Author.Rules.{rules}
-use Prim.Native.Nat.{◌≤◌, ◌-◌}
+use Rattle.plan_offer.specs.Sums.{summed-none, summed-more, summed-all}
 use native.Mathlib.Omega.{arith}
 use mathlib.Core.Path.{refl, sym, ◌∙◌}
-use lib.ListN.{length, get_or}
+use lib.ListN.{get_or}
 use Rattle.plan_offer.proofs.plan_totals.Goals as goal
 
 pub loop-k-init : goal.loop-k-init

@@ -1,13 +1,9 @@
-use Rattle.spec.specs.Action.{cell_pairs}
 use Rattle.arrays.specs.Arrays.{quality_in}
-use Rattle.cells.specs.Cells.{sides_of, cells-few}
-use Rattle.cells.specs.Problem.{problem_at, problem-many, problem-at}
-use Rattle.plan_offer.specs.Sums.{Summed, summed-none, summed-more, summed-all}
-use borrow.Author.Rules.{rules}
+use Rattle.cells.specs.Cells.{sides_of}
+use Rattle.cells.specs.Problem.{problem_at}
+use Rattle.plan_offer.specs.Sums.{Summed}
 use Prim.Native.Nat.{◌≤◌, ◌-◌}
-use native.Mathlib.Omega.{arith}
-use mathlib.Core.Path.{refl, sym, ◌∙◌}
-use lib.ListN.{length, get_or}
+use lib.ListN.{length}
 use Rattle.plan_offer.proofs.plan_totals.Given as goal
 
 abbrev pub invariant-loop-k : goal.invariant-loop-k

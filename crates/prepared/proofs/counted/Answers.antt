@@ -1,9 +1,8 @@
 use Rattle.prepared.specs.declared.Begun.{Begun}
 use Rattle.prepared.specs.declared.Begun.TheVariants.{All}
 use Rattle.prepared.specs.Pairs.{counted_as}
-use Prim.Native.Nat.{ℕ, ◌-◌}
+use Prim.Native.Nat.{ℕ}
 use mathlib.Core.Path.{ap, sym, ◌∙◌}
-use borrow.Author.Rules.{rules}
 use Rattle.prepared.proofs.counted.Goals as goal
 
 pub returns-in-Stopped : goal.returns-in-Stopped

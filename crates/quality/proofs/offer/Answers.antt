@@ -6,7 +6,6 @@ use Rattle.spec.specs.Round.{better}
 use Prim.Native.Nat.{ℕ}
 use mathlib.Core.Bool.{Bool}
 use mathlib.Core.Path.{◌≡◌, sym, ◌∙◌}
-use borrow.Author.Rules.{rules}
 use Rattle.quality.proofs.offer.Goals as goal
 
 offer-by : {y : Two} {size mass : ℕ} {c : Bool} (v : State) (b : Best) → (size, mass) ≡ y → c ≡ better (size, mass) (b.size, b.mass)

@@ -1,11 +1,8 @@
 use Rattle.arrays.specs.Arrays.{quality_in}
-use Rattle.quality.specs.Sums.{Summed, summed-none, summed-more, summed-all}
+use Rattle.quality.specs.Sums.{Summed}
 use Rattle.actions.specs.Place.{action_at}
 use Rattle.spec.specs.Image.{tables_of}
 use Prim.Native.Nat.{◌-◌}
-use native.Mathlib.Omega.{arith}
-use mathlib.Core.Path.{◌∙◌}
-use borrow.Author.Rules.{rules}
 use Rattle.quality.proofs.structural_quality.Given as goal
 
 abbrev pub invariant-loop-k : goal.invariant-loop-k

@@ -48,7 +48,7 @@ pub returns-then-not-sp : goal.returns-then-not-sp
 returns-then-not-sp c =
     let a = c.args in
     let l = c.loop-lim in
-    run-expired (limits_of a.lim) (tables_of a.s.now) (pairs_in a.im.classes a.graph.now a.n) a.n c.requires.2.many c.requires.2.some a.graph.now c.requires.4 (rounds_of (limits_of a.lim) (tables_of a.s.now) (pairs_in a.im.classes a.graph.now a.n) (state_in a.pairs.now a.terms.now a.runs.now a.n 0 a.b.left a.budget)) l.pairs l.terms l.runs a.budget l.rounds l.bud.left l.invariant.6 c.reported.result c.reported.ensures (expired l.bud c.spend-sp.result c.spend-sp.ensures (ap not c.if-not-sp.true))
+    run-expired (limits_of a.lim) (tables_of a.s.now) (pairs_in a.im.classes a.graph.now a.n) a.n c.requires.2.many c.requires.2.some a.graph.now c.requires.4 (rounds_of (limits_of a.lim) (tables_of a.s.now) (pairs_in a.im.classes a.graph.now a.n) (state_in a.pairs.now a.terms.now a.runs.now a.n 0 a.b.left a.budget)) l.pairs l.terms l.runs a.budget l.rounds l.bud.left l.invariant.6 c.reported.result c.reported.ensures (expired l.bud c.spend-sp.result c.spend-sp.ensures c.if-not-sp.true)
 
 pub relax_all-x-requires : goal.relax_all-x-requires
 relax_all-x-requires c =
@@ -62,7 +62,7 @@ after_round-y-requires c =
     let l = c.loop-lim in
     let sp = c.spend-sp in
     let r = c.relax_all-x in
-    let z = spent l.bud sp.result sp.ensures (ap not c.if-not-sp.false) in
+    let z = spent l.bud sp.result sp.ensures c.if-not-sp.false in
     (omega (arith, l.invariant.6.long, r.auto, c.requires.2.some), round-within (limits_of a.lim) (tables_of a.s.now) (pairs_in a.im.classes a.graph.now a.n) a.n c.requires.2.many c.requires.2.some a.graph.now c.requires.4 (rounds_of (limits_of a.lim) (tables_of a.s.now) (pairs_in a.im.classes a.graph.now a.n) (state_in a.pairs.now a.terms.now a.runs.now a.n 0 a.b.left a.budget)) l.pairs l.terms l.runs a.budget l.rounds l.bud.left l.invariant.6 sp.result.budget.left z _ _ _ r.result r.ensures)
 
 pub shape_of-pairs-in-Ended : goal.shape_of-pairs-in-Ended
@@ -86,7 +86,7 @@ returns-in-Ended c =
     let l = c.loop-lim in
     let sp = c.spend-sp in
     let r = c.relax_all-x in
-    let z = spent l.bud sp.result sp.ensures (ap not c.if-not-sp.false) in
+    let z = spent l.bud sp.result sp.ensures c.if-not-sp.false in
     round-ended (limits_of a.lim) (tables_of a.s.now) (pairs_in a.im.classes a.graph.now a.n) a.n c.requires.2.many c.requires.2.some a.graph.now c.requires.4 (rounds_of (limits_of a.lim) (tables_of a.s.now) (pairs_in a.im.classes a.graph.now a.n) (state_in a.pairs.now a.terms.now a.runs.now a.n 0 a.b.left a.budget)) l.pairs l.terms l.runs a.budget l.rounds l.bud.left l.invariant.6 sp.result.budget.left z _ _ _ r.result r.ensures c.after_round-y.result c.after_round-y.ensures c.in-Ended.z c.in-Ended.is
 
 pub end_round-requires : goal.end_round-requires
@@ -100,7 +100,7 @@ overflow_add-rounds c =
     let l = c.loop-lim in
     let sp = c.spend-sp in
     let r = c.relax_all-x in
-    let z = spent l.bud sp.result sp.ensures (ap not c.if-not-sp.false) in
+    let z = spent l.bud sp.result sp.ensures c.if-not-sp.false in
     record { fits = omega (arith, z, l.invariant.5, c.well-formed) }
 
 pub loop-lim-smaller : goal.loop-lim-smaller
@@ -109,7 +109,7 @@ loop-lim-smaller c =
     let l = c.loop-lim in
     let sp = c.spend-sp in
     let r = c.relax_all-x in
-    let z = spent l.bud sp.result sp.ensures (ap not c.if-not-sp.false) in
+    let z = spent l.bud sp.result sp.ensures c.if-not-sp.false in
     let f = c.after_round-y in
     let d = c.in-Next.left in
     let q = after_next r.result _ a.n l.rounds a.budget f.result f.ensures d c.in-Next.is in
@@ -121,7 +121,7 @@ loop-lim-preserved c =
     let l = c.loop-lim in
     let sp = c.spend-sp in
     let r = c.relax_all-x in
-    let z = spent l.bud sp.result sp.ensures (ap not c.if-not-sp.false) in
+    let z = spent l.bud sp.result sp.ensures c.if-not-sp.false in
     let f = c.after_round-y in
     let d = c.in-Next.left in
     let q = after_next r.result _ a.n l.rounds a.budget f.result f.ensures d c.in-Next.is in

@@ -139,7 +139,7 @@ returns-in-Full c =
     let sp = c.spend_many-sp in
     let p = pair-at (tables_of a.s.now) a.im.classes a.graph.now a.n l.k h la.result ra.result la.ensures.0 ra.ensures.0 in
     let z = visits-full c.visit-x.result c.visit-x.ensures c.in-Full.is in
-    let e : l.bud.left ≡ sp.result.budget.left + 1 = omega (arith, c.due.ensures, due-live l.k c.next_live-j.result (omega (arith, c.if-k-j.false)), enough c.due.result l.bud sp.result sp.ensures (ap not c.if-not-sp.false)) in
+    let e : l.bud.left ≡ sp.result.budget.left + 1 = omega (arith, c.due.ensures, due-live l.k c.next_live-j.result (omega (arith, c.if-k-j.false)), enough c.due.result l.bud sp.result sp.ensures c.if-not-sp.false) in
     turn-refused (limits_of a.lim) (tables_of a.s.now) (pairs_in a.im.classes a.graph.now a.n) (state_in a.pairs.now a.terms.now a.runs.now a.n 0 0 0) (round_at (limits_of a.lim) (tables_of a.s.now) (pairs_in a.im.classes a.graph.now a.n) (state_in a.pairs.now a.terms.now a.runs.now a.n 0 0 0) a.b.left) l.pairs l.terms l.runs l.k l.bud.left l.changed (omega (arith, n, h)) l.invariant.6 a.im.classes a.graph.now (graphs-length (limits_of a.lim) (tables_of a.s.now) a.im.classes (pairs_in a.im.classes a.graph.now a.n) a.n a.graph.now c.requires.2) (la.result, ra.result) p sp.result.budget.left z.0 e z.1
 
 pub overflow_add-k : goal.overflow_add-k
@@ -160,7 +160,7 @@ loop-k-preserved c =
     let sp = c.spend_many-sp in
     let p = pair-at (tables_of a.s.now) a.im.classes a.graph.now a.n l.k h la.result ra.result la.ensures.0 ra.ensures.0 in
     let z = visits-to v.result v.ensures _ c.in-To.is in
-    let e : l.bud.left ≡ sp.result.budget.left + 1 = omega (arith, c.due.ensures, due-live l.k c.next_live-j.result (omega (arith, c.if-k-j.false)), enough c.due.result l.bud sp.result sp.ensures (ap not c.if-not-sp.false)) in (
+    let e : l.bud.left ≡ sp.result.budget.left + 1 = omega (arith, c.due.ensures, due-live l.k c.next_live-j.result (omega (arith, c.if-k-j.false)), enough c.due.result l.bud sp.result sp.ensures c.if-not-sp.false) in (
       omega (arith, h),
       omega (arith, l.invariant.1, v.auto),
       omega (arith, l.invariant.2, v.auto),

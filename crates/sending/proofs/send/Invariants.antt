@@ -1,11 +1,7 @@
-use Rattle.search_laws.specs.PathLaws.{step-here, steps_next, sent-turn, sent-end, sent-more, room_next, room-here, room-first}
 use Rattle.search_laws.specs.Walk.{here, LAST}
 use Rattle.search_laws.specs.Path.{Steps, sent}
-use borrow.Author.Rules.{rules}
 use Prim.Native.Nat.{ℕ, ◌≤◌, ◌<◌, ◌-◌, ◌+◌, ◌*◌, ◌^◌}
-use native.Mathlib.Omega.{arith}
-use mathlib.Core.Path.{◌≡◌, refl, ap, sym, ◌∙◌}
-use mathlib.Core.List.{List}
+use mathlib.Core.Path.{◌≡◌}
 use lib.ListN.{length, get_or}
 use Rattle.sending.proofs.send.Given as goal
 

@@ -1,8 +1,6 @@
-use Rattle.skipped.proofs.Sums.{Counted, counted_start, counted-more, counted-end}
+use Rattle.skipped.proofs.Sums.{counted_start, counted-more, counted-end}
 use Rattle.spec.specs.Image.{tables_of}
 use Rattle.image.specs.Loaded.{children-many}
-use borrow.Author.Rules.{rules}
-use Prim.Native.Nat.{◌≤◌, ◌-◌, ◌*◌}
 use native.Mathlib.Omega.{arith}
 use Rattle.skipped.proofs.is_large.Goals as goal
 

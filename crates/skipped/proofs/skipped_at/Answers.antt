@@ -1,8 +1,6 @@
-use Rattle.skipped.proofs.Sums.{Upto, upto-start, upto-rises, upto-more, upto-end, self-none}
+use Rattle.skipped.proofs.Sums.{upto-start, upto-rises, upto-more, upto-end, self-none}
 use Rattle.spec.specs.Image.{tables_of}
 use Rattle.image.specs.Loaded.{operations-many}
-use borrow.Author.Rules.{rules}
-use Prim.Native.Nat.{◌-◌}
 use native.Mathlib.Omega.{arith}
 use mathlib.Core.Path.{sym}
 use Rattle.skipped.proofs.skipped_at.Goals as goal

@@ -1,10 +1,7 @@
-use Rattle.skipped_under.proofs.Terms.{count-stop, count-more, count-end}
 use Rattle.monomial_terms.specs.Terms.{held}
 use Rattle.skips.specs.Facts.{count_at}
-use borrow.Author.Rules.{rules}
 use Prim.Native.Nat.{◌-◌}
-use native.Mathlib.Omega.{arith}
-use mathlib.Core.Path.{◌≡◌, refl}
+use mathlib.Core.Path.{◌≡◌}
 use lib.ListN.{drop}
 use Rattle.skipped_under.proofs.count_of.Given as goal
 

@@ -4,7 +4,6 @@ use Rattle.laws.specs.AcceptedUses.{members_within}
 use Rattle.image.specs.Loaded.{classes-many}
 use Rattle.ac_ops.specs.AcOps.{end_of}
 use Rattle.spec.specs.Image.{tables_of}
-use borrow.Author.Rules.{rules}
 use Prim.Native.Nat.{◌≤◌}
 use native.Mathlib.Omega.{arith}
 use lib.ListN.{length}

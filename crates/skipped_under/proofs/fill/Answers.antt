@@ -1,7 +1,6 @@
 use Rattle.skipped_under.proofs.Terms.{made-small, fill-held, fill-few}
 use Rattle.spec.specs.Image.{tables_of}
 use Rattle.monomial.specs.Places.{monomial_at}
-use borrow.Author.Rules.{rules}
 use native.Mathlib.Omega.{arith}
 use Rattle.skipped_under.proofs.fill.Goals as goal
 

@@ -1,14 +1,11 @@
-use Rattle.skipped_under.proofs.Places.{Walked, walk_start, place_is, walk-rises, walk_more, walk_end, span-few, told_none, told_more}
-use Rattle.skipped_under.specs.Told.{places_of, Told}
+use Rattle.skipped_under.proofs.Places.{walk_start, place_is, walk-rises, walk_more, walk_end, span-few, told_none, told_more}
+use Rattle.skipped_under.specs.Told.{places_of}
 use Rattle.spec.specs.Image.{tables_of}
 use Rattle.monomial.specs.Places.{monomial_at}
 use Rattle.ac_ops.specs.AcOps.{span-members, span-end, span-from}
 use Rattle.ac_repr.specs.Walk.{has_place}
-use borrow.Author.Rules.{rules}
-use Prim.Native.Nat.{suc, ◌-◌}
 use native.Mathlib.Omega.{arith}
-use mathlib.Core.Path.{◌≡◌, refl, ◌∙◌}
-use lib.ListN.{length}
+use mathlib.Core.Path.{refl, ◌∙◌}
 use Rattle.skipped_under.proofs.gather.Goals as goal
 
 pub next_place-x-requires : goal.next_place-x-requires

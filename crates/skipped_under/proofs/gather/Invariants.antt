@@ -1,13 +1,10 @@
-use Rattle.skipped_under.proofs.Places.{Walked, walk_start, place_is, walk-rises, walk_more, walk_end, span-few, told_none, told_more}
+use Rattle.skipped_under.proofs.Places.{Walked}
 use Rattle.skipped_under.specs.Told.{places_of, Told}
 use Rattle.spec.specs.Image.{tables_of}
 use Rattle.monomial.specs.Places.{monomial_at}
-use Rattle.ac_ops.specs.AcOps.{span-members, span-end, span-from}
 use Rattle.ac_repr.specs.Walk.{has_place}
-use borrow.Author.Rules.{rules}
 use Prim.Native.Nat.{suc, ◌-◌}
-use native.Mathlib.Omega.{arith}
-use mathlib.Core.Path.{◌≡◌, refl, ◌∙◌}
+use mathlib.Core.Path.{◌≡◌}
 use lib.ListN.{length}
 use Rattle.skipped_under.proofs.gather.Given as goal
 

@@ -1,7 +1,6 @@
 use Rattle.spec.specs.Image.{tables_of}
 use Rattle.monomial.specs.Places.{monomial_at}
 use Rattle.skipped_under.proofs.Terms.{made-small, put_is}
-use borrow.Author.Rules.{rules}
 use native.Mathlib.Omega.{arith}
 use Rattle.skipped_under.proofs.gather_place.Goals as goal
 

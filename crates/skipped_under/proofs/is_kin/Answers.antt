@@ -1,7 +1,6 @@
 use Rattle.monomial_terms.specs.Terms.{held}
 use Rattle.spec.specs.Bytes.{same_twos}
 use Rattle.spec.specs.Monomial.{Monomial}
-use borrow.Author.Rules.{rules}
 use mathlib.Core.Path.{ap, ◌∙◌}
 use Rattle.skipped_under.proofs.is_kin.Goals as goal
 

@@ -1,15 +1,12 @@
-use Rattle.skipped_under.proofs.Kins.{kin-test}
-use Rattle.laws.specs.Firsts.{first_from, turn-stop, turn_more, turn_end}
+use Rattle.laws.specs.Firsts.{first_from}
 use Rattle.spec.specs.Bytes.{same_twos}
 use Rattle.skips.specs.Facts.{filled}
 use Rattle.skipped_pairs.specs.Held.{place_in}
 use Rattle.spec.specs.Image.{tables_of}
 use Rattle.monomial.specs.Places.{monomial_at}
 use Rattle.skipped_under.specs.Told.{first_kin}
-use borrow.Author.Rules.{rules}
 use Prim.Native.Nat.{◌≤◌, ◌-◌}
-use native.Mathlib.Omega.{arith}
-use mathlib.Core.Path.{◌≡◌, refl, ◌∙◌}
+use mathlib.Core.Path.{◌≡◌}
 use Rattle.skipped_under.proofs.kin_of.Given as goal
 
 abbrev pub invariant-loop-k : goal.invariant-loop-k

@@ -1,6 +1,5 @@
 use Rattle.skipped_under.proofs.Terms.{count_fits, most-fits, most-fails}
 use Rattle.monomial_terms.specs.Terms.{held}
-use borrow.Author.Rules.{rules}
 use native.Mathlib.Omega.{arith}
 use mathlib.Core.Path.{sym, ◌∙◌}
 use Rattle.skipped_under.proofs.most_of.Goals as goal

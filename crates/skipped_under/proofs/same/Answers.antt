@@ -1,7 +1,4 @@
-use borrow.Author.Tests.{not-true, not-false}
-use Rattle.skipped_under.proofs.Terms.{same-lengths, Alike, same_stop, same_more, same_end}
-use borrow.Author.Rules.{rules}
-use Prim.Native.Nat.{◌-◌}
+use Rattle.skipped_under.proofs.Terms.{same-lengths, same_stop, same_more, same_end}
 use native.Mathlib.Omega.{arith}
 use mathlib.Core.Path.{refl}
 use Rattle.skipped_under.proofs.same.Goals as goal

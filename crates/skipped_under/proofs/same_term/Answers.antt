@@ -1,6 +1,5 @@
 use Rattle.monomial_terms.specs.Terms.{terms}
 use Rattle.skipped_under.proofs.Terms.{term-class, term-count}
-use borrow.Author.Rules.{rules}
 use lib.ListN.{get_or}
 use Rattle.skipped_under.proofs.same_term.Goals as goal
 

@@ -1,11 +1,8 @@
-use Rattle.skipped_under.proofs.Kins.{told-kin}
 use Rattle.spec.specs.Image.{tables_of}
 use Rattle.monomial.specs.Places.{monomial_at}
 use Rattle.skipped_under.specs.Told.{KinsTold}
-use borrow.Author.Rules.{rules}
 use Prim.Native.Nat.{◌≤◌, ◌-◌}
-use native.Mathlib.Omega.{arith}
-use mathlib.Core.Path.{◌≡◌, refl, ◌∙◌}
+use mathlib.Core.Path.{◌≡◌}
 use lib.ListN.{length}
 use Rattle.skipped_under.proofs.set_kins.Given as goal
 

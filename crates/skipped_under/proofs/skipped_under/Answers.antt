@@ -2,7 +2,6 @@ use Rattle.skipped_under.proofs.Under.{under-is}
 use Rattle.spec.specs.Image.{tables_of}
 use Rattle.image.specs.Loaded.{classes-many}
 use Rattle.skipped_pairs.specs.Held.{facts_in}
-use borrow.Author.Rules.{rules}
 use Rattle.skipped_under.proofs.skipped_under.Goals as goal
 
 pub returns : goal.returns

@@ -1,5 +1,4 @@
 use Rattle.skipped_under.proofs.Terms.{count-here, count-not}
-use borrow.Author.Rules.{rules}
 use Rattle.skipped_under.proofs.term_count.Goals as goal
 
 pub returns-then-class_at-c : goal.returns-then-class_at-c

@@ -1,7 +1,7 @@
-use Rattle.tracing.proofs.Walks.{Walking, walk_start, walk-facts, walk_turn, walk_end}
+use Rattle.tracing.proofs.Walks.{walk_start, walk-facts, walk_turn, walk_end}
 use Rattle.search_laws.specs.Walk.{walked_path, LAST}
 use borrow.Author.Rules.{rules}
-use Prim.Native.Nat.{ℕ, ◌-◌}
+use Prim.Native.Nat.{ℕ}
 use native.Mathlib.Omega.{arith}
 use mathlib.Core.Path.{ap, ◌∙◌}
 use mathlib.Core.List.{List}
