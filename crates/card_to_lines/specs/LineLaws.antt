@@ -1,7 +1,7 @@
 -- What the parts of `lines_of_card` give together.
-use Rattle.std.specs.Prelude.{◌≡◌, Bool, true, false, not, List, [], ◌∷◌, ◌++◌, ℕ, ◌*◌, ◌≤◌, ◌<◌, ltb, leb, eqb, length, take, drop}
+use Rattle.std.specs.Prelude.{◌≡◌, Bool, true, false, not, List, [], ◌++◌, ℕ, ◌*◌, ◌≤◌, ◌<◌, ltb, leb, eqb, length, take, drop}
 use Rattle.std.proofs.Math.Path.{refl, sym, ap}
-use Rattle.std.proofs.Common.{◌∙◌, inl, inr, arith, length-append, leb-true, ltb-true}
+use Rattle.std.proofs.Common.{◌∙◌, inl, inr, arith, length-append, ltb-true}
 use Rattle.std.proofs.Math.Seq.{take-append_seam}
 use Rattle.spec.specs.Bytes as bytes
 use Rattle.spec.specs.Bytes.{pick, both, Res, ok, refused, rule, ◌>>=◌}
@@ -19,7 +19,6 @@ use Rattle.terms.specs.Buffers.{LEAST, pool_of, count_in}
 use Rattle.terms.specs.PoolLaws.{pool-length, rooms_same}
 use Rattle.terms.specs.Chains.{Holds, Rooms}
 use Rattle.terms.specs.Emptying.{emptied, emptied-holds, emptied-length, emptied-pool}
-use Rattle.listing.specs.Lists as lists
 use Rattle.listing.specs.Lists.{Behind}
 use Rattle.listing.specs.declared.Written.{Written}
 use Rattle.listing.specs.declared.Written.TheVariants as W

@@ -1,14 +1,6 @@
 use Rattle.query.specs.Settings.{limits_of}
 use Rattle.card_to_lines.specs.LineLaws.{rooms, term-ready, term-listed, text-none, text-full}
-use borrow.Author.Tests.{lt-ltb, le-ltb, le-leb, lt-leb, eq-eqb, ne_eqb}
-use Prim.Native.Nat.{ℕ, zero, suc, ◌≤◌, ◌<◌, ◌-◌, ◌+◌, ◌*◌, ◌^◌}
-use native.Mathlib.Omega.{arith}
-use native.Mathlib.Numerals.{add-one}
-use mathlib.Core.Path.{◌≡◌, refl, ap, sym, ◌∙◌}
-use mathlib.Core.Logic.{⊎_elim}
-use mathlib.Core.List.{List, [], ◌∷◌, ◌++◌, append-nil}
-use lib.ListN.{length, take, drop, get_or, set, length-set, length-take, length-drop, length-append, drop_of_length-le}
-use borrow.Author.Rules.{rules}
+use lib.ListN.{length}
 use Rattle.card_to_lines.proofs.lines_of.Goals as goal
 
 -- src/lib.rt:68:9
