@@ -1,16 +1,16 @@
 -- What the parts of `respond` give together.
-use Rattle.std.specs.Prelude.{◌≡◌, refl, Bool, true, false, not, List, ◌++◌, ℕ, ◌+◌, ◌-◌, ◌≤◌, ◌<◌, ltb, leb, length, take, drop}
-use Rattle.std.proofs.Common.{sym, ap, ap₂, ◌∙◌, arith, length-drop, length-take, length-take-le, lt-ltb, le-leb}
+use Rattle.std.specs.Prelude.{◌≡◌, refl, true, false, not, List, ◌++◌, ℕ, ◌+◌, ◌-◌, ◌≤◌, length, take, drop}
+use Rattle.std.proofs.Common.{sym, ap, ◌∙◌, arith, length-drop, length-take, length-take-le, lt-ltb, le-leb}
 use Rattle.spec.specs.Bytes.{be4, Res, ok, refused}
 use Rattle.spec.specs.Run.{document_limits}
-use Rattle.spec.specs.Merge.{OUTPUT, output_after, printed}
+use Rattle.spec.specs.Merge.{output_after, printed}
 use Rattle.decimals.specs.Writing.{Wrote}
 use Rattle.formula.specs.Lines.{lines_of_card}
 use Rattle.formula.specs.Programs.{tabled, table_of, behind, unended, lines_to, lines_program}
 use Rattle.frames.specs.Frame.{refusal_bytes}
-use Rattle.frames.specs.Printing.{Front, wrote-front}
+use Rattle.frames.specs.Printing.{wrote-front}
 use Rattle.card_buffers.specs.BufferLaws.{roomy}
-use Rattle.card_contract.specs.Calls.{fits_text, read_call, answer_of, Answers, Reads, Cleared}
+use Rattle.card_contract.specs.Calls.{fits_text, read_call, answer_of, Reads, Cleared}
 use Rattle.card_contract.specs.declared.Answer.{Answer}
 use Rattle.card_contract.specs.declared.Answer.TheVariants.{Text, Refused}
 use Rattle.read_answer.specs.Reading.{Lent, Asks, Prints, Responds}
