@@ -1,5 +1,5 @@
 -- A problem in place for the solver, and what the solver leaves is the definition's plan.
-use Rattle.std.specs.Prelude.{◌≡◌, Bool, true, false, not, List, ◌++◌, ℕ, ◌+◌, ◌-◌, ◌*◌, ◌≤◌, ◌<◌, eqb, get_or, take, drop, replicate}
+use Rattle.std.specs.Prelude.{◌≡◌, Bool, true, false, not, List, ◌++◌, ℕ, ◌*◌, ◌≤◌, ◌<◌, eqb, get_or, take, drop, replicate}
 use Rattle.std.proofs.Math.Path.{refl, sym, ap}
 use Rattle.std.proofs.Common.{◌∙◌, zero-mul, mul-zero, arith, eq-eqb, ne_eqb, take-append-drop, get_or-take, ext_get_or, take_at, drop_at}
 use Rattle.std.proofs.Math.Option.{Option, none, some}

@@ -14,7 +14,6 @@ use Rattle.numbering.specs.Numbering.{numbers_of, Listed}
 use Rattle.widths.specs.Lines.{lines_in}
 use Rattle.widths.specs.LineLaws.{lines_are}
 use Rattle.listing.specs.Lists.{listing_in, Lists}
-use Rattle.listing.specs.declared.Written.{Written}
 use Rattle.listing.specs.declared.Written.TheVariants as W
 
 -- the first line

@@ -18,7 +18,7 @@ use Rattle.listing.specs.Lists as L
 use Rattle.first_line.specs.declared.Report.{Report}
 use Rattle.listing.specs.declared.Written.{Written}
 use Rattle.listing.specs.declared.Written.TheVariants as W
-use Rattle.outcome.specs.Answers.{outcome_in, listed_of, answer_of, Answers}
+use Rattle.outcome.specs.Answers.{outcome_in, listed_of, Answers}
 use Rattle.outcome.specs.declared.Outcome.{Outcome}
 use Rattle.outcome.specs.declared.Answer.{Answer}
 use Rattle.outcome.specs.declared.Answer.TheVariants as A

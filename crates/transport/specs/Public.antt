@@ -1,7 +1,7 @@
 -- The public solver's answer: "in transport 1, 15, 16".
-use Rattle.std.specs.Prelude.{◌≡◌, Bool, true, false, List, ℕ, ◌*◌, leb, eqb, length}
+use Rattle.std.specs.Prelude.{◌≡◌, Bool, List, ℕ, ◌*◌, leb, eqb, length}
 use Rattle.spec.specs.Bytes.{both, Two, Res, ok, refused, ◌>>=◌, rule, work_after}
-use Rattle.spec.specs.Transport.{Problem, Solution, solve_cells, solved_by, plan_after, WIDEST}
+use Rattle.spec.specs.Transport.{Solution, solve_cells, solved_by, plan_after, WIDEST}
 use Rattle.wide.specs.Value.{unsigned}
 use Rattle.transport.specs.declared.Answer.{Answer}
 use Rattle.transport.specs.declared.Answer.TheVariants as A

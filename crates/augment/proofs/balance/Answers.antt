@@ -1,6 +1,4 @@
 use Rattle.augment.proofs.Balances.{balanced}
-use Prim.Native.Nat.{◌-◌}
-use borrow.Author.Rules.{rules}
 use Rattle.augment.proofs.balance.Goals as goal
 
 pub returns : goal.returns

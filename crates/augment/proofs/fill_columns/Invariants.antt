@@ -1,12 +1,5 @@
-use Rattle.augment.proofs.Balances.{column-reads, columns-turn}
-use borrow.Author.Rules.{rules}
-use Prim.Native.Nat.{ℕ, ◌≤◌, ◌-◌, ◌+◌}
-use native.Mathlib.Omega.{arith}
-use mathlib.Core.Path.{◌≡◌, ap, ◌∙◌}
-use lib.ListN.{get_or, set}
-use Rattle.augment.specs.Balance.{ColumnsLeft, column_sum}
-use Rattle.search_laws.specs.Edges.{TAKEN}
-use Rattle.spec.specs.Transport.{WIDEST}
+use Prim.Native.Nat.{◌≤◌, ◌-◌}
+use Rattle.augment.specs.Balance.{ColumnsLeft}
 use Rattle.augment.proofs.fill_columns.Given as goal
 
 abbrev pub invariant-loop-j : goal.invariant-loop-j

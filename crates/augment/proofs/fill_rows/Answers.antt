@@ -1,11 +1,11 @@
 use Rattle.augment.proofs.Balances.{row_reads, rows-turn}
 use borrow.Author.Rules.{rules}
-use Prim.Native.Nat.{ℕ, ◌≤◌, ◌-◌}
+use Prim.Native.Nat.{ℕ, ◌-◌}
 use native.Mathlib.Omega.{arith}
 use mathlib.Core.Path.{◌≡◌, refl, ap, ◌∙◌}
 use lib.ListN.{get_or, set}
 use Rattle.cost_matrix.specs.Places.{row_fits}
-use Rattle.augment.specs.Balance.{RowsLeft, row_sum}
+use Rattle.augment.specs.Balance.{row_sum}
 use Rattle.augment.proofs.fill_rows.Goals as goal
 
 pub loop-i-init : goal.loop-i-init

@@ -1,11 +1,5 @@
-use Rattle.augment.proofs.Balances.{row_reads, rows-turn}
-use borrow.Author.Rules.{rules}
-use Prim.Native.Nat.{ℕ, ◌≤◌, ◌-◌}
-use native.Mathlib.Omega.{arith}
-use mathlib.Core.Path.{◌≡◌, refl, ap, ◌∙◌}
-use lib.ListN.{get_or, set}
-use Rattle.cost_matrix.specs.Places.{row_fits}
-use Rattle.augment.specs.Balance.{RowsLeft, row_sum}
+use Prim.Native.Nat.{◌≤◌, ◌-◌}
+use Rattle.augment.specs.Balance.{RowsLeft}
 use Rattle.augment.proofs.fill_rows.Given as goal
 
 abbrev pub invariant-loop-i : goal.invariant-loop-i

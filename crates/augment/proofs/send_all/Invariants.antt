@@ -1,11 +1,8 @@
-use Rattle.search_laws.specs.Fits.{none_left}
-use Rattle.augment.proofs.SendLoop.{Sending, begin-sending, midway-of, rest_lt, send-none, send-fits, send-some, send-end}
+use Rattle.augment.proofs.SendLoop.{Sending}
 use Rattle.augment.specs.Sending.{Start}
-use lib.ListN.{length-replicate, length, drop}
-use borrow.Author.Rules.{rules}
-use Prim.Native.Nat.{ℕ, ◌-◌, ◌*◌}
-use native.Mathlib.Omega.{arith}
-use mathlib.Core.Path.{◌≡◌, refl, ◌∙◌}
+use lib.ListN.{length, drop}
+use Prim.Native.Nat.{◌*◌}
+use mathlib.Core.Path.{◌≡◌}
 use Rattle.net.specs.Net.{NODES, NET}
 use Rattle.search_laws.specs.Edges.{MARGINS}
 use Rattle.augment.proofs.send_all.Given as goal

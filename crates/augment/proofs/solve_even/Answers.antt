@@ -1,7 +1,6 @@
 use Rattle.augment.specs.Solves.{laid-few, start_of, solved-plan, solved-none}
 use native.Mathlib.Omega.{arith}
 use mathlib.Core.Path.{sym, ◌∙◌}
-use borrow.Author.Rules.{rules}
 use Rattle.augment.proofs.solve_even.Goals as goal
 
 pub send_all-requires : goal.send_all-requires

@@ -1,10 +1,7 @@
-use Rattle.augment.proofs.Balances.{sum-turn, next_place, first-place}
 use Rattle.spec.specs.Bytes.{sum_to}
-use borrow.Author.Rules.{rules}
-use Prim.Native.Nat.{ℕ, ◌≤◌, ◌<◌, ◌-◌, ◌+◌, ◌*◌, ◌^◌}
-use native.Mathlib.Omega.{arith}
-use mathlib.Core.Path.{◌≡◌, refl, ap}
-use lib.ListN.{length, get_or}
+use Prim.Native.Nat.{◌≤◌, ◌-◌, ◌+◌, ◌*◌, ◌^◌}
+use mathlib.Core.Path.{◌≡◌}
+use lib.ListN.{get_or}
 use Rattle.augment.proofs.sum_every.Given as goal
 
 abbrev pub invariant-loop-i : goal.invariant-loop-i

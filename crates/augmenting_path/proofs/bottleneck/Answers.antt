@@ -1,10 +1,9 @@
-use Prim.Native.Nat.{min, ℕ, ◌≤◌, ◌-◌, ◌+◌}
+use Prim.Native.Nat.{min, ℕ, ◌+◌}
 use Rattle.search_laws.specs.PathLaws.{step-here, steps_next, least-turn, least-end}
-use Rattle.search_laws.specs.Walk.{here, LAST}
-use Rattle.search_laws.specs.Path.{Steps, least_on}
-use borrow.Author.Rules.{rules}
+use Rattle.search_laws.specs.Walk.{here}
+use Rattle.search_laws.specs.Path.{least_on}
 use native.Mathlib.Omega.{arith}
-use mathlib.Core.Path.{◌≡◌, refl, ap, sym, ◌∙◌}
+use mathlib.Core.Path.{refl, ap, sym, ◌∙◌}
 use Rattle.augmenting_path.proofs.bottleneck.Goals as goal
 
 pub loop-a-init : goal.loop-a-init

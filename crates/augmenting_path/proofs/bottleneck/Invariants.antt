@@ -1,10 +1,7 @@
-use Prim.Native.Nat.{min, ℕ, ◌≤◌, ◌-◌, ◌+◌}
-use Rattle.search_laws.specs.PathLaws.{step-here, steps_next, least-turn, least-end}
+use Prim.Native.Nat.{◌≤◌, ◌-◌}
 use Rattle.search_laws.specs.Walk.{here, LAST}
 use Rattle.search_laws.specs.Path.{Steps, least_on}
-use borrow.Author.Rules.{rules}
-use native.Mathlib.Omega.{arith}
-use mathlib.Core.Path.{◌≡◌, refl, ap, sym, ◌∙◌}
+use mathlib.Core.Path.{◌≡◌}
 use Rattle.augmenting_path.proofs.bottleneck.Given as goal
 
 abbrev pub invariant-loop-a : goal.invariant-loop-a

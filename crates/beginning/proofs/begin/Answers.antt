@@ -6,7 +6,6 @@ use Rattle.query.specs.Settings.{limits_of, asked_of}
 use Rattle.spec.specs.Image.{tables_of}
 use native.Mathlib.Omega.{arith}
 use mathlib.Core.Path.{refl}
-use borrow.Author.Rules.{rules}
 use Rattle.beginning.proofs.begin.Goals as goal
 
 pub empty-requires : goal.empty-requires

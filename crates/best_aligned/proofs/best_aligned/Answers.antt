@@ -1,12 +1,10 @@
 use Rattle.arrays.specs.Arrays.{quality_in}
-use Rattle.best_aligned.specs.Aligned.{best_from, best_aligned}
 use Rattle.best_aligned.specs.Offers.{best-first, best-last, best-next}
 use Rattle.enumeration.specs.Remaining.{list_from}
 use Rattle.enumeration.specs.SeekLaws.{found-stands, found-fewer}
 use Rattle.spec.specs.Image.{tables_of}
-use mathlib.Core.Path.{◌≡◌, sym, ◌∙◌}
+use mathlib.Core.Path.{sym, ◌∙◌}
 use lib.ListN.{length}
-use borrow.Author.Rules.{rules}
 use Rattle.best_aligned.proofs.best_aligned.Goals as goal
 
 pub size_of-requires : goal.size_of-requires

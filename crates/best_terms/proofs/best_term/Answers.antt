@@ -4,7 +4,6 @@ use Rattle.best_terms.specs.Building.{walk_kept}
 use Rattle.query.specs.Settings.{limits_of}
 use native.Mathlib.Omega.{arith}
 use mathlib.Core.Path.{sym, ◌∙◌}
-use borrow.Author.Rules.{rules}
 use Rattle.best_terms.proofs.best_term.Goals as goal
 
 pub at_u16-b-requires : goal.at_u16-b-requires

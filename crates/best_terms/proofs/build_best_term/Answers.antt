@@ -2,14 +2,13 @@ use Rattle.query.specs.Settings.{limits_of}
 use Rattle.terms.specs.PoolLaws.{rooms_same}
 use native.Mathlib.Nat.{not-suc-le-zero}
 use lib.ListN.{replicate, get_or-replicate, length-replicate}
-use Rattle.spec.specs.Image.{tables_of, best_size}
-use Rattle.image.specs.Loaded.{the_child, classes-many}
-use Rattle.best_terms.specs.Building.{Walk, walk_start, zeros, more-built, turn-class, turn-fits, turn-member, turn-child, turn_inside, turn-ready, turn-falls, turn-down, turn-full, turn_small, turn_end, turn_up, turn-less}
-use borrow.Author.Rules.{rules}
-use Prim.Native.Nat.{ℕ, ◌≤◌, ◌<◌, ◌-◌, ◌+◌, ◌*◌}
+use Rattle.spec.specs.Image.{tables_of}
+use Rattle.image.specs.Loaded.{classes-many}
+use Rattle.best_terms.specs.Building.{walk_start, more-built, turn-class, turn-fits, turn-member, turn-child, turn_inside, turn-ready, turn-falls, turn-down, turn-full, turn_small, turn_end, turn_up, turn-less}
+use Prim.Native.Nat.{ℕ, ◌-◌, ◌+◌}
 use native.Mathlib.Omega.{arith}
 use mathlib.Core.Path.{◌≡◌, refl, ap, sym, ◌∙◌}
-use lib.ListN.{length, get_or, length-set}
+use lib.ListN.{length, length-set}
 use Rattle.best_terms.proofs.build_best_term.Goals as goal
 
 pub outer-init : goal.outer-init

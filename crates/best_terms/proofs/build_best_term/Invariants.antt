@@ -1,15 +1,10 @@
 use Rattle.query.specs.Settings.{limits_of}
-use Rattle.terms.specs.PoolLaws.{rooms_same}
-use native.Mathlib.Nat.{not-suc-le-zero}
-use lib.ListN.{replicate, get_or-replicate, length-replicate}
 use Rattle.spec.specs.Image.{tables_of, best_size}
-use Rattle.image.specs.Loaded.{the_child, classes-many}
-use Rattle.best_terms.specs.Building.{Walk, walk_start, zeros, more-built, turn-class, turn-fits, turn-member, turn-child, turn_inside, turn-ready, turn-falls, turn-down, turn-full, turn_small, turn_end, turn_up, turn-less}
-use borrow.Author.Rules.{rules}
+use Rattle.image.specs.Loaded.{the_child}
+use Rattle.best_terms.specs.Building.{Walk, zeros}
 use Prim.Native.Nat.{ℕ, ◌≤◌, ◌<◌, ◌-◌, ◌+◌, ◌*◌}
-use native.Mathlib.Omega.{arith}
-use mathlib.Core.Path.{◌≡◌, refl, ap, sym, ◌∙◌}
-use lib.ListN.{length, get_or, length-set}
+use mathlib.Core.Path.{◌≡◌}
+use lib.ListN.{length, get_or}
 use Rattle.best_terms.proofs.build_best_term.Given as goal
 
 abbrev pub invariant-inner : goal.invariant-inner

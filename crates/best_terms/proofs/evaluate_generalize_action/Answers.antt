@@ -2,7 +2,6 @@ use Rattle.spec.specs.Image.{tables_of}
 use Rattle.best_terms.specs.Starting.{starts-made, starts-full}
 use Rattle.query.specs.Settings.{limits_of}
 use native.Mathlib.Omega.{arith}
-use borrow.Author.Rules.{rules}
 use Rattle.best_terms.proofs.evaluate_generalize_action.Goals as goal
 
 pub returns-in-Full : goal.returns-in-Full

@@ -5,7 +5,6 @@ use Rattle.query.specs.Settings.{limits_of}
 use Rattle.terms.specs.PoolLaws.{rooms_same}
 use mathlib.Core.Path.{◌∙◌}
 use native.Mathlib.Omega.{arith}
-use borrow.Author.Rules.{rules}
 use Rattle.best_terms.proofs.starting_term.Goals as goal
 
 pub returns-in-Full : goal.returns-in-Full

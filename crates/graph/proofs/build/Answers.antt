@@ -4,7 +4,6 @@ use Rattle.query.specs.Settings.{limits_of}
 use lib.ListN.{length, replicate}
 use mathlib.Core.Path.{◌∙◌, ◌≡◌, ap, sym}
 use native.Mathlib.Omega.{arith}
-use borrow.Author.Rules.{rules}
 use Rattle.graph.proofs.build.Goals as goal
 
 pub build_first-requires : goal.build_first-requires

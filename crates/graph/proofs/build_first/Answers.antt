@@ -5,7 +5,6 @@ use Rattle.query.specs.Settings.{limits_of}
 use Rattle.spec.specs.Image.{tables_of}
 use lib.ListN.{length}
 use native.Mathlib.Omega.{arith}
-use borrow.Author.Rules.{rules}
 use Rattle.graph.proofs.build_first.Goals as goal
 
 pub enter_pair-requires : goal.enter_pair-requires

@@ -1,15 +1,12 @@
 use Prim.Native.Nat.{◌-◌}
 use Rattle.arrays.specs.Arrays.{pairs_in}
 use Rattle.graph.specs.Ending.{skipped_from}
-use Rattle.graph.specs.TurnLaws.{Turning, check-none, check-one, turning-cut, turning-end, turning-few, turning-full, turning-on, turning-pair, turning-room, turning-start}
-use Rattle.image.specs.Loaded.{classes-many}
+use Rattle.graph.specs.TurnLaws.{Turning}
 use Rattle.query.specs.Settings.{limits_of}
 use Rattle.spec.specs.Graph.{build_from}
 use Rattle.spec.specs.Image.{tables_of}
 use lib.ListN.{length}
-use mathlib.Core.Path.{◌≡◌, refl}
-use native.Mathlib.Omega.{arith}
-use borrow.Author.Rules.{rules}
+use mathlib.Core.Path.{◌≡◌}
 use Rattle.graph.proofs.build_from.Given as goal
 
 abbrev pub invariant-loop-i : goal.invariant-loop-i

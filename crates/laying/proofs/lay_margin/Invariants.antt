@@ -1,11 +1,7 @@
-use mathlib.Core.Path.{◌∙◌}
 use Prim.Native.Nat.{◌≤◌, ◌-◌}
-use native.Mathlib.Omega.{arith}
-use borrow.Author.Rules.{rules}
 use Rattle.spec.specs.Monomial.{counts}
 use Rattle.monomial_terms.specs.Terms.{held}
-use Rattle.laws.specs.Buffers.{Filled, filled_none, filled_more, filled-all}
-use Rattle.cells.specs.Problem.{counts-length, counts-at, counts-fit}
+use Rattle.laws.specs.Buffers.{Filled}
 use Rattle.laying.proofs.lay_margin.Given as goal
 
 abbrev pub invariant-loop-i : goal.invariant-loop-i

@@ -1,6 +1,5 @@
 use native.Mathlib.Nat.{sub-zero}
 use Rattle.cells.specs.Problem.{counts-front}
-use borrow.Author.Rules.{rules}
 use Rattle.laying.proofs.plan_transport.Goals as goal
 
 pub solve-requires : goal.solve-requires

@@ -7,7 +7,6 @@ use Rattle.cells.specs.Problem.{problem_at, rows_are, cols-are, problem-wide, pr
 use native.Mathlib.Omega.{arith}
 use mathlib.Core.Path.{ap, sym, ◌∙◌}
 use lib.ListN.{length}
-use borrow.Author.Rules.{rules}
 use Rattle.laying.proofs.solve.Goals as goal
 
 pub total-f-requires : goal.total-f-requires

@@ -1,7 +1,6 @@
 use Rattle.widths.specs.LineLaws.{ready}
 use Rattle.listing.specs.BehindLaws.{behind-full, lines-room, behind-bytes}
 use native.Mathlib.Omega.{arith}
-use borrow.Author.Rules.{rules}
 use Rattle.listing.proofs.list_behind.Goals as goal
 
 pub lines_width-requires : goal.lines_width-requires

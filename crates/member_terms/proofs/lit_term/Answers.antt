@@ -4,7 +4,6 @@ use Rattle.terms.specs.Buffers.{count_in}
 use Rattle.op_terms.specs.MemberRuns.{lit-node, lit-node-valid, sum-none, gives_of}
 use mathlib.Core.Path.{ap, ◌∙◌}
 use native.Mathlib.Omega.{arith}
-use borrow.Author.Rules.{rules}
 use Rattle.member_terms.proofs.lit_term.Goals as goal
 
 pub intern-requires : goal.intern-requires

@@ -2,7 +2,6 @@ use Rattle.spec.specs.Image.{tables_of, the_member}
 use Rattle.op_terms.specs.MemberRuns.{member-literal, member-operation}
 use native.Mathlib.Omega.{arith}
 use mathlib.Core.Path.{sym, ◌∙◌}
-use borrow.Author.Rules.{rules}
 use Rattle.member_terms.proofs.member_term.Goals as goal
 
 pub lit_term-requires : goal.lit_term-requires

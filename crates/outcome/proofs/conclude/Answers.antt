@@ -1,7 +1,6 @@
 use native.Mathlib.Omega.{arith}
 use mathlib.Core.Path.{refl}
 use Rattle.work_clearing.specs.Cleared.{cleared-same}
-use borrow.Author.Rules.{rules}
 use Rattle.outcome.proofs.conclude.Goals as goal
 
 pub returns : goal.returns

@@ -1,6 +1,5 @@
 use mathlib.Core.Path.{refl}
 use Rattle.outcome.specs.AnswerLaws.{listed-full, listed-bytes}
-use borrow.Author.Rules.{rules}
 use Rattle.outcome.proofs.list_outcome.Goals as goal
 
 pub returns-in-Full : goal.returns-in-Full

@@ -1,5 +1,4 @@
 use Rattle.outcome.specs.AnswerLaws.{answer-refused}
-use borrow.Author.Rules.{rules}
 use Rattle.outcome.proofs.list_ran.Goals as goal
 
 pub returns-in-Stopped : goal.returns-in-Stopped

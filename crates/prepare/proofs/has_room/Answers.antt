@@ -1,7 +1,6 @@
 use lib.Dec.{leb}
-use Prim.Native.Nat.{ℕ, ◌-◌, ◌+◌}
+use Prim.Native.Nat.{ℕ, ◌+◌}
 use mathlib.Core.Path.{ap}
-use borrow.Author.Rules.{rules}
 use Rattle.prepare.proofs.has_room.Goals as goal
 
 pub returns : goal.returns

@@ -4,7 +4,6 @@ use Rattle.query.specs.Settings.{limits_of}
 use Rattle.prepare.specs.PreparingLaws.{image-refused}
 use native.Mathlib.Omega.{arith}
 use mathlib.Core.Path.{refl, sym}
-use borrow.Author.Rules.{rules}
 use Rattle.prepare.proofs.prepare.Goals as goal
 
 pub start-requires : goal.start-requires

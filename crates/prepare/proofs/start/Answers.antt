@@ -5,10 +5,8 @@ use lib.ListN.{length}
 use Rattle.query.specs.Settings.{limits_of}
 use Rattle.prepare.specs.Preparing.{Goes}
 use Rattle.prepare.specs.PreparingLaws.{left-refused, right-refused, room-refused, few-classes}
-use Prim.Native.Nat.{◌-◌}
 use native.Mathlib.Omega.{arith}
 use mathlib.Core.Path.{refl, sym, ◌∙◌}
-use borrow.Author.Rules.{rules}
 use Rattle.prepare.proofs.start.Goals as goal
 
 pub returns-then-size_u16-im : goal.returns-then-size_u16-im

@@ -1,6 +1,3 @@
-use mathlib.Core.Path.{ap}
-use mathlib.Core.Bool.{not}
-use Rattle.budget.specs.Spending.{was-false, was-true}
 use mathlib.Core.Path.{refl}
 use native.Mathlib.Omega.{arith}
 use borrow.Author.Rules.{rules}
@@ -24,7 +21,7 @@ pub reported-requires-then-not-changed : goal.reported-requires-then-not-changed
 reported-requires-then-not-changed c = c.requires.0
 
 pub returns-then-not-changed : goal.returns-then-not-changed
-returns-then-not-changed c = rw (c.in-Finished.is, was-false c.in-Finished.changed c.if-not-changed.true, c.reported-then-not-changed.ensures) refl
+returns-then-not-changed c = rw (c.in-Finished.is, c.if-not-changed.true, c.reported-then-not-changed.ensures) refl
 
 pub returns : goal.returns
-returns c = rw (c.in-Finished.is, was-true c.in-Finished.changed c.if-not-changed.false) refl
+returns c = rw (c.in-Finished.is, c.if-not-changed.false) refl

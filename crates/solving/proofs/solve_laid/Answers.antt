@@ -1,7 +1,6 @@
 use Rattle.augment.specs.Solves.{laid-few, none_row, none-column, none-uneven}
 use native.Mathlib.Omega.{arith}
 use mathlib.Core.Path.{sym, ◌∙◌}
-use borrow.Author.Rules.{rules}
 use Rattle.solving.proofs.solve_laid.Goals as goal
 
 pub total-f-requires : goal.total-f-requires

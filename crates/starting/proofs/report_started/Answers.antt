@@ -1,7 +1,6 @@
 use Rattle.starting.specs.Report.{started-as}
 use Rattle.spec.specs.Image.{tables_of}
 use native.Mathlib.Omega.{arith}
-use borrow.Author.Rules.{rules}
 use Rattle.starting.proofs.report_started.Goals as goal
 
 pub start_size-requires : goal.start_size-requires

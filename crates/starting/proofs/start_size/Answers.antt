@@ -2,7 +2,6 @@ use native.Mathlib.Omega.{arith}
 use Rattle.spec.specs.Image.{tables_of}
 use Rattle.image.specs.Loaded.{classes-many}
 use Rattle.starting.specs.StartSizes.{size_same, size-two, sizes-fit}
-use borrow.Author.Rules.{rules}
 use Rattle.starting.proofs.start_size.Goals as goal
 
 pub returns-then-l-r : goal.returns-then-l-r

@@ -1,8 +1,7 @@
-use Rattle.transport.proofs.Answers.{Copied, copied_next, copied-end}
+use Rattle.transport.proofs.Answers.{copied_next, copied-end}
 use borrow.Author.Rules.{rules}
-use Prim.Native.Nat.{◌≤◌, ◌-◌}
 use native.Mathlib.Omega.{arith}
-use mathlib.Core.Path.{◌≡◌, refl}
+use mathlib.Core.Path.{refl}
 use lib.ListN.{length, length-set}
 use Rattle.transport.proofs.copy_plan.Goals as goal
 

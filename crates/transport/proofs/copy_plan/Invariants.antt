@@ -1,9 +1,7 @@
-use Rattle.transport.proofs.Answers.{Copied, copied_next, copied-end}
-use borrow.Author.Rules.{rules}
+use Rattle.transport.proofs.Answers.{Copied}
 use Prim.Native.Nat.{◌≤◌, ◌-◌}
-use native.Mathlib.Omega.{arith}
-use mathlib.Core.Path.{◌≡◌, refl}
-use lib.ListN.{length, length-set}
+use mathlib.Core.Path.{◌≡◌}
+use lib.ListN.{length}
 use Rattle.transport.proofs.copy_plan.Given as goal
 
 abbrev pub invariant-loop-k : goal.invariant-loop-k

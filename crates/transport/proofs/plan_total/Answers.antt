@@ -1,6 +1,5 @@
-use Rattle.transport.proofs.Totals.{product-fits, Summed, summed-start, summed_turn, summed-end, next-lt}
-use borrow.Author.Rules.{rules}
-use Prim.Native.Nat.{◌≤◌, ◌-◌, ◌*◌}
+use Rattle.transport.proofs.Totals.{product-fits, summed-start, summed_turn, summed-end, next-lt}
+use Prim.Native.Nat.{◌*◌}
 use native.Mathlib.Omega.{arith}
 use mathlib.Core.Path.{◌∙◌}
 use lib.ListN.{length}

@@ -1,8 +1,5 @@
-use Rattle.transport.proofs.Totals.{product-fits, Summed, summed-start, summed_turn, summed-end, next-lt}
-use borrow.Author.Rules.{rules}
-use Prim.Native.Nat.{◌≤◌, ◌-◌, ◌*◌}
-use native.Mathlib.Omega.{arith}
-use mathlib.Core.Path.{◌∙◌}
+use Rattle.transport.proofs.Totals.{Summed}
+use Prim.Native.Nat.{◌≤◌, ◌-◌}
 use lib.ListN.{length}
 use Rattle.transport.proofs.plan_total.Given as goal
 

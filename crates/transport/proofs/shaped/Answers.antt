@@ -2,7 +2,7 @@ use Rattle.cost_matrix.specs.Places.{cells_fit}
 use borrow.Author.Rules.{rules}
 use borrow.Author.Tests.{le-leb, lt-leb, eq-eqb, ne_eqb}
 use Rattle.spec.specs.Transport.{WIDEST}
-use Prim.Native.Nat.{◌-◌, ◌*◌}
+use Prim.Native.Nat.{◌*◌}
 use native.Mathlib.Omega.{arith}
 use mathlib.Core.Path.{refl}
 use Rattle.transport.proofs.shaped.Goals as goal

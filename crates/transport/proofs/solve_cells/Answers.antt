@@ -1,7 +1,6 @@
 use Rattle.cost_matrix.specs.Cells.{problem_of}
 use Rattle.transport.proofs.Answers.{slices-given, slices-laid}
 use native.Mathlib.Omega.{arith}
-use borrow.Author.Rules.{rules}
 use Rattle.transport.proofs.solve_cells.Goals as goal
 
 pub solve_laid-requires : goal.solve_laid-requires

@@ -5,7 +5,6 @@ use mathlib.Core.Path.{sym, ◌∙◌}
 use lib.ListN.{length}
 use Rattle.cost_matrix.specs.Places.{cells_fit}
 use Rattle.transport.proofs.Answers.{wrong-shape, no-plan, plan-low, planned, shape-right}
-use borrow.Author.Rules.{rules}
 use Rattle.transport.proofs.solve_shaped.Goals as goal
 
 pub solve_cells-requires : goal.solve_cells-requires

@@ -1,7 +1,6 @@
 use native.Mathlib.Omega.{arith}
 use lib.ListN.{length}
 use Rattle.transport.proofs.Answers.{gate-costs, gate-flow, gate-open}
-use borrow.Author.Rules.{rules}
 use Rattle.transport.proofs.solve_transport.Goals as goal
 
 pub returns-then-costs-lt-COSTS : goal.returns-then-costs-lt-COSTS

@@ -4,7 +4,6 @@ use Rattle.arrays.specs.Arrays.{quality_in, term_in}
 use Rattle.interning.specs.declared.Entered.TheVariants as E
 use Rattle.turn_end.specs.Ending.{takes-full, takes-to}
 use mathlib.Core.Path.{refl}
-use borrow.Author.Rules.{rules}
 use Rattle.turn_end.proofs.end_turn.Goals as goal
 
 pub returns-in-Full : goal.returns-in-Full

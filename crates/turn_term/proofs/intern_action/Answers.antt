@@ -1,4 +1,3 @@
-use borrow.Author.Rules.{rules}
 use Rattle.turn_term.proofs.intern_action.Goals as goal
 
 pub returns : goal.returns

@@ -12,7 +12,6 @@ use Rattle.turn_term.specs.Agreeing.{Chosen, Planned}
 use Rattle.turn_term.specs.FinalTermLaws.{choice-below, over-front, act-given, ended-stay, ended-act}
 use native.Mathlib.Omega.{arith}
 use mathlib.Core.Path.{sym, ◌∙◌}
-use borrow.Author.Rules.{rules}
 use Rattle.turn_term.proofs.turn_term.Goals as goal
 
 pub list_action-m-requires : goal.list_action-m-requires
