@@ -9,7 +9,6 @@ use Rattle.spec.specs.Bytes.{pick, both, each, within, Two}
 use Rattle.spec.specs.Pool.{Pool, Node, OP, VARIANTS, expanded_length}
 use Rattle.laws.specs.Tests.{clash, both_true}
 use Rattle.laws.specs.BagCount.{written, written-length}
-use Rattle.pools.specs.Pool.{literal}
 use Rattle.formula.specs.Card as C
 use Rattle.formula.specs.Card.{operations, prec_of, sign, has_sign, own, proper, Mark, between, list, next, close, opens, shuts, begin, or, end, spell_mark, spell, bracketed, left_level, right_level, write}
 use Rattle.formula.specs.Lexer.{card_tree}

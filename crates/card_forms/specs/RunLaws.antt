@@ -10,8 +10,6 @@ use Rattle.laws.specs.Lists.{in_map, in_right}
 use Rattle.laws.specs.AcceptedLists.{in-at, at_in}
 use Rattle.laws.specs.BagCount.{written}
 use Rattle.pools.specs.Pool.{Formed, operation, literal, marked, NodeValid}
-use Rattle.formula.specs.Card as C
-use Rattle.formula_laws.specs.Signed.{below}
 use Rattle.terms.specs.Buffers.{part, unpack, first_in, head_in, node_in, count_in}
 use Rattle.terms.specs.Chains.{Holds}
 use Rattle.terms.specs.PartLaws.{part_length, part_at}

@@ -1,4 +1,3 @@
-use borrow.Author.Rules.{rules}
 use native.Mathlib.Omega.{arith}
 use Rattle.card_forms.specs.RunLaws.{pair-some, runs-rise, runs-within, runs-counted}
 use Rattle.card_forms.specs.FormLaws.{as-literal, as-marked, as-list, as-proper, as-between, form-literal, form-marked, form-list, form-between}

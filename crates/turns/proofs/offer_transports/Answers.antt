@@ -4,11 +4,9 @@ use Rattle.image.specs.Loaded.{operations-many, classes-many}
 use Rattle.arrays.specs.Arrays.{quality_in, term_in}
 use Rattle.offers.specs.Offers.{work_of}
 use Rattle.turns.specs.TurnLaws.{scratch-kept}
-use Rattle.turns.specs.Walking.{Walking, walk_left, all-fitting, walking-first, walking-end, walking-within, walking-sound, walking-next, walking-less}
-use borrow.Author.Rules.{rules}
+use Rattle.turns.specs.Walking.{all-fitting, walking-first, walking-end, walking-within, walking-sound, walking-next, walking-less}
 use native.Mathlib.Omega.{arith}
-use mathlib.Core.Path.{◌≡◌, refl, sym}
-use lib.ListN.{length}
+use mathlib.Core.Path.{refl, sym}
 use Rattle.turns.proofs.offer_transports.Goals as goal
 
 pub loop-x-init : goal.loop-x-init

@@ -1,13 +1,8 @@
 use Rattle.spec.specs.Image.{tables_of}
-use Rattle.query.specs.Settings.{limits_of}
-use Rattle.image.specs.Loaded.{operations-many, classes-many}
 use Rattle.arrays.specs.Arrays.{quality_in, term_in}
 use Rattle.offers.specs.Offers.{work_of}
-use Rattle.turns.specs.TurnLaws.{scratch-kept}
-use Rattle.turns.specs.Walking.{Walking, walk_left, all-fitting, walking-first, walking-end, walking-within, walking-sound, walking-next, walking-less}
-use borrow.Author.Rules.{rules}
-use native.Mathlib.Omega.{arith}
-use mathlib.Core.Path.{◌≡◌, refl, sym}
+use Rattle.turns.specs.Walking.{Walking, walk_left}
+use mathlib.Core.Path.{◌≡◌}
 use lib.ListN.{length}
 use Rattle.turns.proofs.offer_transports.Given as goal
 

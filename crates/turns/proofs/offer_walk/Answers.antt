@@ -4,7 +4,6 @@ use Rattle.ac_monomials.specs.Actions.{actions_at}
 use Rattle.offers.specs.Offers.{work_of}
 use Rattle.turns.specs.Walking.{offers-none, offers-one, found_none, found-one, found-sides, found-fits}
 use native.Mathlib.Omega.{arith}
-use borrow.Author.Rules.{rules}
 use Rattle.turns.proofs.offer_walk.Goals as goal
 
 pub offer_transport-requires : goal.offer_transport-requires

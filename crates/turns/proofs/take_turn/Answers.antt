@@ -3,7 +3,6 @@ use Rattle.query.specs.Settings.{limits_of}
 use Rattle.arrays.specs.Arrays.{quality_in, term_in}
 use Rattle.turns.specs.TurnLaws.{turn-leaves}
 use native.Mathlib.Omega.{arith}
-use borrow.Author.Rules.{rules}
 use Rattle.turns.proofs.take_turn.Goals as goal
 
 pub end_turn-requires : goal.end_turn-requires

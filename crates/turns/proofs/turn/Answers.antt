@@ -7,7 +7,6 @@ use Rattle.best_aligned.specs.Offers.{best-aligns}
 use Rattle.turn_term.specs.FinalTermLaws.{joined-low}
 use Rattle.turns.specs.TurnLaws.{turn-done, turn-left, turn-fits}
 use mathlib.Core.Path.{sym}
-use borrow.Author.Rules.{rules}
 use Rattle.turns.proofs.turn.Goals as goal
 
 pub returns : goal.returns
