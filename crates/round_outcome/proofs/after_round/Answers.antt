@@ -1,6 +1,5 @@
 use mathlib.Core.Path.{refl}
 use native.Mathlib.Omega.{arith}
-use borrow.Author.Rules.{rules}
 use Rattle.round_outcome.proofs.after_round.Goals as goal
 
 pub returns-in-Full : goal.returns-in-Full

@@ -3,7 +3,6 @@ use Rattle.spec.specs.Image.{tables_of}
 use Rattle.query.specs.Settings.{limits_of}
 use Rattle.image.specs.Loaded.{classes-many}
 use Rattle.visits.specs.VisitLaws.{take-full, take-small, take-moves}
-use borrow.Author.Rules.{rules}
 use Rattle.visits.proofs.visit.Goals as goal
 
 pub take_turn-x-requires : goal.take_turn-x-requires
