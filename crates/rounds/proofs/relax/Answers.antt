@@ -101,7 +101,7 @@ overflow_add-rounds c =
     let sp = c.spend-sp in
     let r = c.relax_all-x in
     let z = spent l.bud sp.result sp.ensures c.if-not-sp.false in
-    record { fits = omega (arith, z, l.invariant.5, c.well-formed) }
+    record { fits = omega (arith, z, l.invariant.5, c.well_formed) }
 
 pub loop-lim-smaller : goal.loop-lim-smaller
 loop-lim-smaller c =

@@ -1,4 +1,3 @@
-use mathlib.Core.Bool.{not}
 use Rattle.spec.specs.Image.{tables_of}
 use Rattle.query.specs.Settings.{limits_of}
 use Rattle.image.specs.Loaded.{classes-many}
@@ -11,12 +10,11 @@ use Rattle.budget.specs.Spending.{too_few, enough}
 use Rattle.visits.specs.VisitLaws.{visits-full, visits-to}
 use Rattle.live_pairs.specs.Live.{next_live}
 use Rattle.rounds.specs.Graphs.{state_in, Reads, graphs-length, pair-at, pair-ranged, known-here, terms-here, cells_fit, among}
-use Rattle.rounds.specs.Idling.{Idles, idles-more}
-use Rattle.rounds.specs.Turning.{Turning, turning-none, turn-refused, turn_moved}
+use Rattle.rounds.specs.Idling.{idles-more}
+use Rattle.rounds.specs.Turning.{turning-none, turn-refused, turn_moved}
 use Rattle.live_pairs.specs.LiveLaws.{due-live}
 use Rattle.rounds.specs.Passing.{step_cut, step-over}
-use borrow.Author.Rules.{rules}
-use Prim.Native.Nat.{ℕ, ◌≤◌, ◌-◌, ◌+◌, ◌*◌}
+use Prim.Native.Nat.{ℕ, ◌+◌, ◌*◌}
 use native.Mathlib.Omega.{arith}
 use mathlib.Core.Path.{◌≡◌, refl, ap, ◌∙◌}
 use lib.ListN.{length}

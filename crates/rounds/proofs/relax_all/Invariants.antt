@@ -1,23 +1,12 @@
 use Rattle.spec.specs.Image.{tables_of}
 use Rattle.query.specs.Settings.{limits_of}
-use Rattle.image.specs.Loaded.{classes-many}
 use Rattle.lgg.specs.Pairs.{round_at}
 use Rattle.arrays.specs.Arrays.{pairs_in}
-use Rattle.arrays.specs.ArrayLaws.{unkeyed-length}
-use Rattle.terms.specs.PoolLaws.{rooms_same}
-use Rattle.turns.specs.TurnLaws.{scratch-kept}
-use Rattle.budget.specs.Spending.{too_few, enough}
-use Rattle.visits.specs.VisitLaws.{visits-full, visits-to}
-use Rattle.live_pairs.specs.Live.{next_live}
-use Rattle.rounds.specs.Graphs.{state_in, Reads, graphs-length, pair-at, pair-ranged, known-here, terms-here, cells_fit, among}
-use Rattle.rounds.specs.Idling.{Idles, idles-more}
-use Rattle.rounds.specs.Turning.{Turning, turning-none, turn-refused, turn_moved}
-use Rattle.live_pairs.specs.LiveLaws.{due-live}
-use Rattle.rounds.specs.Passing.{step_cut, step-over}
-use borrow.Author.Rules.{rules}
-use Prim.Native.Nat.{ℕ, ◌≤◌, ◌-◌, ◌+◌, ◌*◌}
-use native.Mathlib.Omega.{arith}
-use mathlib.Core.Path.{◌≡◌, refl, ap, ◌∙◌}
+use Rattle.rounds.specs.Graphs.{state_in}
+use Rattle.rounds.specs.Idling.{Idles}
+use Rattle.rounds.specs.Turning.{Turning}
+use Prim.Native.Nat.{◌≤◌, ◌-◌}
+use mathlib.Core.Path.{◌≡◌}
 use lib.ListN.{length}
 use Rattle.rounds.proofs.relax_all.Given as goal
 
