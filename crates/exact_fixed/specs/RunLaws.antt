@@ -1,7 +1,7 @@
 -- The run before its rounds: cut short in building or in starting terms, or over a graph that is built in full.
 use Rattle.std.specs.Prelude.{◌≡◌, List, ℕ, ◌+◌, ◌*◌, ◌-◌, ◌≤◌, ◌<◌, length}
 use Rattle.std.proofs.Common.{sym, ap, ◌∙◌, arith}
-use Rattle.spec.specs.Bytes.{Two, Limits, Res, ok, ◌>>=◌, Checked, passed}
+use Rattle.spec.specs.Bytes.{Two, Limits, Res, ok, Checked, passed}
 use Rattle.spec.specs.Image.{Tables}
 use Rattle.spec.specs.Pool.{Pool, Interned, interned}
 use Rattle.spec.specs.System as system

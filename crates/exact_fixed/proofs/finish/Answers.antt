@@ -1,20 +1,12 @@
 use Rattle.exact_fixed.specs.FinishLaws.{finish-answers}
 use Rattle.exact_fixed.specs.Following.{follows-ended, follows-rounds, rounds-answer}
 use Rattle.work_clearing.specs.Cleared.{cleared-same}
-use Rattle.prepared.specs.Pairs.{skipped_of}
-use Rattle.outcome.specs.Answers.{Answers}
-use Rattle.outcome.specs.declared.Answer.{Answer}
 use Rattle.outcome.specs.Outcomes.{ran-listable, ran-answers}
 use Rattle.query.specs.Settings.{limits_of, asked_of}
-use Rattle.spec.specs.Bytes.{Res}
-use Rattle.spec.specs.Graph.{skipped_in}
-use Rattle.spec.specs.Run.{Outcome, run_of}
+use Rattle.spec.specs.Run.{run_of}
 use Rattle.spec.specs.Image.{tables_of}
 use native.Mathlib.Omega.{arith}
-use mathlib.Core.Path.{◌≡◌, refl}
-use mathlib.Core.List.{List}
-use Prim.Native.Nat.{ℕ}
-use borrow.Author.Rules.{rules}
+use mathlib.Core.Path.{refl}
 use Rattle.exact_fixed.proofs.finish.Goals as goal
 
 pub start-x-requires : goal.start-x-requires

@@ -4,7 +4,6 @@ use Rattle.image.specs.Loaded.{classes-many}
 use Rattle.query.specs.Settings.{limits_of, asked_of}
 use Rattle.spec.specs.Image.{tables_of}
 use native.Mathlib.Omega.{arith}
-use borrow.Author.Rules.{rules}
 use Rattle.exact_fixed.proofs.start.Goals as goal
 
 pub returns-in-Stopped : goal.returns-in-Stopped

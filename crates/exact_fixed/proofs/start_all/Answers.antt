@@ -1,10 +1,7 @@
-use mathlib.Core.Path.{ap}
-use mathlib.Core.Bool.{not}
-use Rattle.exact_fixed.specs.Starting.{Starting, starting-none, start-cut, start-full, start-more}
+use Rattle.exact_fixed.specs.Starting.{starting-none, start-cut, start-full, start-more}
 use Rattle.best_terms.specs.Starting.{kept-none}
 use Rattle.rounds.specs.Graphs.{pair-at, pair-ranged}
 use Rattle.budget.specs.Spending.{expired, spent}
-use Rattle.best_terms.specs.Bests.{Kept}
 use Rattle.terms.specs.Buffers.{pool_of}
 use Rattle.image.specs.Loaded.{classes-many}
 use Rattle.arrays.specs.ArrayLaws.{unkeyed-length}
@@ -12,8 +9,7 @@ use Rattle.arrays.specs.Arrays.{pairs_in}
 use Rattle.query.specs.Settings.{limits_of}
 use Rattle.spec.specs.Run.{starting_terms}
 use Rattle.spec.specs.Image.{tables_of}
-use borrow.Author.Rules.{rules}
-use Prim.Native.Nat.{◌≤◌, ◌-◌, ◌*◌}
+use Prim.Native.Nat.{◌*◌}
 use native.Mathlib.Omega.{arith}
 use mathlib.Core.Path.{◌≡◌, refl}
 use lib.ListN.{length}

@@ -3,7 +3,6 @@ use Rattle.image.specs.Loaded.{classes-many}
 use Rattle.query.specs.Settings.{limits_of}
 use Rattle.spec.specs.Image.{tables_of}
 use native.Mathlib.Omega.{arith}
-use borrow.Author.Rules.{rules}
 use Rattle.exact_fixed.proofs.start_one.Goals as goal
 
 pub evaluate_generalize_action-e-requires : goal.evaluate_generalize_action-e-requires

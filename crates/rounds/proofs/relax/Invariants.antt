@@ -1,21 +1,13 @@
-use lib.ListN.{replicate}
 use Rattle.spec.specs.Image.{tables_of}
 use Rattle.query.specs.Settings.{limits_of}
 use Rattle.lgg.specs.Pairs.{rounds_of}
 use Rattle.arrays.specs.Arrays.{pairs_in, qualities_in}
-use Rattle.settling.specs.Quiet.{Quiet, quiet-first}
+use Rattle.settling.specs.Quiet.{Quiet}
 use Rattle.rounds.specs.Graphs.{state_in}
-use Rattle.terms.specs.PoolLaws.{rooms_same}
-use Rattle.turns.specs.TurnLaws.{scratch-kept}
-use Rattle.budget.specs.Spending.{expired, spent}
-use Rattle.round_outcome.specs.After.{after_next}
-use Rattle.rounds.specs.Idling.{Idles, idles-first, idles-after}
-use Rattle.rounds.specs.Running.{Running, standing-any, run-expired, round-ended, round-within, round-left, round-next, round-quiets}
-use borrow.Author.Rules.{rules}
+use Rattle.rounds.specs.Idling.{Idles}
+use Rattle.rounds.specs.Running.{Running}
 use Prim.Native.Nat.{◌≤◌, ◌+◌}
-use native.Mathlib.Omega.{arith}
-use mathlib.Core.Path.{◌≡◌, refl}
-use mathlib.Core.Bool.{true}
+use mathlib.Core.Path.{◌≡◌}
 use lib.ListN.{length}
 use Rattle.rounds.proofs.relax.Given as goal
 
