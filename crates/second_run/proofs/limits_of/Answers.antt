@@ -1,4 +1,3 @@
-use borrow.Author.Rules.{rules}
 use Rattle.second_run.proofs.limits_of.Goals as goal
 
 pub returns : goal.returns
