@@ -32,7 +32,8 @@ use Rattle.prepare.specs.Preparing.{accepted_of, Goes, Prepares}
 use Rattle.prepare.specs.PreparingLaws.{goes-accepted}
 use Rattle.prepared.specs.declared.Prepared.{Prepared}
 use Rattle.prepared.specs.declared.Prepared.TheVariants as P
-use Rattle.contract.specs.declared.Answer.TheVariants.{Refused, Doubled}
+use Rattle.contract.specs.declared.Answer.{Answer}
+use Rattle.contract.specs.declared.Answer.TheVariants.{Listing, Refused, Doubled}
 use Rattle.contract.specs.Answers.{answer_of, Carries, Cleared, Table}
 use Rattle.merge_under.specs.Under.{merge_at, Roomy, MergesUnder}
 use Rattle.merge_under.specs.Engine.{Stands, answer_as}

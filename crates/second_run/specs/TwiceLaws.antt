@@ -1,7 +1,7 @@
 -- What the second run cites, and what the merge at given limits has to do with a caller's call.
 use Rattle.std.proofs.Math.Path.{◌≡◌, refl}
 use Rattle.std.proofs.Common.{sym, ap, subst, ◌∙◌, arith, le-leb}
-use Rattle.std.specs.Prelude.{Bool, List, ℕ, ◌+◌, ◌*◌, ◌≤◌, ltb, length}
+use Rattle.std.specs.Prelude.{Bool, List, ℕ, ◌+◌, ◌*◌, ◌≤◌, leb, ltb, length}
 use Rattle.std.proofs.Math.Bool.{true, false}
 use Rattle.spec.specs.Bytes as bytes
 use Rattle.spec.specs.Bytes.{both, Res, ok, refused, ◌>>=◌, rule}

@@ -2,6 +2,7 @@ use Prim.Native.Nat.{ℕ, ◌-◌}
 use native.Mathlib.Omega.{arith}
 use mathlib.Core.Path.{◌≡◌, ap}
 use lib.ListN.{take}
+use borrow.Author.Rules.{rules}
 use Rattle.frames.specs.FrameLaws.{framed-says}
 use Rattle.answer.specs.RespondingLaws.{asks-from}
 use Rattle.answer.proofs.ask.Goals as goal

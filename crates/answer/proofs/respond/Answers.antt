@@ -1,5 +1,6 @@
 use native.Mathlib.Omega.{arith}
 use mathlib.Core.Path.{sym, ◌∙◌}
+use borrow.Author.Rules.{rules}
 use Rattle.merge_under.specs.UnderLaws.{cleared-of}
 use Rattle.answer.specs.RespondingLaws.{responds, cleared-asked, not-framed}
 use Rattle.answer.proofs.respond.Goals as goal

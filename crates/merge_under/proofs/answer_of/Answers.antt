@@ -1,5 +1,7 @@
 use Rattle.merge_under.specs.Engine.{answer_as}
+use Prim.Native.Nat.{◌-◌}
 use mathlib.Core.Path.{ap, sym}
+use borrow.Author.Rules.{rules}
 use Rattle.merge_under.proofs.answer_of.Goals as goal
 
 -- src/lib.rt:267:1

@@ -5,8 +5,10 @@ use Rattle.prepared.specs.Pairs.{pairs_begun, pairs_of}
 use Rattle.merge_under.specs.Engine.{Stands}
 use Rattle.merge_under.specs.Counts.{counted_same}
 use Rattle.merge_under.specs.UnderLaws.{finish-asks, merges-refused, merges-doubled, merges-run, cleared-of}
+use Prim.Native.Nat.{◌-◌}
 use mathlib.Core.Path.{◌≡◌, ap, ◌∙◌}
 use lib.ListN.{length}
+use borrow.Author.Rules.{rules}
 use Rattle.merge_under.proofs.finish.Goals as goal
 
 pub finish-requires : goal.finish-requires

@@ -1,3 +1,4 @@
+use borrow.Author.Rules.{rules}
 use Rattle.second_run.proofs.limits_of.Goals as goal
 
 pub returns : goal.returns

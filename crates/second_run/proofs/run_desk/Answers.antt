@@ -1,5 +1,6 @@
 use mathlib.Core.Path.{ap}
 use native.Mathlib.Omega.{arith}
+use borrow.Author.Rules.{rules}
 use Rattle.spec.specs.Run.{limit_of}
 use Rattle.second_run.proofs.run_desk.Goals as goal
 

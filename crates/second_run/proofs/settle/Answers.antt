@@ -1,4 +1,5 @@
 use mathlib.Core.Path.{sym, refl, ◌∙◌}
+use borrow.Author.Rules.{rules}
 use Rattle.second_run.proofs.settle.Goals as goal
 
 pub returns-then-met_terms : goal.returns-then-met_terms
