@@ -1,5 +1,4 @@
 use mathlib.Core.Path.{◌∙◌}
-use borrow.Author.Rules.{rules}
 use Rattle.returned.specs.Children.{returns-added}
 use Rattle.tariff.proofs.tariff_add_child.Goals as goal
 

@@ -1,4 +1,3 @@
-use borrow.Author.Rules.{rules}
 use Rattle.spec.specs.declared.Caller.TheVariants.{Page}
 use Rattle.returned.specs.Cases.{returns_as}
 use Rattle.tariff.proofs.tariff_quote.Goals as goal

@@ -1,4 +1,3 @@
-use borrow.Author.Rules.{rules}
 use Rattle.returned.specs.CardCases.{returns-read}
 use Rattle.tariff.proofs.tariff_read_card.Goals as goal
 
