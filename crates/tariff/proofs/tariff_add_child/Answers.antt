@@ -1,4 +1,5 @@
 use mathlib.Core.Path.{◌∙◌}
+use borrow.Author.Rules.{rules}
 use Rattle.returned.specs.Children.{returns-added}
 use Rattle.tariff.proofs.tariff_add_child.Goals as goal
 

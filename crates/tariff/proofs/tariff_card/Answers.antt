@@ -1,3 +1,4 @@
+use borrow.Author.Rules.{rules}
 use Rattle.returned.specs.CardCases.{returns-card}
 use Rattle.tariff.proofs.tariff_card.Goals as goal
 

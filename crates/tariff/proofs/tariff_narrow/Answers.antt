@@ -1,4 +1,5 @@
 use mathlib.Core.Path.{ap, ◌∙◌}
+use borrow.Author.Rules.{rules}
 use Rattle.narrowing.specs.declared.Narrowed.{Narrowed}
 use Rattle.returned.specs.Narrows.{narrowed_numbers}
 use Rattle.tariff.proofs.tariff_narrow.Goals as goal

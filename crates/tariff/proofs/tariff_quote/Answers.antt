@@ -1,3 +1,4 @@
+use borrow.Author.Rules.{rules}
 use Rattle.spec.specs.declared.Caller.TheVariants.{Page}
 use Rattle.returned.specs.Cases.{returns_as}
 use Rattle.tariff.proofs.tariff_quote.Goals as goal

@@ -1,3 +1,4 @@
+use borrow.Author.Rules.{rules}
 use Rattle.returned.specs.CardCases.{returns-read}
 use Rattle.tariff.proofs.tariff_read_card.Goals as goal
 
