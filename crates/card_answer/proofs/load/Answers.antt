@@ -23,8 +23,7 @@ slice_bounds-read_behind-end c =
     let i = c.image_length-n in
     let q = c.query_of-q in
     let m = asks-from s _ i.result q.result _ _ _ _ (ap (λ (k : ℕ). take k s) (none-off i.result)) i.ensures q.ensures c.merge_plain-a.ensures.0 in
-    let w = sym (slice_bounds-merge_plain-end-2 c.before.before.before.before.before.before.before.before.before.before.before.before.before.before.before.before.before.before) in
-    listing-inside s _ _ [] [] _ _ c.requires.1.fit w m c.in-Listing.m c.in-Listing.is
+    listing-inside s _ _ [] [] _ _ c.requires.1.fit (search rules) m c.in-Listing.m c.in-Listing.is
 
 -- src/lib.rt:100:41
 pub read_behind-requires : goal.read_behind-requires
@@ -38,8 +37,7 @@ returns-in-Listing c =
     let i = c.image_length-n in
     let q = c.query_of-q in
     let m = asks-from s _ i.result q.result _ _ _ _ (ap (λ (k : ℕ). take k s) (none-off i.result)) i.ensures q.ensures c.merge_plain-a.ensures.0 in
-    let w = sym (slice_bounds-merge_plain-end-2 c.before.before.before.before.before.before.before.before.before.before.before.before.before.before.before.before.before.before.before.before.before.before.before.before.before.before.before.before.before) in
-    loads-listing s _ _ _ _ _ _ c.requires.1.fit w m c.in-Listing.m c.in-Listing.is _ c.read_behind.ensures
+    loads-listing s _ _ _ _ _ _ c.requires.1.fit (search rules) m c.in-Listing.m c.in-Listing.is _ c.read_behind.ensures
 
 -- src/lib.rt:73:1
 pub returns-in-Refused : goal.returns-in-Refused
@@ -48,8 +46,7 @@ returns-in-Refused c =
     let i = c.image_length-n in
     let q = c.query_of-q in
     let m = asks-from s _ i.result q.result _ _ _ _ (ap (λ (k : ℕ). take k s) (none-off i.result)) i.ensures q.ensures c.merge_plain-a.ensures.0 in
-    let w = sym (slice_bounds-merge_plain-end-2 c.before.before.before.before.before.before.before.before.before.before.before.before.before.before.before.before.before) in
-    loads-refused s _ _ _ _ _ _ c.requires.1.fit w m c.in-Refused.k c.in-Refused.is
+    loads-refused s _ _ _ _ _ _ c.requires.1.fit (search rules) m c.in-Refused.k c.in-Refused.is
 
 -- src/lib.rt:73:1
 pub returns-in-Doubled : goal.returns-in-Doubled
@@ -58,5 +55,4 @@ returns-in-Doubled c =
     let i = c.image_length-n in
     let q = c.query_of-q in
     let m = asks-from s _ i.result q.result _ _ _ _ (ap (λ (k : ℕ). take k s) (none-off i.result)) i.ensures q.ensures c.merge_plain-a.ensures.0 in
-    let w = sym (slice_bounds-merge_plain-end-2 c.before.before.before.before.before.before.before.before.before.before.before.before.before.before.before.before.before) in
-    loads-doubled s _ _ _ _ _ _ c.requires.1.fit w m c.in-Doubled.c c.in-Doubled.is
+    loads-doubled s _ _ _ _ _ _ c.requires.1.fit (search rules) m c.in-Doubled.c c.in-Doubled.is
