@@ -42,12 +42,7 @@ write_last-requires c =
     let t = c.table_end-e in
     let T = sym c.is_tabled.ensures ∙ c.if-not-is_tabled.false in
     let F = sym c.is_framed.ensures ∙ c.if-not-is_framed.false in
-    last-ready s t.result t.ensures.0 T _ (part_to_end s t.result) F _ _ _ c.load-m.ensures c.in-Pool.is _ (at_least _ _ c.graph-1.given c.requires.0.marks)
-
--- src/lib.rt:113:1
-pub shape_of-graph-in-Pool : goal.shape_of-graph-in-Pool
-shape_of-graph-in-Pool c =
-    c.graph-in-Pool-1.given ∙ c.graph-1.given
+    last-ready s t.result t.ensures.0 T _ (part_to_end s t.result) F _ _ _ c.load-m.ensures c.in-Pool.is _ (at_least _ _ c.load-m.auto.graph c.requires.0.marks)
 
 -- src/lib.rt:113:1
 pub returns-in-Pool : goal.returns-in-Pool

@@ -27,12 +27,10 @@ overflow_add-result c =
 pub returns-in-Text : goal.returns-in-Text
 returns-in-Text c =
     let a = c.args in
-    let k = c.a-1.given in
     feeds-as a.out.now _ a.a (Text c.in-Text.n) _ c.in-Text.is (refl, refl)
 
 -- src/lib.rt:147:1
 pub returns-in-Refused : goal.returns-in-Refused
 returns-in-Refused c =
     let a = c.args in
-    let k = c.a-in-Refused-1.given in
     feeds-as a.out.now _ a.a (Refused c.in-Refused.k) _ c.in-Refused.is (wrote-front (refusal_bytes c.in-Refused.k) a.out.now _ _ c.refusal.ensures)

@@ -13,9 +13,9 @@ use Rattle.card_answer.proofs.respond.Goals as goal
 -- src/lib.rt:176:5
 pub feed-requires : goal.feed-requires
 feed-requires c =
-    (c.out-1.given ∙ c.requires.1, c.answer_to-a.ensures.short)
+    (c.answer_to-a.auto.out ∙ c.requires.1, c.answer_to-a.ensures.short)
 
 -- src/lib.rt:161:1
 pub returns : goal.returns
 returns c =
-    (responds c.args.input.now c.args.out.now _ _ _ _ c.requires.1 c.answer_to-a.ensures c.feed.ensures, cleared-kept c.clear_all.ensures c.graph-1.given c.pairs-1.given c.work-1.given c.flow-1.given c.terms-1.given c.runs-1.given)
+    (responds c.args.input.now c.args.out.now _ _ _ _ c.requires.1 c.answer_to-a.ensures c.feed.ensures, cleared-kept c.clear_all.ensures c.answer_to-a.auto.graph c.answer_to-a.auto.pairs c.answer_to-a.auto.work c.answer_to-a.auto.flow c.answer_to-a.auto.terms c.answer_to-a.auto.runs)
