@@ -1,0 +1,2 @@
+pub mod Carding
+pub mod CardingLaws
