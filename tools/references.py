@@ -7,7 +7,7 @@ import re
 crates = {c for c in os.listdir('crates') if os.path.isdir(f'crates/{c}/src')}
 there = set()
 for c in crates:
-    for f in glob.glob(f'crates/{c}/specs/*.antt') + glob.glob(f'crates/{c}/must-fail/*.edit'):
+    for f in glob.glob(f'crates/{c}/specs/*.antt') + glob.glob(f'crates/{c}/proofs/*.antt') + glob.glob(f'crates/{c}/must-fail/*.edit'):
         there.add((c, os.path.basename(f).split('.')[0]))
     for f in glob.glob(f'crates/{c}/src/*.rt'):
         there |= {(c, m[1]) for m in re.finditer(r'\bfn (\w+)', open(f, encoding='utf-8').read())}

@@ -9,13 +9,14 @@ import re
 # the queries that stand in crate spec, since they refuse a must-fail edit of it that its other tests let pass: sorted_best_terms, structural_after_transport
 KEPT = ['slip: sorted best terms', 'slip: transport first']
 
-HEAD = '''use Rattle.std.specs.Prelude.{◌≡◌, refl, List, [], ◌∷◌, ℕ}
+HEAD = '''use Rattle.std.specs.Prelude.{◌≡◌, refl, List, [], ◌∷◌}
 use Prim.Native.String.{String}
 use Rattle.spec.specs.Bytes.{text}
 use Rattle.spec.specs.Merge.{program_of}
 use Rattle.spec.specs.Asked.{Asked, asked, frame, answers, expected, hex}
 '''
-DAMAGED = HEAD.replace('frame, answers, expected, hex', 'cut, answers, expected, hex, put')
+COUNTED = HEAD.replace('◌∷◌}', '◌∷◌, ℕ}')
+DAMAGED = COUNTED.replace('use Prim.Native.String.{String}\n', '').replace('frame, answers, expected, hex', 'cut, answers, expected, hex, put')
 
 def blocks(path):
     title, frame, answer = None, None, []
@@ -74,7 +75,7 @@ queries('crates/samples/specs/Samples.antt', '-- Small queries for each feature,
 queries('crates/samples/specs/Skipped.antt', "-- (02, Paper 7) Monomial pairs passed over: answers of the listed Rust with its own count of checks, the number of skipped pairs from the model (oracle/sample/skipped.txt).", HEAD, skipped)
 queries('crates/samples/specs/Checks.antt', "-- (02, Paper 13) Checks that passed, and the two classes in either order: answers of the listed Rust with its own count of checks, the number of skipped pairs from the model (oracle/sample/checks.txt).", HEAD, checks)
 queries('crates/samples/specs/Slips.antt', "-- Queries whose answer tells the rules from a porter's slip: answers of the listed Rust with its own count of checks (oracle/sample/slips.txt).", HEAD, [(t, qs) for t, qs in slips if t not in KEPT])
-queries('crates/spec/specs/Kept.antt', "-- Two queries of crate samples' kind (oracle/sample/slips.txt) that stand here since they refuse a must-fail edit that no other test of this crate refuses.", HEAD, [(t, qs) for t, qs in slips if t in KEPT])
+queries('crates/spec/specs/Kept.antt', "-- Two queries of crate samples' kind (oracle/sample/slips.txt) that stand here since they refuse a must-fail edit that no other test of this crate refuses.", COUNTED, [(t, qs) for t, qs in slips if t in KEPT])
 
 out = ['-- A sound image, and a damaged one for each way to break a rule, refusals 2 to 11; images that break two rules show the order (oracle/sample/small.txt).', DAMAGED]
 out += ['-- five classes over Lit, Plain2, SPair and MSet, and a query', 'unfoldable sound : List ℕ', 'unfolding hex', f'sound = hex "{bytes(sound).hex()}"', '']
