@@ -1,5 +1,4 @@
 pub mod Words
-pub mod StackLaws
 pub mod Results
 pub mod Reading
 pub mod ItemLaws
@@ -7,4 +6,3 @@ pub mod StandLaws
 pub mod ReduceLaws
 pub mod CloseLaws
 pub mod StepLaws
-pub mod ReadLaws

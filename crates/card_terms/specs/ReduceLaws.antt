@@ -17,8 +17,13 @@ use Rattle.card_terms.specs.declared.Stood.{Stood}
 use Rattle.card_terms.specs.declared.Stood.TheVariants as S
 use Rattle.card_terms.specs.Words.{Reached, whole, full, stuck, Word, bracket, list_head, marked_head, left_child, child, Stack, intern_at, intern_on, on_top, ◌>>=◌, reduce_on, reduce_top, word_of, words_in}
 use Rattle.card_terms.specs.Reading.{head_node, Items, WordsBelow, Known, Topped, LeftBelow, reduced_once, Waits, Standing, Steps}
-use Rattle.card_terms.specs.StackLaws.{bind-bind}
 use Rattle.card_terms.specs.StandLaws.{word-left, word-child, words-top, words-set}
+
+-- ---- steps one after the other
+pub bind-bind : {A B C : Type 0} (m : Reached A) (f : A → Reached B) (g : B → Reached C) → ((m >>= f) >>= g) ≡ (m >>= λ a. f a >>= g)
+bind-bind (whole a) f g = refl
+bind-bind (full p) f g = refl
+bind-bind stuck f g = refl
 
 whole-inj : {A : Type 0} {a b : A} → whole a ≡ whole b → a ≡ b
 whole-inj e = cc

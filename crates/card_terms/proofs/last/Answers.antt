@@ -1,5 +1,5 @@
 use Rattle.query.specs.Settings.{limits_of}
-use Rattle.card_terms.specs.ReadLaws.{last-topped, last-full, last-only, last-inside, last-term}
+use Rattle.card_terms.proofs.ReadLaws.{last-topped, last-full, last-only, last-inside, last-term}
 use native.Mathlib.Omega.{arith}
 use Rattle.card_terms.proofs.last.Goals as goal
 

@@ -4,7 +4,7 @@ use Rattle.card_cut.specs.declared.Cut.TheVariants as C
 use Rattle.card_cut.specs.CutLaws.{mark-behind}
 use Rattle.card_cut.specs.Cutting.{Cuts}
 use Rattle.query.specs.Settings.{limits_of}
-use Rattle.card_terms.specs.ReadLaws.{entering-start, entering-some, entering-proper, entering-free, entering-stop, entering-turn, entering-end, ending-free}
+use Rattle.card_terms.proofs.ReadLaws.{entering-start, entering-some, entering-proper, entering-free, entering-stop, entering-turn, entering-end, ending-free}
 use Prim.Native.Nat.{◌≤◌, ◌<◌}
 use native.Mathlib.Omega.{arith}
 use lib.ListN.{length}

@@ -1,5 +1,5 @@
 use Rattle.query.specs.Settings.{limits_of}
-use Rattle.card_terms.specs.ReadLaws.{Entering}
+use Rattle.card_terms.proofs.ReadLaws.{Entering}
 use Prim.Native.Nat.{◌-◌}
 use lib.ListN.{length}
 use Rattle.card_terms.proofs.read_terms.Given as goal

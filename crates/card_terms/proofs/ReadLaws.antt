@@ -30,7 +30,7 @@ use Rattle.card_terms.specs.Words.{Reached, whole, full, stuck, ◌>>=◌, reach
 use Rattle.card_terms.specs.Reading.{Known, Topped, Standing, Steps, Ends, Reads}
 use Rattle.card_terms.specs.StandLaws.{word-child}
 use Rattle.card_terms.specs.StepLaws.{not_stuck, topped-of, turn-some}
-use Rattle.card_terms.specs.StackLaws.{marks-enter}
+use Rattle.card_terms.proofs.StackLaws.{marks-enter}
 
 -- ---- the operations of left children stay the table's
 module _ (t : List ℕ) where

@@ -14,13 +14,9 @@ use Rattle.formula.specs.Reader.{Frame, left, in_list, in_marked, State, wants, 
 use Rattle.formula.specs.Reader as reader
 use Rattle.formula.specs.Lexer.{marked_node}
 use Rattle.card_terms.specs.Words.{Reached, whole, full, stuck, ◌>>=◌, intern_at, enter_at, enter_all_at, Word, bracket, list_head, marked_head, left_child, child, Stack, on_top, reduce_on, reduce_top, turn_left, close_on, shut_on, step_on, only_term, run_on}
+use Rattle.card_terms.specs.ReduceLaws.{bind-bind}
 
 -- ---- steps one after the other
-pub bind-bind : {A B C : Type 0} (m : Reached A) (f : A → Reached B) (g : B → Reached C) → ((m >>= f) >>= g) ≡ (m >>= λ a. f a >>= g)
-bind-bind (whole a) f g = refl
-bind-bind (full p) f g = refl
-bind-bind stuck f g = refl
-
 bind-cong : {A B : Type 0} (m : Reached A) (f g : A → Reached B) → ((a : A) → f a ≡ g a) → (m >>= f) ≡ (m >>= g)
 bind-cong (whole a) f g h = h a
 bind-cong (full p) f g h = refl
