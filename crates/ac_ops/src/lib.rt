@@ -17,12 +17,10 @@ fn has_op(s: &[u8], im: Image, c: usize, op: usize) -> bool
     ensures { result ≡ any (λ m. eqb m.op op) (members_of (tables_of s.now) c) }
 {
     let span = classes::members_of(s, im, c);
-    let mut i = span.from;
-    while i < span.to {
+    for i in span.from..span.to {
         if members::member_op(s, im, i) == op {
             return true;
         }
-        i += 1;
     }
     false
 }

@@ -29,8 +29,7 @@ pub fn list_action(
     ensures { (result ≡ length (runs_of (term_in im.classes graph.now pairs.now) (action_at (tables_of s.now) v).pairs)) × (list.new ≡ over (runs_of (term_in im.classes graph.now pairs.now) (action_at (tables_of s.now) v).pairs) list.old) }
 {
     let m = count(s, im, v);
-    let mut k = 0;
-    while k < m {
+    for k in 0..m {
         let l = left_class(s, im, v, k);
         let r = right_class(s, im, v, k);
         put_u64(
@@ -38,7 +37,6 @@ pub fn list_action(
             k,
             16384 + long_u32(term_of(graph, pairs, im.classes, l, r)),
         );
-        k += 1;
     }
     m
 }

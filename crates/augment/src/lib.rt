@@ -35,11 +35,9 @@ fn sum_every(flow: &[u64], k: usize, d: usize, n: usize) -> u64
 {
     let mut s = 0;
     let mut at = k;
-    let mut i = 0;
-    while i < n {
+    for i in 0..n {
         s += flow[at];
         at += d;
-        i += 1;
     }
     s
 }
@@ -49,11 +47,9 @@ fn fill_rows(supply: &[u32], flow: &[u64], left: &mut [u64; MARGINS], r: usize, 
     requires { (r ≤ WIDEST) × (c ≤ WIDEST) × (length supply.now ≡ r) × (length left.old ≡ MARGINS) × Low r c flow.now }
     ensures { RowsLeft r c supply.now flow.now left.old left.new r }
 {
-    let mut i = 0;
-    while i < r {
+    for i in 0..r {
         let s = sum_every(flow, i * c, 1, c);
         put_left(left, i, less(long_u32(supply[i]), s));
-        i += 1;
     }
 }
 
@@ -62,12 +58,10 @@ fn fill_columns(demand: &[u32], flow: &[u64], left: &mut [u64; MARGINS], r: usiz
     requires { (r ≤ WIDEST) × (c ≤ WIDEST) × (length demand.now ≡ c) × (length left.old ≡ MARGINS) × Low r c flow.now }
     ensures { ColumnsLeft r c demand.now flow.now left.new c }
 {
-    let mut j = 0;
-    while j < c {
+    for j in 0..c {
         let s = sum_every(flow, j, c, r);
         put_left(left, WIDEST + j, less(long_u32(demand[j]), s));
         put_left(left, TAKEN + j, s);
-        j += 1;
     }
 }
 

@@ -55,8 +55,7 @@ pub fn bottleneck(
     ensures { result ≡ least_on costs.now flow.now left.now r c most (steps_from path.now (LAST - from) from) }
 {
     let mut b = most;
-    let mut a = from;
-    while a < LAST {
+    for a in from..LAST {
         let x = left_on(
             costs,
             flow,
@@ -67,7 +66,6 @@ pub fn bottleneck(
             path[a + 1] as usize,
         );
         b = least(b, x);
-        a += 1;
     }
     b
 }

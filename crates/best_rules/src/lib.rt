@@ -27,13 +27,11 @@ fn size_right(s: &[u8], im: Image, m: usize, size: u64) -> bool
     let from = first_child(s, im, m);
     let n = child_count(s, im, m);
     let mut sum: u64 = 1;
-    let mut i = 0;
-    while i < n {
+    for i in 0..n {
         sum = sum + child_size(s, im, from + i);
         if sum > Image::BEST_SIZE {
             return false;
         }
-        i += 1;
     }
     size == sum
 }
@@ -64,12 +62,10 @@ pub fn bests_right(s: &[u8], im: Image) -> bool
     requires { Loaded s.now im × Spans (tables_of s.now) × Children (tables_of s.now) }
     ensures { result ≡ all (best_right (tables_of s.now)) (tables_of s.now).classes }
 {
-    let mut c = 0;
-    while c < im.classes {
+    for c in 0..im.classes {
         if !best_right(s, im, c) {
             return false;
         }
-        c += 1;
     }
     true
 }

@@ -104,12 +104,10 @@ fn find_sign(table: &[u8], binds: &[u8; 64], text: &[u8], at: usize, last: u8) -
     ensures { result ≡ sign_at table.now last (drop at text.now) }
 {
     let n = operations(table);
-    let mut o = 0;
-    while o < n {
+    for o in 0..n {
         if sign_fits(table, binds, o, text, at, last) {
             return o;
         }
-        o += 1;
     }
     n
 }

@@ -30,10 +30,8 @@ fn mark_children(runs: &[u64], marks: &mut [u16], from: usize, to: usize)
     requires { (from ≤ to) × (to ≤ length runs.now) × (to ≤ 65536) × ChildrenBelow runs.now from to (length marks.old) }
     ensures { marks.new ≡ mark_all marks.old (part runs.now from (to - from)) }
 {
-    let mut i = from;
-    while i < to {
+    for i in from..to {
         stores::put_u16(marks, terms::child(runs[i]), 1);
-        i += 1;
     }
 }
 

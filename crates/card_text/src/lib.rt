@@ -114,11 +114,9 @@ fn write_copies(out: &mut [u8], from: usize, to: usize, h: u32, n: u64) -> usize
     ensures { Wrote (copies n (gap_text h ++ take (to - from) (drop from out.old))) out.old to out.new result }
 {
     let mut at = to;
-    let mut k = 0;
-    while k < n {
+    for k in 0..n {
         let a = write_gap(out, at, h);
         at = write_again(out, a, from, to);
-        k += 1;
     }
     at
 }
@@ -148,12 +146,10 @@ pub fn write_term(
         }
         Form::Series(h, from, to) => {
             let mut at = write_opening(out, at0, table, h);
-            let mut i = from;
-            while i < to {
+            for i in from..to {
                 let b = write_gap_after(out, at, h, i == from);
                 let c = write_term(out, b, table, terms, runs, terms::child(runs[i]), 0);
                 at = write_copies(out, b, c, h, terms::times(runs[i]) - 1);
-                i += 1;
             }
             write_closing(out, at, h)
         }

@@ -129,8 +129,7 @@ pub fn measure(table: &[u8], terms: &[u32], runs: &[u64], a: usize, m: usize, ro
                 return Room::Over;
             };
             let mut room = rest;
-            let mut i = from;
-            while i < to {
+            for i in from..to {
                 let child = measure(table, terms, runs, terms::child(runs[i]), 0, room);
                 let Room::Left(b) = child else {
                     return Room::Over;
@@ -140,7 +139,6 @@ pub fn measure(table: &[u8], terms: &[u32], runs: &[u64], a: usize, m: usize, ro
                     return Room::Over;
                 };
                 room = c;
-                i += 1;
             }
             Room::Left(room)
         }

@@ -31,11 +31,9 @@ pub fn largest_mass(
 {
     let count = rows * cols;
     let mut v = 0u32;
-    let mut k = 0;
-    while k < count {
+    for k in 0..count {
         let p = cell(left, rows, right, cols, k);
         v = larger(v, mass_of(graph, pairs, w, p.left, p.right));
-        k += 1;
     }
     v
 }
@@ -59,12 +57,10 @@ pub fn lay_cells(
     ensures { costs.new ≡ costs_after (problem_at (quality_in w graph.now pairs.now) (sides_of left.now rows right.now cols)) costs.old }
 {
     let count = rows * cols;
-    let mut k = 0;
-    while k < count {
+    for k in 0..count {
         let p = cell(left, rows, right, cols, k);
         let size = size_of(graph, pairs, w, p.left, p.right);
         let mass = mass_of(graph, pairs, w, p.left, p.right);
         cost_matrix::lay_cell(costs, k, x, size, mass, supply[k / cols], demand[k % cols]);
-        k += 1;
     }
 }

@@ -40,12 +40,10 @@ fn any_child(s: &[u8], im: Image, m: usize, marks: &[u8]) -> bool
 {
     let span = children_of(s, im, m);
     let to = span.to;
-    let mut k = span.from;
-    while k < to {
+    for k in span.from..to {
         if marked(marks, child_class(s, im, k)) {
             return true;
         }
-        k += 1;
     }
     false
 }
@@ -57,12 +55,10 @@ fn any_member(s: &[u8], im: Image, c: usize, marks: &[u8]) -> bool
 {
     let span = members_of(s, im, c);
     let to = span.to;
-    let mut m = span.from;
-    while m < to {
+    for m in span.from..to {
         if any_child(s, im, m, marks) {
             return true;
         }
-        m += 1;
     }
     false
 }
@@ -86,12 +82,10 @@ fn any_identity(s: &[u8], im: Image, marks: &[u8]) -> bool
     ensures { result ≡ any (marked_in marks.now) (identities (tables_of s.now)) }
 {
     let n = im.operations;
-    let mut o = 0;
-    while o < n {
+    for o in 0..n {
         if marked_identity(s, im, o, marks) {
             return true;
         }
-        o += 1;
     }
     false
 }
@@ -102,12 +96,10 @@ fn has_identity(s: &[u8], im: Image) -> bool
     ensures { result ≡ non_empty (identities (tables_of s.now)) }
 {
     let n = im.operations;
-    let mut o = 0;
-    while o < n {
+    for o in 0..n {
         if identity(s, im, o) != Image::NO_IDENTITY {
             return true;
         }
-        o += 1;
     }
     false
 }
@@ -146,9 +138,7 @@ pub fn touch_all(s: &[u8], im: Image, marks: &[u8], live: &mut [u8])
     let through = any_identity(s, im, marks);
     let itself = has_identity(s, im);
     let n = im.classes;
-    let mut c = 0;
-    while c < n {
+    for c in 0..n {
         live[c] = bit(touched(s, im, c, marks, through, itself));
-        c += 1;
     }
 }

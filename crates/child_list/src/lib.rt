@@ -26,14 +26,12 @@ fn insert_term(mono: &mut [u64], p: usize, n: usize, c: u64, k: u64)
 {
     let mut x = c;
     let mut y = k;
-    let mut j = 0;
-    while j <= n {
+    for j in 0..=n {
         let t = class_at(mono, p + j);
         let u = count_at(mono, p + j);
         put_term(mono, p + j, x, y);
         x = t;
         y = u;
-        j += 1;
     }
 }
 

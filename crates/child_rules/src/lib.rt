@@ -37,12 +37,10 @@ fn own_right(s: &[u8], im: Image, k: usize, m: usize) -> bool
 {
     let from = first_child(s, im, m);
     let n = child_count(s, im, m);
-    let mut i = 0;
-    while i < n {
+    for i in 0..n {
         if !child_right(s, im, k, from + i) {
             return false;
         }
-        i += 1;
     }
     true
 }
@@ -63,12 +61,10 @@ pub fn children_right(s: &[u8], im: Image) -> bool
     requires { Loaded s.now im × Spans (tables_of s.now) }
     ensures { result ≡ children_right (tables_of s.now) }
 {
-    let mut m = 0;
-    while m < im.members {
+    for m in 0..im.members {
         if !member_children_right(s, im, m) {
             return false;
         }
-        m += 1;
     }
     true
 }

@@ -36,12 +36,10 @@ fn literal_from(s: &[u8], im: Image, o: usize, v: u64, from: usize) -> bool
     requires { Loaded s.now im × (kind_of (tables_of s.now) o ≡ Lit) }
     ensures { result ≡ any (is_literal (tables_of s.now) (o, v)) (drop from (tables_of s.now).members) }
 {
-    let mut m = from;
-    while m < im.members {
+    for m in from..im.members {
         if is_literal(s, im, o, v, m) {
             return true;
         }
-        m += 1;
     }
     false
 }
@@ -77,12 +75,10 @@ pub fn class_doubled(s: &[u8], im: Image, last: &[u16; 4093], c: usize) -> bool
 {
     let from = first_member(s, im, c);
     let n = member_count(s, im, c);
-    let mut i = 0;
-    while i < n {
+    for i in 0..n {
         if member_doubled(s, im, last, from + i, from + n) {
             return true;
         }
-        i += 1;
     }
     false
 }

@@ -6,29 +6,23 @@ ghost use Rattle.std.specs.Prelude.{◌≡◌, length, replicate};
 pub fn clear_u16(s: &mut [u16])
     ensures { s.new ≡ replicate (length s.old) 0 }
 {
-    let mut k = 0;
-    while k < s.len() {
+    for k in 0..s.len() {
         s[k] = 0u16;
-        k += 1;
     }
 }
 
 pub fn clear_u32(s: &mut [u32])
     ensures { s.new ≡ replicate (length s.old) 0 }
 {
-    let mut k = 0;
-    while k < s.len() {
+    for k in 0..s.len() {
         s[k] = 0u32;
-        k += 1;
     }
 }
 
 pub fn clear_u64(s: &mut [u64])
     ensures { s.new ≡ replicate (length s.old) 0 }
 {
-    let mut k = 0;
-    while k < s.len() {
+    for k in 0..s.len() {
         s[k] = 0u64;
-        k += 1;
     }
 }

@@ -27,10 +27,8 @@ pub fn text(out: &mut [u8], at: usize, b: &[u8]) -> usize
     requires { at + length b.now ≤ length out.old }
     ensures { Wrote b.now out.old at out.new result }
 {
-    let mut i = 0;
-    while i < b.len() {
+    for i in 0..b.len() {
         out[at + i] = b[i];
-        i += 1;
     }
     at + b.len()
 }

@@ -50,8 +50,7 @@ fn enter_action(lim: Limits, s: &[u8], im: Image, v: State, graph: &mut [u16], n
 {
     let many = count(s, im, v);
     let mut n = n0;
-    let mut k = 0;
-    while k < many {
+    for k in 0..many {
         let l = left_class(s, im, v, k);
         let r = right_class(s, im, v, k);
         match enter_pair(lim, im.classes, graph, n, l, r) {
@@ -62,7 +61,6 @@ fn enter_action(lim: Limits, s: &[u8], im: Image, v: State, graph: &mut [u16], n
                 n = m;
             }
         }
-        k += 1;
     }
     Grown::To(n)
 }
@@ -117,8 +115,7 @@ fn enter_row(
     ensures { Grows (limits_of lim) w (enter_all (limits_of lim) (pairs_in w graph.old n0) (map (λ b. (l, b)) (classes (held cols right.now)))) graph.new result }
 {
     let mut n = n0;
-    let mut j = 0;
-    while j < cols {
+    for j in 0..cols {
         let r = size_u64(class_at(right, j));
         match enter_pair(lim, w, graph, n, l, r) {
             Grown::Full => {
@@ -128,7 +125,6 @@ fn enter_row(
                 n = m;
             }
         }
-        j += 1;
     }
     Grown::To(n)
 }
@@ -148,8 +144,7 @@ fn enter_cells(
     ensures { Grows (limits_of lim) w (enter_all (limits_of lim) (pairs_in w graph.old n0) (cell_pairs (pair_of (held rows left.now) (held cols right.now)))) graph.new result }
 {
     let mut n = n0;
-    let mut i = 0;
-    while i < rows {
+    for i in 0..rows {
         let l = size_u64(class_at(left, i));
         match enter_row(lim, w, l, right, cols, graph, n) {
             Grown::Full => {
@@ -159,7 +154,6 @@ fn enter_cells(
                 n = m;
             }
         }
-        i += 1;
     }
     Grown::To(n)
 }

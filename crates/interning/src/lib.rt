@@ -26,12 +26,10 @@ fn same_runs(runs: &[u64], from: usize, list: &[u64], n: usize) -> bool
     requires { (from + n ≤ length runs.now) × (n ≤ length list.now) }
     ensures { Tells result (part runs.now from n ≡ part list.now 0 n) }
 {
-    let mut i = 0;
-    while i < n {
+    for i in 0..n {
         if runs[from + i] != list[i] {
             return false;
         }
-        i += 1;
     }
     true
 }

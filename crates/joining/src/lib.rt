@@ -30,11 +30,9 @@ pub fn join_runs(list: &mut [u64], n: usize) -> usize
     ensures { Begins (joined_in list.old n) list.old list.new result }
 {
     let mut m = 0;
-    let mut i = 0;
-    while i < n {
+    for i in 0..n {
         let x = list[i];
         m = append(list, m, x);
-        i += 1;
     }
     m
 }

@@ -55,10 +55,8 @@ fn unsee(net: &mut [u64; NET], n: usize)
     requires { n ≤ NODES }
     ensures { net.new ≡ unseen_to n 0 net.old }
 {
-    let mut i = 0;
-    while i < n {
+    for i in 0..n {
         put(net, STATE + i, 0);
-        i += 1;
     }
 }
 

@@ -21,10 +21,8 @@ fn lay_margin(mono: &[u64], n: usize, margin: &mut [u32])
     requires { (length mono.now ≡ NUMBERS) × (n ≤ TERMS) × (narrow (held n mono.now) ≡ true) × (TERMS ≤ length margin.old) }
     ensures { margin.new ≡ over (counts (held n mono.now)) margin.old }
 {
-    let mut i = 0;
-    while i < n {
+    for i in 0..n {
         put_u32(margin, i, short_u64(monomial_terms::count_at(mono, i)));
-        i += 1;
     }
 }
 

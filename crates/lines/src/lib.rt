@@ -27,11 +27,9 @@ fn write_runs(
     requires { (from ≤ to) × (to ≤ length runs.now) × Named marks.now runs.now from to × (at0 + length (runs_in runs.now marks.now from (to - from)) ≤ length out.old) }
     ensures { Wrote (runs_in runs.now marks.now from (to - from)) out.old at0 out.new result }
 {
-    let mut i = from;
     let mut at = at0;
-    while i < to {
+    for i in from..to {
         at = write_run(out, at, marks, runs[i]);
-        i += 1;
     }
     at
 }
@@ -83,11 +81,9 @@ pub fn write_lines(
     requires { Holds terms.now runs.now × Ready terms.now runs.now marks.now n × (at0 + length (lines_in terms.now runs.now marks.now 0 n) ≤ length out.old) }
     ensures { Wrote (lines_in terms.now runs.now marks.now 0 n) out.old at0 out.new result }
 {
-    let mut k = 0;
     let mut at = at0;
-    while k < n {
+    for k in 0..n {
         at = write_line(out, at, terms, runs, marks, n, k);
-        k += 1;
     }
     at
 }

@@ -17,11 +17,9 @@ fn mark(s: &[u8], im: Image, last: &mut [u16; 4093])
     requires { Loaded s.now im × (im.members < 65536) × (length last.old ≡ SLOTS) }
     ensures { Marks (tables_of s.now) last.new }
 {
-    let mut m = 0;
-    while m < im.members {
+    for m in 0..im.members {
         let at = slot(member_op(s, im, m), member_value(s, im, m));
         put_u16(last, at, m + 1);
-        m += 1;
     }
 }
 

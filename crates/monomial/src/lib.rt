@@ -31,10 +31,8 @@ fn of_member(s: &[u8], im: Image, m: usize, mono: &mut [u64]) -> usize
 {
     let span = members::children_of(s, im, m);
     let mut n = 0;
-    let mut k = span.from;
-    while k < span.to {
+    for k in span.from..span.to {
         n = add_kth(s, im, k, mono, n);
-        k += 1;
     }
     n
 }

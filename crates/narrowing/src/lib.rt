@@ -20,15 +20,13 @@ pub fn narrow(mono: &[u64], n: usize) -> Narrowed
     ensures { result ≡ narrowed_of (fails_at (held n mono.now)) }
 {
     let many = mono.len() / 2;
-    let mut i = 0;
-    while i < n {
+    for i in 0..n {
         if i >= many {
             return Narrowed::Fits;
         }
         if count_at(mono, i) > id::multiplicity::MAX {
             return Narrowed::FailsAt(i);
         }
-        i += 1;
     }
     Narrowed::Fits
 }

@@ -34,11 +34,9 @@ fn number(terms: &[u32], runs: &[u64], marks: &mut [u16], n0: usize, t: usize) -
         return n0;
     }
     let end = terms::first(terms, t + 1);
-    let mut i = terms::first(terms, t);
     let mut n = n0;
-    while i < end {
+    for i in terms::first(terms, t)..end {
         n = number(terms, runs, marks, n, terms::child(runs[i]));
-        i += 1;
     }
     settle(marks, n, t);
     n + 1

@@ -29,10 +29,8 @@ fn kept_runs(s: &[u8], im: Image, best: &[u16], list: &mut [u64], k: usize, n: u
     requires { Loaded s.now im × (k < 65536) × (n ≤ length list.old) × ((i : ℕ) → i < n → (k + i < im.children) × ((the_child (tables_of s.now) (k + i)).0 < length best.now) × (0 < get_or best.now (the_child (tables_of s.now) (k + i)).0 0) × (get_or best.now (the_child (tables_of s.now) (k + i)).0 0 ≤ 16384)) }
     ensures { (i : ℕ) → i < n → (get_or list.new i 0 ≡ kept_number best.now (the_child (tables_of s.now) (k + i))) × (get_or list.new i 0 < 2 ^ 47) }
 {
-    let mut i = 0;
-    while i < n {
+    for i in 0..n {
         stores::put_u64(list, i, kept_run(s, im, best, k + i));
-        i += 1;
     }
 }
 

@@ -51,12 +51,10 @@ pub fn operations_right(s: &[u8], im: Image) -> bool
     requires { Loaded s.now im }
     ensures { result ≡ all (operation_right (length (tables_of s.now).classes)) (tables_of s.now).operations }
 {
-    let mut o = 0;
-    while o < im.operations {
+    for o in 0..im.operations {
         if !operation_right(s, im, o) {
             return false;
         }
-        o += 1;
     }
     true
 }

@@ -19,10 +19,8 @@ pub fn total(mono: &[u64], n: usize) -> u64
     ensures { result ≡ total (held n mono.now) }
 {
     let mut sum: u64 = 0;
-    let mut i = 0;
-    while i < n {
+    for i in 0..n {
         sum += count_at(mono, i);
-        i += 1;
     }
     sum
 }

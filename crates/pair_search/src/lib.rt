@@ -54,10 +54,8 @@ fn any_pair(table: &[Pair], from: usize, to: usize, left: u16, right: u16) -> bo
     ensures { result ≡ any_from table.now (left, right) (to - from) from }
 {
     let mut any = false;
-    let mut i = from;
-    while i < to {
+    for i in from..to {
         any = or_pair(any, table[i], left, right);
-        i = i + 1;
     }
     any
 }

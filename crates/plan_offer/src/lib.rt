@@ -90,10 +90,8 @@ fn plan_totals(
         size: Wide { lo: 0, hi: 0 },
         mass: Wide { lo: 0, hi: 0 },
     };
-    let mut k = 0;
-    while k < x.len() {
+    for k in 0..x.len() {
         t = add_cell(graph, pairs, w, left, rows, right, cols, k, x[k], t);
-        k += 1;
     }
     t
 }
@@ -160,10 +158,8 @@ fn list_plan(
         × (list.new ≡ over (runs_at (term_in w graph.now pairs.now) (sides_of left.now rows right.now cols) x.now) list.old) }
 {
     let mut m = 0;
-    let mut k = 0;
-    while k < x.len() {
+    for k in 0..x.len() {
         m = list_cell(graph, pairs, w, left, rows, right, cols, k, x[k], list, m);
-        k += 1;
     }
     m
 }

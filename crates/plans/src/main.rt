@@ -256,10 +256,8 @@ fn push(out: &mut [u8], at: usize, b: u8) -> usize {
 
 fn text(out: &mut [u8], from: usize, s: &[u8]) -> usize {
     let mut at = from;
-    let mut i = 0;
-    while i < s.len() {
+    for i in 0..s.len() {
         at = push(out, at, s[i]);
-        i += 1;
     }
     at
 }
@@ -352,11 +350,9 @@ fn units(plan: &[u32], i: usize) -> u64 {
 // The first n numbers of the plan, each behind a space.
 fn tell_units(out: &mut [u8], from: usize, plan: &[u32], n: usize) -> usize {
     let mut at = from;
-    let mut i = 0;
-    while i < n {
+    for i in 0..n {
         at = push(out, at, 32);
         at = decimal(out, at, units(plan, i));
-        i += 1;
     }
     at
 }

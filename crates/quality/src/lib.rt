@@ -59,13 +59,11 @@ fn structural_quality(s: &[u8], im: Image, v: State, graph: &[u16], pairs: &[u32
     let m = count(s, im, v);
     let mut size = 1;
     let mut mass = 0;
-    let mut k = 0;
-    while k < m {
+    for k in 0..m {
         let l = left_class(s, im, v, k);
         let r = right_class(s, im, v, k);
         size += long_u32(size_of(graph, pairs, im.classes, l, r));
         mass += long_u32(mass_of(graph, pairs, im.classes, l, r));
-        k += 1;
     }
     Quality {
         size: size,

@@ -22,12 +22,10 @@ fn agrees(out: &[u8], k: usize, answer: &[u8]) -> bool {
     if k > out.len() {
         return false;
     }
-    let mut i = 0;
-    while i < k {
+    for i in 0..k {
         if out[i] != answer[i] {
             return false;
         }
-        i += 1;
     }
     true
 }

@@ -42,14 +42,12 @@ fn term(rt: &impl Print, c: u64, k: u64) -> io::Result<()> {
 fn terms(rt: &impl Print, mono: &[u64], n: usize) -> io::Result<()>
     requires { (length mono.now ≡ NUMBERS) × (n ≤ TERMS) }
 {
-    let mut i = 0;
-    while i < n {
+    for i in 0..n {
         term(
             rt,
             monomial_terms::class_at(mono, i),
             monomial_terms::count_at(mono, i),
         )?;
-        i += 1;
     }
     Ok(())
 }
@@ -116,10 +114,8 @@ fn of_classes(rt: &impl Print, s: &[u8], im: Image, l: usize, r: usize) -> io::R
 fn beside(rt: &impl Print, s: &[u8], im: Image, l: usize) -> io::Result<()>
     requires { Loaded s.now im × Valid (tables_of s.now) × (l < im.classes) }
 {
-    let mut r = 0;
-    while r < im.classes {
+    for r in 0..im.classes {
         of_classes(rt, s, im, l, r)?;
-        r += 1;
     }
     Ok(())
 }
@@ -127,10 +123,8 @@ fn beside(rt: &impl Print, s: &[u8], im: Image, l: usize) -> io::Result<()>
 fn of_image(rt: &impl Print, s: &[u8], im: Image) -> io::Result<()>
     requires { Loaded s.now im × Valid (tables_of s.now) }
 {
-    let mut l = 0;
-    while l < im.classes {
+    for l in 0..im.classes {
         beside(rt, s, im, l)?;
-        l += 1;
     }
     Ok(())
 }

@@ -73,10 +73,8 @@ fn spread(left: &[u64; MARGINS], net: &mut [u64; NET], n: usize, k: usize, u: us
     ensures { net.new ≡ spread_to left.now u (label_of net.old u) n k v net.old }
 {
     let d = label(net, u);
-    let mut i = 0;
-    while i < n {
+    for i in 0..n {
         along_margin(net, left[k + i], u, v + i, d);
-        i += 1;
     }
 }
 
@@ -94,10 +92,8 @@ fn along_row(
     ensures { net.new ≡ along_row costs.now flow.now u (label_of net.old u) n k v net.old }
 {
     let d = label(net, u);
-    let mut i = 0;
-    while i < n {
+    for i in 0..n {
         along_cell(costs, flow, net, k + i, u, v + i, d);
-        i += 1;
     }
 }
 
@@ -117,11 +113,9 @@ fn against_column(
 {
     let d = label(net, u);
     let mut at = k;
-    let mut i = 0;
-    while i < n {
+    for i in 0..n {
         against_cell(costs, flow, net, at, u, v + i, d);
         at += c;
-        i += 1;
     }
 }
 

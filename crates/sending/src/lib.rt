@@ -38,9 +38,7 @@ pub fn send(flow: &mut [u64], path: &[u64; NODES], r: usize, c: usize, from: usi
     requires { (r ≤ WIDEST) × (c ≤ WIDEST) × (r * c ≤ length flow.old) × (from ≤ LAST) × Steps r c (steps_from path.now (LAST - from) from) × ((k : ℕ) → k < r * c → get_or flow.old k 0 + LAST * n < 2 ^ 64) }
     ensures { flow.new ≡ sent r c n (steps_from path.now (LAST - from) from) flow.old }
 {
-    let mut a = from;
-    while a < LAST {
+    for a in from..LAST {
         send_on(flow, r, c, path[a] as usize, path[a + 1] as usize, n);
-        a += 1;
     }
 }

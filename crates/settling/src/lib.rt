@@ -22,12 +22,10 @@ fn settle(
     requires { (w ≤ 256) × (n ≤ 65536) × (w * w + n ≤ length graph.now) × (6 * n ≤ length pairs.old) × (256 ≤ length lmarks.old) × (256 ≤ length rmarks.old) }
     ensures { (pairs.new ≡ settled pairs.old n) × (lmarks.new ≡ marks_of left w graph.now pairs.old lmarks.old n) × (rmarks.new ≡ marks_of right w graph.now pairs.old rmarks.old n) }
 {
-    let mut k = 0;
-    while k < n {
+    for k in 0..n {
         let c = differs(pairs, k);
         mark(c, graph, w, k, lmarks, rmarks);
         settle_one(c, pairs, k);
-        k += 1;
     }
 }
 

@@ -52,12 +52,10 @@ fn are_letters(table: &[u8], from: usize, to: usize) -> bool
     requires { (from ≤ to) × (to ≤ length table.now) }
     ensures { result ≡ all letter (slice from to table.now) }
 {
-    let mut i = from;
-    while i < to {
+    for i in from..to {
         if !is_letter(table[i]) {
             return false;
         }
-        i += 1;
     }
     true
 }
@@ -67,12 +65,10 @@ fn are_zero(table: &[u8], from: usize, to: usize) -> bool
     requires { (from ≤ to) × (to ≤ length table.now) }
     ensures { result ≡ all is_zero (slice from to table.now) }
 {
-    let mut i = from;
-    while i < to {
+    for i in from..to {
         if table[i] != 0 {
             return false;
         }
-        i += 1;
     }
     true
 }
@@ -108,12 +104,10 @@ fn same_sign(table: &[u8], o: usize, q: usize) -> bool
     if sign_length(table, q) != n {
         return false;
     }
-    let mut i = 0;
-    while i < n {
+    for i in 0..n {
         if table[9 + 9 * q + i] != table[9 + 9 * o + i] {
             return false;
         }
-        i += 1;
     }
     true
 }
@@ -138,12 +132,10 @@ fn is_own(table: &[u8], o: usize) -> bool
     ensures { result ≡ own table.now o }
 {
     let n = operations(table);
-    let mut q = 0;
-    while q < n {
+    for q in 0..n {
         if is_shared(table, o, q) {
             return false;
         }
-        q += 1;
     }
     true
 }
@@ -176,9 +168,7 @@ pub fn judge(table: &[u8], binds: &mut [u8; 64])
     requires { length binds.old ≡ 64 }
     ensures { binds.new ≡ bindings table.now }
 {
-    let mut o = 0;
-    while o < 64 {
+    for o in 0..64 {
         binds[o] = binding(table, o);
-        o += 1;
     }
 }

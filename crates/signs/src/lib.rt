@@ -23,12 +23,10 @@ pub fn sign_length(table: &[u8], o: usize) -> usize
     requires { o < operations table.now }
     ensures { (result ≡ length (sign table.now o)) × (result ≤ 8) }
 {
-    let mut i = 0;
-    while i < 8 {
+    for i in 0..8 {
         if table[9 + 9 * o + i] == 0 {
             return i;
         }
-        i += 1;
     }
     8
 }

@@ -35,10 +35,8 @@ pub fn is_large(s: &[u8], im: Image) -> bool
     ensures { result ≡ large (tables_of s.now) }
 {
     let mut sum: u64 = 0;
-    let mut k = 0;
-    while k < im.children {
+    for k in 0..im.children {
         sum += members::child_times(s, im, k);
-        k += 1;
     }
     id::multiplicity::MAX < sum
 }

@@ -70,12 +70,10 @@ fn kin_with(f: &[u64], n: usize, i: usize, x: u64) -> bool
     ensures { result ≡ kin_with (facts_in f.now) n i x }
 {
     let k = kin_at(f, i);
-    let mut a = 0;
-    while a < n {
+    for a in 0..n {
         if has_total(f, a, k, x) {
             return true;
         }
-        a += 1;
     }
     false
 }
@@ -85,12 +83,10 @@ fn kin_within(f: &[u64], n: usize, i: usize, x: u64) -> bool
     ensures { result ≡ kin_within (facts_in f.now) n i x }
 {
     let k = kin_at(f, i);
-    let mut a = 0;
-    while a < n {
+    for a in 0..n {
         if is_within(f, a, k, x) {
             return true;
         }
-        a += 1;
     }
     false
 }
@@ -198,10 +194,8 @@ fn count_row(id: usize, f: &[u64], i: usize, g: &[u64], n: usize) -> u64
     ensures { (result ≡ sum_to n (λ j. pick (counts id (facts_in f.now) (facts_in g.now) n i j) 1 0)) × (result ≤ n) }
 {
     let mut sum: u64 = 0;
-    let mut j = 0;
-    while j < n {
+    for j in 0..n {
         sum += one(is_counted(id, f, g, n, i, j));
-        j += 1;
     }
     sum
 }
@@ -212,10 +206,8 @@ pub fn count_pairs(id: usize, f: &[u64], m: usize, g: &[u64], n: usize) -> u64
     ensures { (result ≡ skipped_by id (facts_in f.now) (facts_in g.now) m n) × (result ≤ PLACES * PLACES) }
 {
     let mut sum: u64 = 0;
-    let mut i = 0;
-    while i < m {
+    for i in 0..m {
         sum += count_row(id, f, i, g, n);
-        i += 1;
     }
     sum
 }

@@ -44,12 +44,10 @@ fn same(left: &[u64], n: usize, right: &[u64], m: usize) -> bool
     if n != m {
         return false;
     }
-    let mut i = 0;
-    while i < n {
+    for i in 0..n {
         if !same_term(left, right, i) {
             return false;
         }
-        i += 1;
     }
     true
 }
@@ -71,12 +69,10 @@ fn count_of(mono: &[u64], n: usize, c: u64) -> u64
     requires { 2 * n ≤ length mono.now }
     ensures { result ≡ count_at c (held n mono.now) }
 {
-    let mut i = 0;
-    while i < n {
+    for i in 0..n {
         if class_at(mono, i) >= c {
             return term_count(mono, i, c);
         }
-        i += 1;
     }
     0
 }
@@ -181,11 +177,9 @@ fn set_kins(s: &[u8], im: Image, c: usize, id: usize, f: &mut [u64], n: usize)
     requires { Loaded s.now im × Valid (tables_of s.now) × (c < im.classes) × (4 * n ≤ length f.old) }
     ensures { KinsTold id (monomial_at (tables_of s.now) c) n n f.old f.new }
 {
-    let mut i = 0;
-    while i < n {
+    for i in 0..n {
         let k = kin_of(s, im, c, id, f, i);
         put_kin(f, i, long_size(k));
-        i += 1;
     }
 }
 

@@ -40,10 +40,8 @@ fn largest_mass(masses: &[u32], allowed: &[u8]) -> u32
     ensures { (supply demand sizes : List ℕ) → length sizes ≡ length masses.now → result ≡ largest (map mass_of (problem_of supply demand sizes masses.now allowed.now).cells) }
 {
     let mut v = 0u32;
-    let mut i = 0;
-    while i < masses.len() {
+    for i in 0..masses.len() {
         v = larger(v, if_allowed(allowed[i], masses[i]));
-        i += 1;
     }
     v
 }
@@ -63,8 +61,7 @@ fn lay_cells(
     ensures { costs.new ≡ costs_after (problem_of supply.now demand.now sizes.now masses.now allowed.now) costs.old }
 {
     let c = demand.len();
-    let mut k = 0;
-    while k < sizes.len() {
+    for k in 0..sizes.len() {
         lay_flagged(
             costs,
             k,
@@ -75,7 +72,6 @@ fn lay_cells(
             supply[k / c],
             demand[k % c],
         );
-        k += 1;
     }
 }
 

@@ -19,13 +19,11 @@ fn classes_follow(s: &[u8], im: Image) -> bool
     ensures { result ≡ spans_follow (length (tables_of s.now).members) 0 (class_spans (tables_of s.now)) }
 {
     let mut at = 0;
-    let mut c = 0;
-    while c < im.classes {
+    for c in 0..im.classes {
         if first_member(s, im, c) != at {
             return false;
         }
         at = at + member_count(s, im, c);
-        c += 1;
     }
     at == im.members
 }
@@ -36,13 +34,11 @@ fn members_follow(s: &[u8], im: Image) -> bool
     ensures { result ≡ spans_follow (length (tables_of s.now).children) 0 (member_spans (tables_of s.now)) }
 {
     let mut at = 0;
-    let mut m = 0;
-    while m < im.members {
+    for m in 0..im.members {
         if first_child(s, im, m) != at {
             return false;
         }
         at = at + child_count(s, im, m);
-        m += 1;
     }
     at == im.children
 }
@@ -52,12 +48,10 @@ fn counts_some(s: &[u8], im: Image) -> bool
     requires { Loaded s.now im }
     ensures { result ≡ all (λ c. leb 1 c.count) (tables_of s.now).classes }
 {
-    let mut c = 0;
-    while c < im.classes {
+    for c in 0..im.classes {
         if member_count(s, im, c) < 1 {
             return false;
         }
-        c += 1;
     }
     true
 }
@@ -84,12 +78,10 @@ fn members_right(s: &[u8], im: Image) -> bool
     requires { Loaded s.now im }
     ensures { result ≡ all (member_right (tables_of s.now)) (tables_of s.now).members }
 {
-    let mut m = 0;
-    while m < im.members {
+    for m in 0..im.members {
         if !member_right(s, im, m) {
             return false;
         }
-        m += 1;
     }
     true
 }
@@ -102,14 +94,12 @@ fn class_rises(s: &[u8], im: Image, c: usize) -> bool
     let from = first_member(s, im, c);
     let n = member_count(s, im, c);
     let mut last = 0;
-    let mut i = 0;
-    while i < n {
+    for i in 0..n {
         let o = member_op(s, im, from + i);
         if o < last {
             return false;
         }
         last = o;
-        i += 1;
     }
     true
 }
@@ -118,12 +108,10 @@ fn classes_rise(s: &[u8], im: Image) -> bool
     requires { Loaded s.now im × Follow (length (tables_of s.now).members) (class_spans (tables_of s.now)) }
     ensures { result ≡ all (λ c. rises (map (λ m. m.op) (members_in (tables_of s.now) c))) (tables_of s.now).classes }
 {
-    let mut c = 0;
-    while c < im.classes {
+    for c in 0..im.classes {
         if !class_rises(s, im, c) {
             return false;
         }
-        c += 1;
     }
     true
 }

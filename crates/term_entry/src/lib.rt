@@ -13,10 +13,8 @@ fn copy_runs(runs: &mut [u64], from: usize, list: &[u64], n: usize)
     requires { (from + n ≤ length runs.old) × (n ≤ length list.now) }
     ensures { runs.new ≡ paste runs.old from list.now n }
 {
-    let mut i = 0;
-    while i < n {
+    for i in 0..n {
         runs[from + i] = list[i];
-        i += 1;
     }
 }
 

@@ -35,11 +35,9 @@ fn counted(runs: &[u64], from: usize, end: usize) -> u64
     requires { (from ≤ end) × (end ≤ length runs.now) × (sum (part runs.now from (end - from)) < 2 ^ 64) }
     ensures { result ≡ times_of (part runs.now from (end - from)) }
 {
-    let mut i = from;
     let mut n = 0u64;
-    while i < end {
+    for i in from..end {
         n += terms::times(runs[i]);
-        i += 1;
     }
     n
 }

@@ -25,15 +25,13 @@ pub fn starts_with(text: &[u8], at: usize, w: &[u8]) -> bool
     requires { at ≤ length text.now }
     ensures { result ≡ starts_with w.now (drop at text.now) }
 {
-    let mut i = 0;
-    while i < w.len() {
+    for i in 0..w.len() {
         if at + i == text.len() {
             return false;
         }
         if text[at + i] != w[i] {
             return false;
         }
-        i += 1;
     }
     true
 }
@@ -65,8 +63,7 @@ fn lead(text: &[u8], at: usize, most: usize) -> usize
     ensures { result ≡ min (lead 0 (drop at text.now)) (most + 1) }
 {
     let mut v = 0;
-    let mut i = at;
-    while i < text.len() {
+    for i in at..text.len() {
         let c = numbers::size_u8(text[i]);
         if c < 48 {
             return v;
@@ -78,7 +75,6 @@ fn lead(text: &[u8], at: usize, most: usize) -> usize
         if v > most {
             return most + 1;
         }
-        i += 1;
     }
     v
 }

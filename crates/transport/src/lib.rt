@@ -75,10 +75,8 @@ fn copy_plan(flow: &[u64], plan: &mut [u32])
     requires { (length plan.old ≤ length flow.now) × ((k : ℕ) → k < length plan.old → get_or flow.now k 0 < 2 ^ 32) }
     ensures { plan.new ≡ take (length plan.old) flow.now }
 {
-    let mut k = 0;
-    while k < plan.len() {
+    for k in 0..plan.len() {
         plan[k] = flow[k] as u32;
-        k += 1;
     }
 }
 
@@ -88,11 +86,9 @@ fn plan_total(plan: &[u32], per: &[u32], allowed: &[u8]) -> Wide
     ensures { Natural result (total_from plan.now per.now allowed.now (length plan.now) 0) }
 {
     let mut t = Wide { lo: 0, hi: 0 };
-    let mut i = 0;
-    while i < plan.len() {
+    for i in 0..plan.len() {
         let x = long_u32(plan[i]) * long_u32(if_allowed(allowed[i], per[i]));
         t = t.wrapping_add(Wide { lo: x, hi: 0 });
-        i += 1;
     }
     t
 }

@@ -19,11 +19,9 @@ fn runs_width(runs: &[u64], marks: &[u16], from: usize, to: usize) -> usize
     requires { (from ≤ to) × (to ≤ 65536) × (to ≤ length runs.now) × Named marks.now runs.now from to }
     ensures { (result ≡ length (runs_in runs.now marks.now from (to - from))) × (result ≤ 42 * 65536) }
 {
-    let mut i = from;
     let mut n = 0;
-    while i < to {
+    for i in from..to {
         n += run_width(marks, runs[i]);
-        i += 1;
     }
     n
 }
@@ -58,11 +56,9 @@ pub fn lines_width(terms: &[u32], runs: &[u64], marks: &[u16], n: usize) -> usiz
     requires { Holds terms.now runs.now × Ready terms.now runs.now marks.now n }
     ensures { (result ≡ length (lines_in terms.now runs.now marks.now 0 n)) × (result ≤ 3000000 * 16384) }
 {
-    let mut k = 0;
     let mut w = 0;
-    while k < n {
+    for k in 0..n {
         w += line_width(terms, runs, marks, n, k);
-        k += 1;
     }
     w
 }
