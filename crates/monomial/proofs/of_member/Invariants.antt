@@ -7,6 +7,3 @@ use Rattle.monomial.proofs.of_member.Given as goal
 
 abbrev pub invariant-loop-k : goal.invariant-loop-k
 invariant-loop-k l = Upto (tables_of l.s) l.span.from l.span.to l.initial.mono l.mono l.n l.k
-
-abbrev pub decreases-loop-k : goal.decreases-loop-k
-decreases-loop-k l = l.span.to - l.k
