@@ -1,5 +1,5 @@
 -- The three ways out of reading a card.
-use Rattle.std.specs.Prelude.{◌≡◌, refl, List, ℕ, ◌-◌, length, take}
+use Rattle.std.specs.Prelude.{◌≡◌, refl, List, ℕ, ◌-◌, length, take, Option, Some, None}
 use Rattle.std.proofs.Common.{sym, ap, ap₂, ◌∙◌, take_at}
 use Rattle.spec.specs.Bytes.{Limits, ok, refused}
 use Rattle.spec.specs.Pool.{Pool, interned}
@@ -8,8 +8,6 @@ use Rattle.terms.specs.Chains.{Holds}
 use Rattle.terms.specs.PoolLaws.{pool-length}
 use Rattle.interning.specs.Interning.{pool_after}
 use Rattle.interning.specs.Growing.{Buffers}
-use Rattle.interning.specs.declared.Entered.{Entered}
-use Rattle.interning.specs.declared.Entered.TheVariants as E
 use Rattle.term_undo.specs.Undoing.{undo_over, TakenBack, Clean}
 use Rattle.term_undo.specs.BackLaws.{grows_back, grows_clean}
 use Rattle.formula.specs.Lexer.{read_text, read_card}
@@ -35,8 +33,8 @@ module _ (lim : Limits) (t s terms runs : List ℕ) (H : Holds terms runs) where
     clean = λ Z. Z;
   }
 
-  module _ (terms' runs' : List ℕ) (lt : length terms' ≡ length terms) (lr : length runs' ≡ length runs) (r : Entered) (X : Ends terms runs terms' runs' (enter_text lim t (pool_of terms runs) s) r) where
-    pub read-term : (a : ℕ) → r ≡ E.Term a → CardRead lim t s terms runs terms' runs' (R.Term a)
+  module _ (terms' runs' : List ℕ) (lt : length terms' ≡ length terms) (lr : length runs' ≡ length runs) (r : Option ℕ) (X : Ends terms runs terms' runs' (enter_text lim t (pool_of terms runs) s) r) where
+    pub read-term : (a : ℕ) → r ≡ Some a → CardRead lim t s terms runs terms' runs' (R.Term a)
     read-term a e =
         let q : whole (interned (pool_of terms' runs') a) ≡ enter_text lim t p s = rw e at X.reached in
         let c : read_card lim t p s ≡ ok (interned (pool_of terms' runs') a) = sym (result-text lim t p s) ∙ ap result_of (sym q) in record {
@@ -48,7 +46,7 @@ module _ (lim : Limits) (t s terms runs : List ℕ) (H : Holds terms runs) where
           clean = grows_clean H X.grows lt lr;
         }
 
-    module _ (e : r ≡ E.Full) (n : ℕ) (ne : n ≡ count_in terms) (terms'' runs'' : List ℕ) (B : TakenBack n terms' runs' terms'' runs'') where
+    module _ (e : r ≡ None) (n : ℕ) (ne : n ≡ count_in terms) (terms'' runs'' : List ℕ) (B : TakenBack n terms' runs' terms'' runs'') where
       reached : full (pool_of terms' runs') ≡ enter_text lim t p s
       reached = rw e at X.reached
 

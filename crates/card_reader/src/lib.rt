@@ -7,7 +7,6 @@ ghost use Rattle.terms.specs.Chains.{Holds, Rooms};
 ghost use Rattle.formula.specs.Card.{bindings};
 ghost use Rattle.card_reader.specs.CardReading.{CardRead};
 
-use interning::Entered;
 use query::Limits;
 
 // the term's number; or 17; or 13
@@ -37,8 +36,8 @@ pub fn read_card(
     let n = terms::count(terms);
     let r = card_terms::enter_terms(lim, table, binds, text, frames, terms, runs);
     match r {
-        Entered::Term(a) => Read::Term(a),
-        Entered::Full => {
+        Some(a) => Read::Term(a),
+        None => {
             term_undo::take_back(terms, runs, n);
             Read::Full
         }

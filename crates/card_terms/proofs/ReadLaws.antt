@@ -1,5 +1,5 @@
 -- The loop over a text's marks.
-use Rattle.std.specs.Prelude.{◌≡◌, refl, ◌≢◌, Bool, leb, get_or, drop}
+use Rattle.std.specs.Prelude.{◌≡◌, refl, ◌≢◌, Bool, leb, get_or, drop, Option, Some, None}
 use Rattle.std.proofs.Math.Path.{sym, ap}
 use Rattle.std.proofs.Common.{◌∙◌, arith, drop-cons}
 use Rattle.std.proofs.Math.Bool.{true, false}
@@ -13,8 +13,6 @@ use Rattle.laws.specs.Tests.{both_true}
 use Rattle.terms.specs.Buffers.{pool_of}
 use Rattle.interning.specs.Growing.{Grows}
 use Rattle.interning.specs.GrowLaws.{grows_then, grows_none}
-use Rattle.interning.specs.declared.Entered.{Entered}
-use Rattle.interning.specs.declared.Entered.TheVariants as E
 use Rattle.formula.specs.Card as card
 use Rattle.formula.specs.Card.{Tree, Trees, lit, two, many, none, also, operations, prec_of, left_level, proper_mark}
 use Rattle.formula.specs.Reader.{read_marks}
@@ -233,7 +231,7 @@ module _ (lim : Limits) (t s : List ℕ) (terms₀ runs₀ frames₀ : List ℕ)
       entering-free q = R.free (sym entering-ahead.same ∙ ap (λ (z : Reached Stack). z >>= λ y. run_on lim t y entering-ahead.rest) q)
 
       module _ {terms' runs' frames' : List ℕ} {r : Stood} (Y : Steps lim terms runs terms' runs' frames' (top + 1) (step_on lim t (pool_of terms runs, words_in frames top) (mark_of m)) r) where
-        pub entering-stop : r ≡ S.Full → Ends terms₀ runs₀ terms' runs' final E.Full
+        pub entering-stop : r ≡ S.Full → Ends terms₀ runs₀ terms' runs' final None
         entering-stop q =
             let z : full (pool_of terms' runs') ≡ step_on lim t (pool_of terms runs, words_in frames top) (mark_of m) = rw q at Y.reached in
             record { reached = ap (λ (v : Reached Stack). v >>= λ y. run_on lim t y entering-ahead.rest) z ∙ entering-ahead.same; grows = grows_then R.grows Y.grows }
@@ -264,7 +262,7 @@ module _ (lim : Limits) (t s : List ℕ) (terms₀ runs₀ frames₀ : List ℕ)
       unfolding run_on
       entering-last = ap (run_on lim t (pool_of terms runs, words_in frames top)) (ok-inj (sym (all-cut R.fuel t s at h) ∙ R.cuts)) ∙ R.same
 
-      pub entering-end : {terms' runs' : List ℕ} {r : Entered} → Ends terms runs terms' runs' (run_on lim t (pool_of terms runs, words_in frames top) []) r → Ends terms₀ runs₀ terms' runs' final r
+      pub entering-end : {terms' runs' : List ℕ} {r : Option ℕ} → Ends terms runs terms' runs' (run_on lim t (pool_of terms runs, words_in frames top) []) r → Ends terms₀ runs₀ terms' runs' final r
       unfolding run_on
       entering-end Y = record { reached = Y.reached ∙ entering-last; grows = grows_then R.grows Y.grows }
 
@@ -306,7 +304,7 @@ module _ (lim : Limits) (t terms runs frames : List ℕ) (top : ℕ) (free : run
   last-topped = topped-of lim t 0 (pool_of terms runs) (words_in frames top) (not_stuck _ only_term free)
 
   module _ (terms' runs' frames' : List ℕ) (s : Stood) (Y : Steps lim terms runs terms' runs' frames' top (reduce_top lim t 0 (pool_of terms runs) (words_in frames top)) s) where
-    pub last-full : s ≡ S.Full → Ends terms runs terms' runs' (run_on lim t (pool_of terms runs, words_in frames top) []) E.Full
+    pub last-full : s ≡ S.Full → Ends terms runs terms' runs' (run_on lim t (pool_of terms runs, words_in frames top) []) None
     unfolding run_on
     last-full q =
         let z : full (pool_of terms' runs') ≡ reduce_top lim t 0 (pool_of terms runs) (words_in frames top) = rw q at Y.reached in
@@ -323,7 +321,7 @@ module _ (lim : Limits) (t terms runs frames : List ℕ) (top : ℕ) (free : run
       pub last-inside : n ≤ length frames'
       last-inside = (rw q at Y.stands).0.inside
 
-      pub last-term : (a : ℕ) → a ≡ get_or frames' 0 0 - 16384 → Ends terms runs terms' runs' (run_on lim t (pool_of terms runs, words_in frames top) []) (E.Term a)
+      pub last-term : (a : ℕ) → a ≡ get_or frames' 0 0 - 16384 → Ends terms runs terms' runs' (run_on lim t (pool_of terms runs, words_in frames top) []) (Some a)
       unfolding run_on only_term words_in
       last-term a e =
           let w : words_in frames' n ≡ child a ∷ [] = ap (words_in frames') last-only.one ∙ ap (λ (x : Word). x ∷ []) (word-child (get_or frames' 0 0) last-only.term last-only.small ∙ ap child (sym e)) in

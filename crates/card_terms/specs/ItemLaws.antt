@@ -1,5 +1,5 @@
 -- A term entered over a list of runs, or without any, and put on the stack.
-use Rattle.std.specs.Prelude.{◌≡◌, List, map, ℕ, ◌+◌, ◌/◌, ◌%◌, ◌^◌, ◌≤◌, ◌<◌, length, drop, set}
+use Rattle.std.specs.Prelude.{◌≡◌, List, map, ℕ, ◌+◌, ◌/◌, ◌%◌, ◌^◌, ◌≤◌, ◌<◌, length, drop, set, Option, Some, None}
 use Rattle.std.proofs.Math.Path.{refl}
 use Rattle.std.proofs.Common.{sym, ap, ◌∙◌, inl, inr, arith}
 use Rattle.spec.specs.Bytes.{Limits, Two, Res, ok, refused, sum}
@@ -14,8 +14,6 @@ use Rattle.joining.specs.Joining.{Begins, joined_in}
 use Rattle.joining.specs.JoinLaws.{joined-runs, join-sum}
 use Rattle.interning.specs.Interning.{entered_of, pool_after, Interning}
 use Rattle.interning.specs.GrowLaws.{grows-intern}
-use Rattle.interning.specs.declared.Entered.{Entered}
-use Rattle.interning.specs.declared.Entered.TheVariants as E
 use Rattle.card_terms.specs.declared.Stood.TheVariants as S
 use Rattle.card_terms.specs.Words.{intern_at, reached_by}
 use Rattle.card_terms.specs.Reading.{HeadFormed, head_node, reached_term, TermIn, Enters, Placed}
@@ -54,7 +52,7 @@ unfolding part sum
 none-light l = omega arith
 
 -- ---- it is entered
-module _ (lim : Limits) {terms runs list : List ℕ} {n h v : ℕ} {terms' runs' : List ℕ} {r : Entered} (x : Node) (e : node_of h v (part list 0 n) ≡ x) (H : Holds terms runs) (fine : NodeValid (count_in terms) (node_of h v (part list 0 n))) (k : n ≤ length list) (I : Interning lim terms runs list n h v terms' runs' r) where
+module _ (lim : Limits) {terms runs list : List ℕ} {n h v : ℕ} {terms' runs' : List ℕ} {r : Option ℕ} (x : Node) (e : node_of h v (part list 0 n) ≡ x) (H : Holds terms runs) (fine : NodeValid (count_in terms) (node_of h v (part list 0 n))) (k : n ≤ length list) (I : Interning lim terms runs list n h v terms' runs' r) where
   abbrev p : Pool
   p = pool_of terms runs
 
@@ -78,11 +76,11 @@ module _ (lim : Limits) {terms runs list : List ℕ} {n h v : ℕ} {terms' runs'
   }
 
 -- ---- and put on the stack
-pub term-small : {r : Entered} {a n : ℕ} → r ≡ E.Term a → TermIn n r → a < n
+pub term-small : {r : Option ℕ} {a n : ℕ} → r ≡ Some a → TermIn n r → a < n
 term-small {r} {a} {n} e h = rw e at h
 
-pub placed-term : (frames : List ℕ) (to : ℕ) {r : Entered} {a x : ℕ} {frames' : List ℕ} → r ≡ E.Term a → x ≡ a → frames' ≡ set frames to (16384 + x) → Placed frames to r frames' (S.Top (to + 1))
+pub placed-term : (frames : List ℕ) (to : ℕ) {r : Option ℕ} {a x : ℕ} {frames' : List ℕ} → r ≡ Some a → x ≡ a → frames' ≡ set frames to (16384 + x) → Placed frames to r frames' (S.Top (to + 1))
 placed-term frames to e f g = rw (e, ← f) (g, refl)
 
-pub placed-full : (frames : List ℕ) (to : ℕ) {r : Entered} → r ≡ E.Full → Placed frames to r frames S.Full
+pub placed-full : (frames : List ℕ) (to : ℕ) {r : Option ℕ} → r ≡ None → Placed frames to r frames S.Full
 placed-full frames to e = rw e (refl, refl)

@@ -1,12 +1,10 @@
 -- What the steps of the code say of the buffers.
-use Rattle.std.specs.Prelude.{◌≡◌, ◌⊎◌, Bool, true, false, List, [], ◌∷◌, map, ℕ, ◌+◌, ◌-◌, ◌/◌, ◌%◌, ◌≤◌, ◌<◌, length, get_or, set}
+use Rattle.std.specs.Prelude.{◌≡◌, ◌⊎◌, Bool, true, false, List, [], ◌∷◌, map, ℕ, ◌+◌, ◌-◌, ◌/◌, ◌%◌, ◌≤◌, ◌<◌, length, get_or, set, Option, Some, None}
 use Rattle.spec.specs.Bytes.{Two, Limits, ok}
 use Rattle.spec.specs.Pool.{Pool, Node, Interned, interned, join_runs, op_node}
 use Rattle.terms.specs.Buffers.{count_in, part, unpack, pool_of}
 use Rattle.terms.specs.Chains.{Holds, Rooms}
 use Rattle.interning.specs.Growing.{Grows}
-use Rattle.interning.specs.declared.Entered.{Entered}
-use Rattle.interning.specs.declared.Entered.TheVariants as E
 use Rattle.formula.specs.Card.{Tree, operations, prec_of}
 use Rattle.formula.specs.Lexer.{read_text}
 use Rattle.card_terms.specs.declared.Stood.{Stood}
@@ -29,28 +27,28 @@ Items n [] = Unit
 Items n (x ∷ l) = Item n x × Items n l
 
 -- ---- a term entered, or refusal 13 at the pool that was reached
-abbrev pub reached_term : Entered → Pool → Reached Interned
-reached_term (E.Term a) p = whole (interned p a)
-reached_term E.Full p = full p
+abbrev pub reached_term : Option ℕ → Pool → Reached Interned
+reached_term (Some a) p = whole (interned p a)
+reached_term None p = full p
 
-abbrev pub TermIn : ℕ → Entered → Type 0
-TermIn n (E.Term a) = a < n
-TermIn n E.Full = Unit
+abbrev pub TermIn : ℕ → Option ℕ → Type 0
+TermIn n (Some a) = a < n
+TermIn n None = Unit
 
-pub record Enters (lim : Limits) (terms runs terms' runs' : List ℕ) (n : Node) (r : Entered) : Type 0 where
+pub record Enters (lim : Limits) (terms runs terms' runs' : List ℕ) (n : Node) (r : Option ℕ) : Type 0 where
   pub reached : reached_term r (pool_of terms' runs') ≡ intern_at lim (pool_of terms runs) n
   pub grows : Grows terms runs terms' runs' (pool_of terms' runs')
   pub within : TermIn (count_in terms') r
 
 -- The buffers after all that was entered towards a term.
-pub record Ends (terms runs terms' runs' : List ℕ) (m : Reached Interned) (r : Entered) : Type 0 where
+pub record Ends (terms runs terms' runs' : List ℕ) (m : Reached Interned) (r : Option ℕ) : Type 0 where
   pub reached : reached_term r (pool_of terms' runs') ≡ m
   pub grows : Grows terms runs terms' runs' (pool_of terms' runs')
 
 -- it is put on the stack as a run of 1
-abbrev pub Placed : List ℕ → ℕ → Entered → List ℕ → Stood → Type 0
-Placed frames to (E.Term a) frames' s = (frames' ≡ set frames to (16384 + a)) × (s ≡ S.Top (to + 1))
-Placed frames to E.Full frames' s = (frames' ≡ frames) × (s ≡ S.Full)
+abbrev pub Placed : List ℕ → ℕ → Option ℕ → List ℕ → Stood → Type 0
+Placed frames to (Some a) frames' s = (frames' ≡ set frames to (16384 + a)) × (s ≡ S.Top (to + 1))
+Placed frames to None frames' s = (frames' ≡ frames) × (s ≡ S.Full)
 
 -- ---- the stack
 -- its terms are below n

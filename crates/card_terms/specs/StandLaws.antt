@@ -1,5 +1,5 @@
 -- Words in the buffer, and a term put on them.
-use Rattle.std.specs.Prelude.{◌≡◌, refl, ℕ, zero, suc, ◌+◌, ◌*◌, ◌-◌, ◌/◌, ◌%◌, ◌^◌, ◌≤◌, ◌<◌, get_or, set, take, drop}
+use Rattle.std.specs.Prelude.{◌≡◌, refl, ℕ, zero, suc, ◌+◌, ◌*◌, ◌-◌, ◌/◌, ◌%◌, ◌^◌, ◌≤◌, ◌<◌, get_or, set, take, drop, Option, Some, None}
 use Rattle.std.proofs.Math.Path.{ap, ap₂}
 use Rattle.std.proofs.Common.{◌∙◌, le-leb, length-append, length-drop, drop_of_length-le, get_or-set_same, get_or-set_other, get_or-take, get_or-drop, length-take-le}
 use mathlib.Core.List.{List, [], ◌∷◌, map, append-nil}
@@ -16,8 +16,6 @@ use Rattle.terms.specs.Buffers.{count_in, part, unpack, pool_of}
 use Rattle.terms.specs.PartLaws.{part-cong}
 use Rattle.terms.specs.PoolLaws.{pool-length, rooms_same}
 use Rattle.interning.specs.Growing.{Grows}
-use Rattle.interning.specs.declared.Entered.{Entered}
-use Rattle.interning.specs.declared.Entered.TheVariants as E
 use Rattle.card_terms.specs.declared.Stood.{Stood}
 use Rattle.card_terms.specs.Words.{Reached, whole, Word, bracket, list_head, marked_head, left_child, child, intern_on, on_top, ◌>>=◌, word_of, words_in}
 use Rattle.card_terms.specs.Reading.{Items, Enters, Placed, WordBelow, WordsBelow, Standing, Steps, TermIn}
@@ -80,9 +78,9 @@ items-sum n (x ∷ l) h = let (a, b, d) = h.0 in omega (arith, items-sum n l h.1
 pub items-fit : (n : ℕ) (l : List ℕ) → Items n l → length l < 2 ^ 48 → sum l < 2 ^ 64
 items-fit n l h k = omega (arith, items-sum n l h)
 
-pub term-most : (n : ℕ) → n ≤ 16384 → (r : Entered) → TermIn n r → TermIn 16384 r
-term-most n h (E.Term a) k = omega arith
-term-most n h E.Full k = tt
+pub term-most : (n : ℕ) → n ≤ 16384 → (r : Option ℕ) → TermIn n r → TermIn 16384 r
+term-most n h (Some a) k = omega arith
+term-most n h None k = tt
 
 -- ---- a part of the buffer, lent and back
 pub rest-long : (frames : List ℕ) (from : ℕ) → length (take (length frames - from) (drop from frames)) ≡ length frames - from
@@ -105,9 +103,9 @@ back-same frames ys from n h k = words_same (put_mid from (length frames - from)
 -- ---- a term entered and put on the stack
 module _ (lim : Limits) {terms runs frames : List ℕ} {to : ℕ} (Z : Standing lim terms runs frames to) {terms' runs' : List ℕ} (n : Node) (lt : length terms' ≡ length terms) (lr : length runs' ≡ length runs)
     (frames₁ : List ℕ) (same : words_in frames₁ to ≡ words_in frames to) (long : length frames₁ ≡ length frames) (room : to < length frames) (frames' : List ℕ) (s : Stood) where
-  pub enters-placed : (r : Entered) → Enters lim terms runs terms' runs' n r → Placed frames₁ to r frames' s → Steps lim terms runs terms' runs' frames' (to + 1) (intern_on lim (pool_of terms runs) n (words_in frames to)) s
+  pub enters-placed : (r : Option ℕ) → Enters lim terms runs terms' runs' n r → Placed frames₁ to r frames' s → Steps lim terms runs terms' runs' frames' (to + 1) (intern_on lim (pool_of terms runs) n (words_in frames to)) s
   unfolding WordsBelow
-  enters-placed (E.Term a) X P =
+  enters-placed (Some a) X P =
       let f : count_in terms' ≤ 16384 = X.grows.holds.few in
       let small : a < 16384 = omega (arith, X.within) in
       let words : words_in frames' (to + 1) ≡ child a ∷ words_in frames to = ap (λ (l : List ℕ). words_in l (to + 1)) P.0 ∙ words-push frames₁ to (16384 + a) (omega arith) ∙ ap₂ (λ (x : Word) (w : List Word). x ∷ w) (word-term a small) same in
@@ -124,4 +122,4 @@ module _ (lim : Limits) {terms runs frames : List ℕ} {to : ℕ} (Z : Standing 
           omega arith,
         );
       })
-  enters-placed E.Full X P = rw P.1 (record { reached = ap (λ (z : Reached Interned). z >>= on_top (words_in frames to)) X.reached; grows = X.grows; stands = tt })
+  enters-placed None X P = rw P.1 (record { reached = ap (λ (z : Reached Interned). z >>= on_top (words_in frames to)) X.reached; grows = X.grows; stands = tt })

@@ -15,7 +15,6 @@ ghost use Rattle.card_terms.specs.Words.{stuck, intern_on, reduce_top, close_on,
 ghost use Rattle.card_terms.specs.Reading.{HeadFormed, head_node, TermIn, Enters, Items, Placed, Standing, Known, Topped, LeftBelow, reduced_once, Closes, Heads, Waits, Steps, Ends, Reads};
 
 use card_cut::{Cut, Mark};
-use interning::Entered;
 use query::Limits;
 
 // A word of the stack: below 16,384 what is open, by its head number (a list by its operation, 128 a marked place, 64 a bracket); a term as a run of 1; a left child as a run of 2 and its operation.
@@ -35,7 +34,7 @@ fn enter_items(
     h: u32,
     terms: &mut [u32],
     runs: &mut [u64],
-) -> Entered
+) -> Option<usize>
     requires { Holds terms.old runs.old × Rooms (limits_of lim) terms.old runs.old × HeadFormed h × (n ≤ length list.old) × (sum (part list.old 0 n) < 2 ^ 64) × RunsBelow (count_in terms.old) (map unpack (part list.old 0 n)) }
     ensures { Enters (limits_of lim) terms.old runs.old terms.new runs.new (head_node h (map unpack (part list.old 0 n))) result }
 {
@@ -44,16 +43,16 @@ fn enter_items(
 }
 
 // a term put on the stack
-fn place(frames: &mut [u64], to: usize, r: Entered) -> Stood
+fn place(frames: &mut [u64], to: usize, r: Option<usize>) -> Stood
     requires { (to < length frames.old) × TermIn 16384 r }
     ensures { Placed frames.old to r frames.new result }
 {
     match r {
-        Entered::Term(a) => {
+        Some(a) => {
             stores::put_u64(frames, to, 16384 + numbers::long_size(a));
             Stood::Top(to + 1)
         }
-        Entered::Full => Stood::Full,
+        None => Stood::Full,
     }
 }
 
@@ -308,14 +307,14 @@ fn last(
     top: usize,
     terms: &mut [u32],
     runs: &mut [u64],
-) -> Entered
+) -> Option<usize>
     requires { Standing (limits_of lim) terms.old runs.old frames.old top × Known table.now (words_in frames.old top) × (top < 2 ^ 48) × (run_on (limits_of lim) table.now (pool_of terms.old runs.old, words_in frames.old top) [] ≢ stuck) }
     ensures { Ends terms.old runs.old terms.new runs.new (run_on (limits_of lim) table.now (pool_of terms.old runs.old, words_in frames.old top) []) result }
 {
     let r = reduce(lim, table, frames, top, 0, terms, runs);
     match r {
-        Stood::Top(_) => Entered::Term(numbers::size_u64(frames[0] - 16384)),
-        Stood::Full => Entered::Full,
+        Stood::Top(_) => Some(numbers::size_u64(frames[0] - 16384)),
+        Stood::Full => None,
     }
 }
 
@@ -328,7 +327,7 @@ fn read_terms(
     frames: &mut [u64],
     terms: &mut [u32],
     runs: &mut [u64],
-) -> Entered
+) -> Option<usize>
     requires { Reads table.now text.now × (binds.now ≡ bindings table.now) × (length text.now ≤ length frames.old) × (length text.now < 2 ^ 48) × Holds terms.old runs.old × Rooms (limits_of lim) terms.old runs.old }
     ensures { Ends terms.old runs.old terms.new runs.new (enter_text (limits_of lim) table.now (pool_of terms.old runs.old) text.now) result }
 {
@@ -345,12 +344,12 @@ fn read_terms(
                         at = e;
                     }
                     Stood::Full => {
-                        return Entered::Full;
+                        return None;
                     }
                 }
             }
             Cut::Nothing => {
-                return Entered::Full;
+                return None;
             }
         }
     }
@@ -366,7 +365,7 @@ pub fn enter_terms(
     frames: &mut [u64],
     terms: &mut [u32],
     runs: &mut [u64],
-) -> Entered
+) -> Option<usize>
     requires { Reads table.now text.now × (binds.now ≡ bindings table.now) × (length text.now ≤ length frames.old) × (length text.now < 2 ^ 48) × Holds terms.old runs.old × Rooms (limits_of lim) terms.old runs.old }
     ensures { Ends terms.old runs.old terms.new runs.new (enter_text (limits_of lim) table.now (pool_of terms.old runs.old) text.now) result × (frames.new ≡ replicate (length frames.old) 0) }
 {

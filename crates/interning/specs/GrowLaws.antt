@@ -1,5 +1,5 @@
 -- Growing buffers: interning grows them, growing composes.
-use Rattle.std.specs.Prelude.{◌≡◌, refl, Bool, true, false, List, [], ◌∷◌, ◌++◌, map, ℕ, ◌+◌, ◌*◌, ◌/◌, ◌%◌, ◌≤◌, ltb, leb, length, take, drop}
+use Rattle.std.specs.Prelude.{◌≡◌, refl, Bool, true, false, List, [], ◌∷◌, ◌++◌, map, ℕ, ◌+◌, ◌*◌, ◌/◌, ◌%◌, ◌≤◌, ltb, leb, length, take, drop, Option}
 use Rattle.std.proofs.Common.{sym, ap, ap₂, ◌∙◌, append-nil, append_assoc, arith, lt-ltb, le-ltb, length-append, take_all}
 use Rattle.std.proofs.lemmas.List.{length-map}
 use Rattle.std.proofs.Math.Seq.{paste, drop-append_seam, drop-length}
@@ -12,7 +12,6 @@ use Rattle.interning.specs.Interning.{pool_after, grew, Interning}
 use Rattle.term_entry.specs.TermEntry.{enter_term, enter_runs}
 use Rattle.terms.specs.PartLaws.{part_length, part-take}
 use Rattle.interning.specs.Growing.{Buffers, head_of, laid, laid_over, Grows}
-use Rattle.interning.specs.declared.Entered.{Entered}
 
 -- ---- a node's numbers from the node
 head-of : (h v : ℕ) (l : List ℕ) → head_of (node_of h v l) ≡ h
@@ -101,7 +100,7 @@ module _ {terms runs terms₁ runs₁ terms₂ runs₂ : List ℕ} {p₁ p₂ : 
       }
 
 -- interning, found, entered or refused
-pub grows-intern : (lim : Limits) → {terms runs list : List ℕ} {n h v : ℕ} {terms' runs' : List ℕ} {r : Entered} → n ≤ length list → Interning lim terms runs list n h v terms' runs' r
+pub grows-intern : (lim : Limits) → {terms runs list : List ℕ} {n h v : ℕ} {terms' runs' : List ℕ} {r : Option ℕ} → n ≤ length list → Interning lim terms runs list n h v terms' runs' r
     → Grows terms runs terms' runs' (pool_after (pool_of terms runs) (intern lim (pool_of terms runs) (node_of h v (part list 0 n))))
 grows-intern lim {terms} {runs} {list} {n} {h} {v} k I = record {
   pool = I.pool;

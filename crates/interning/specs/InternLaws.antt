@@ -1,5 +1,5 @@
 -- `intern` in the buffers: found, entered, or refused with 13.
-use Rattle.std.specs.Prelude.{◌≡◌, refl, Bool, true, false, List, [], ◌∷◌, ◌++◌, ℕ, zero, suc, ◌+◌, ◌*◌, ◌-◌, ◌^◌, ◌≤◌, ◌<◌, ltb, leb, eqb, length}
+use Rattle.std.specs.Prelude.{◌≡◌, refl, Bool, true, false, List, [], ◌∷◌, ◌++◌, ℕ, zero, suc, ◌+◌, ◌*◌, ◌-◌, ◌^◌, ◌≤◌, ◌<◌, ltb, leb, eqb, length, Some, None}
 use Rattle.std.proofs.Common.{sym, ap, ◌∙◌, arith, ltb-true, ltb-false, lt-ltb, le-ltb, le-leb, eqb-true, length-append}
 use Rattle.std.proofs.lemmas.Bool.{lt-leb}
 use Rattle.std.proofs.lemmas.List.{length-map}
@@ -14,7 +14,6 @@ use Rattle.terms.specs.Buffers.{BUCKETS, LEAST, part, unpack, node_of, node_in, 
 use Rattle.terms.specs.Chains.{key_of, Holds, Rooms}
 use Rattle.interning.specs.Interning.{Sought, pool_after, Interning}
 use Rattle.term_entry.specs.TermEntry.{enter_term, enter_runs}
-use Rattle.interning.specs.declared.Entered.TheVariants as E
 use Rattle.terms.specs.PartLaws.{part_length}
 use Rattle.terms.specs.PoolLaws.{pool-length, pool-at}
 use Rattle.term_entry.specs.EnterLaws.{adds, pool-new, holds-new}
@@ -68,7 +67,7 @@ module _ (lim : Limits) (terms runs list : List ℕ) (n h v : ℕ) (H : Holds te
   counted : run_count p ≡ first_in terms (count_in terms)
   counted = runs-counted terms runs H (count_in terms) (omega arith)
 
-  pub intern-found : (r : ℕ) → 0 < r → Sought terms runs node r → Interning lim terms runs list n h v terms runs (E.Term (r - 1))
+  pub intern-found : (r : ℕ) → 0 < r → Sought terms runs node r → Interning lim terms runs list n h v terms runs (Some (r - 1))
   intern-found r z s =
       let (l, e) = s.there z in
       let m : r - 1 < count_in terms = omega arith in
@@ -84,7 +83,7 @@ module _ (lim : Limits) (terms runs list : List ℕ) (n h v : ℕ) (H : Holds te
   absent : Sought terms runs node 0 → (i : ℕ) → i < length p → node_at p i ≡ node → ⊥
   absent s i k e = let m : i < count_in terms = omega (arith, pool-length terms runs) in s.absent refl i m (sym (pool-at terms runs i m) ∙ e)
 
-  refused-keeps : intern lim p node ≡ refused 13 → Interning lim terms runs list n h v terms runs E.Full
+  refused-keeps : intern lim p node ≡ refused 13 → Interning lim terms runs list n h v terms runs None
   refused-keeps q =
       let g : ltb (length p) (length p) ≡ false = le-ltb (length p) (length p) (omega arith) in record {
         answer = rw q refl;
@@ -94,19 +93,19 @@ module _ (lim : Limits) (terms runs list : List ℕ) (n h v : ℕ) (H : Holds te
         runs_are = rw (q, g) refl;
       }
 
-  pub intern-full-terms : Sought terms runs node 0 → lim.terms ≤ count_in terms → Interning lim terms runs list n h v terms runs E.Full
+  pub intern-full-terms : Sought terms runs node 0 → lim.terms ≤ count_in terms → Interning lim terms runs list n h v terms runs None
   intern-full-terms s k =
       let l : lim.terms ≤ length p = omega (arith, pool-length terms runs) in
       refused-keeps (intern-new lim p node (absent s) ∙ rw (le-ltb (length p) lim.terms l) refl)
 
-  pub intern-full-runs : Sought terms runs node 0 → count_in terms < lim.terms → lim.runs < first_in terms (count_in terms) + n → Interning lim terms runs list n h v terms runs E.Full
+  pub intern-full-runs : Sought terms runs node 0 → count_in terms < lim.terms → lim.runs < first_in terms (count_in terms) + n → Interning lim terms runs list n h v terms runs None
   intern-full-runs s k f =
       let l : length p < lim.terms = omega (arith, pool-length terms runs) in
       let m : lim.runs < run_count p + length node.runs = omega (arith, counted, node-runs) in
       refused-keeps (intern-new lim p node (absent s) ∙ rw (lt-ltb (length p) lim.terms l, lt-leb (run_count p + length node.runs) lim.runs m) refl)
 
   pub intern-entered : Sought terms runs node 0 → Rooms lim terms runs → count_in terms < lim.terms → first_in terms (count_in terms) + n ≤ lim.runs → sum (part list 0 n) < 2 ^ 64 → NodeValid (count_in terms) node → n ≤ length list → (b : ℕ) → b ≡ key_of h v (part list 0 n) → b < BUCKETS
-      → Interning lim terms runs list n h v (enter_term terms h v n b) (enter_runs terms runs list n) (E.Term (count_in terms))
+      → Interning lim terms runs list n h v (enter_term terms h v n b) (enter_runs terms runs list n) (Some (count_in terms))
   intern-entered s r k f light w long b own small =
       let room : LEAST + (count_in terms + 1) * 4 ≤ length terms = omega (arith, r.long) in
       let fits : first_in terms (count_in terms) + n ≤ length runs = omega (arith, r.roomy) in

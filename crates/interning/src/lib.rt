@@ -14,13 +14,6 @@ use term_entry::enter;
 use term_key::key;
 use terms::{BUCKET, CHAINS, count, first, head, value};
 
-// a term that was there or was entered; or refusal 13
-#[derive(Clone, Copy)]
-pub enum Entered {
-    Term(usize),
-    Full,
-}
-
 // ---- a node against an entry
 fn same_runs(runs: &[u64], from: usize, list: &[u64], n: usize) -> bool
     requires { (from + n ≤ length runs.now) × (n ≤ length list.now) }
@@ -74,7 +67,7 @@ fn look_up(
     0
 }
 
-// The term with head and operation h, value v and the n runs of list: found, or entered within the limits.
+// The term with head and operation h, value v and the n runs of list: found, or entered within the limits; None: refusal 13.
 pub fn intern(
     lim: Limits,
     terms: &mut [u32],
@@ -83,26 +76,26 @@ pub fn intern(
     n: usize,
     h: u32,
     v: u32,
-) -> Entered
+) -> Option<usize>
     requires { Holds terms.old runs.old × NodeValid (count_in terms.old) (node_of h v (part list.now 0 n)) × (n ≤ length list.now) × (sum (part list.now 0 n) < 2 ^ 64) × Rooms (limits_of lim) terms.old runs.old }
     ensures { Interning (limits_of lim) terms.old runs.old list.now n h v terms.new runs.new result }
 {
     let bucket = key(list, n, h, v);
     let found = look_up(terms, runs, bucket, list, n, h, v);
     if 0 < found {
-        return Entered::Term(found - 1);
+        return Some(found - 1);
     }
     let t = count(terms);
     if t >= lim.terms {
-        return Entered::Full;
+        return None;
     }
     let from = first(terms, t);
     if from > lim.runs {
-        return Entered::Full;
+        return None;
     }
     if n > lim.runs - from {
-        return Entered::Full;
+        return None;
     }
     enter(terms, runs, bucket, list, n, h, v);
-    Entered::Term(t)
+    Some(t)
 }

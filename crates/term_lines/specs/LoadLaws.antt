@@ -2,7 +2,7 @@
 use Rattle.std.proofs.Math.Path.{◌≡◌, refl, sym, ap}
 use Rattle.std.proofs.Common.{◌∙◌, drop_of_length-le, drop-cons}
 use Rattle.std.proofs.Math.Bool.{Bool, true, false}
-use Rattle.std.specs.Prelude.{List, [], ◌∷◌, ◌++◌, leb, eqb, replicate}
+use Rattle.std.specs.Prelude.{List, [], ◌∷◌, ◌++◌, leb, eqb, replicate, Some, None}
 use Prim.Native.Nat.{ℕ, zero, suc, ◌+◌, ◌-◌, ◌^◌, ◌≤◌, ◌<◌}
 use native.Mathlib.Omega.{arith}
 use Rattle.std.proofs.Math.Dec.{ltb}
@@ -20,7 +20,6 @@ use Rattle.terms.specs.Emptying.{pool-none, emptied, emptied-holds, emptied-leng
 use Rattle.interning.specs.Interning.{entered_of, Interning}
 use Rattle.interning.specs.Growing.{Grows}
 use Rattle.interning.specs.GrowLaws.{grows_none, grows_then, grows-intern}
-use Rattle.interning.specs.declared.Entered.TheVariants as E
 use Rattle.term_lines.specs.Reading.{CutsLine}
 use Rattle.term_lines.specs.ValidLaws.{bound, ruled, same, line-sound, runs-light}
 use Rattle.term_lines.specs.declared.Line.TheVariants as N
@@ -65,11 +64,11 @@ module _ (lim : Limits) (p : Pool) (n : Node) where
       go false k false q = absurd (let z : ◌≡◌ {A = ℕ} 0 1 = cc in omega arith)
 
 -- an answer tells what interning gave
-full-told : (r : Res Interned) → E.Full ≡ entered_of r → (m : ℕ) × (r ≡ refused m)
+full-told : (r : Res Interned) → None ≡ entered_of r → (m : ℕ) × (r ≡ refused m)
 full-told (ok x) e = absurd (let z : ◌≡◌ {A = ℕ} 0 1 = cc in omega arith)
 full-told (refused m) e = (m, refl)
 
-term_told : (t : ℕ) (r : Res Interned) → E.Term t ≡ entered_of r → (x : Interned) × (r ≡ ok x) × (x.term ≡ t)
+term_told : (t : ℕ) (r : Res Interned) → Some t ≡ entered_of r → (x : Interned) × (r ≡ ok x) × (x.term ≡ t)
 term_told t (ok x) e = (x, refl, cc)
 term_told t (refused m) e = absurd (let z : ◌≡◌ {A = ℕ} 0 1 = cc in omega arith)
 
@@ -113,7 +112,7 @@ module _ (lim : Limits) (s : List ℕ) (at k : ℕ) (terms runs list : List ℕ)
     node-light = let (a, b) = line-sound k (drop at s) _ (sym C.answer) in runs-light k (part list 0 n) a.below b
 
     module _ {terms' runs' : List ℕ} (long : RUNS ≤ length list) where
-      pub add-no-room : Interning lim terms runs list n h v terms' runs' E.Full → AddsLine lim s at terms runs terms' runs' A.Full
+      pub add-no-room : Interning lim terms runs list n h v terms' runs' None → AddsLine lim s at terms runs terms' runs' A.Full
       unfolding add_line
       add-no-room I =
           let (o, q) = full-told (intern lim p node) I.answer in
@@ -121,7 +120,7 @@ module _ (lim : Limits) (s : List ℕ) (at k : ℕ) (terms runs list : List ℕ)
           let a : refused 13 ≡ add_line lim p (drop at s) = rw (← number, ← C.answer, z) refl in
           record { answer = a; behind = tt; grows = rw (← a) (rw z at (grows-intern lim (omega (arith, C.behind.2)) I)) }
 
-      module _ {t : ℕ} (I : Interning lim terms runs list n h v terms' runs' (E.Term t)) where
+      module _ {t : ℕ} (I : Interning lim terms runs list n h v terms' runs' (Some t)) where
         pub add-again : (t ≡ k → ⊥) → AddsLine lim s at terms runs terms' runs' A.Broken
         unfolding add_line
         add-again d =

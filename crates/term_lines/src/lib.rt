@@ -10,7 +10,6 @@ ghost use Rattle.terms.specs.Chains.{Holds, Rooms};
 ghost use Rattle.term_lines.specs.Reading.{lit_at, op_at, variants_at, CutsChild, CutsCount, CutsRuns, CutsLine};
 ghost use Rattle.term_lines.specs.Loading.{AddsLine, AddsLines, Loads};
 
-use interning::Entered;
 use query::Limits;
 use text_cut::{Number, Place};
 
@@ -212,13 +211,13 @@ fn add_line(
     let k = terms::count(terms);
     match cut_line(text, at, k, list) {
         Line::Node(h, v, n, e) => match interning::intern(lim, terms, runs, list, n, h, v) {
-            Entered::Term(t) => {
+            Some(t) => {
                 if t != k {
                     return Added::Broken;
                 }
                 Added::Next(e)
             }
-            Entered::Full => Added::Full,
+            None => Added::Full,
         },
         Line::Broken => Added::Broken,
         Line::Full => Added::Full,

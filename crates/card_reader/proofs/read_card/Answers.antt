@@ -23,14 +23,14 @@ take_back-requires c =
     let X = c.enter_terms-r.ensures.0 in
     (X.grows.holds, omega (arith, c.count-n.ensures.0, grows-count X.grows))
 
-pub returns-in-Term : goal.returns-in-Term
-returns-in-Term c =
+pub returns-in-Some : goal.returns-in-Some
+returns-in-Some c =
     let a = c.args in
     let i = c.enter_terms-r in
-    (read-term (limits_of a.lim) a.table.now a.text.now a.terms.now a.runs.now c.requires.3 _ _ i.auto.terms i.auto.runs i.result i.ensures.0 _ c.in-Term.is, i.ensures.1 ∙ ap (λ (n : ℕ). replicate n 0) c.is_formula.auto.frames)
+    (read-term (limits_of a.lim) a.table.now a.text.now a.terms.now a.runs.now c.requires.3 _ _ i.auto.terms i.auto.runs i.result i.ensures.0 _ c.in-Some.is, i.ensures.1 ∙ ap (λ (n : ℕ). replicate n 0) c.is_formula.auto.frames)
 
-pub returns-in-Full : goal.returns-in-Full
-returns-in-Full c =
+pub returns-in-None : goal.returns-in-None
+returns-in-None c =
     let a = c.args in
     let i = c.enter_terms-r in
-    (read-full (limits_of a.lim) a.table.now a.text.now a.terms.now a.runs.now c.requires.3 _ _ i.auto.terms i.auto.runs i.result i.ensures.0 c.in-Full.is c.count-n.result c.count-n.ensures.0 _ _ c.take_back.ensures, i.ensures.1 ∙ ap (λ (n : ℕ). replicate n 0) c.is_formula.auto.frames)
+    (read-full (limits_of a.lim) a.table.now a.text.now a.terms.now a.runs.now c.requires.3 _ _ i.auto.terms i.auto.runs i.result i.ensures.0 c.in-None.is c.count-n.result c.count-n.ensures.0 _ _ c.take_back.ensures, i.ensures.1 ∙ ap (λ (n : ℕ). replicate n 0) c.is_formula.auto.frames)

@@ -19,17 +19,17 @@ intern-requires c =
 pub returns-then-t-k : goal.returns-then-t-k
 returns-then-t-k c =
     let a = c.args in
-    add-again (limits_of a.lim) a.text.now a.at _ a.terms.now a.runs.now _ c.requires.2 c.count-k.ensures.0 ((let it : CutsLine (cut_line c.count-k.result (drop c.args.at c.args.text.now)) c.args.text.now c.args.at c.cut_line.new.list (N.Node c.in-Node.h c.in-Node.v c.in-Node.n c.in-Node.e) = rw c.in-Node.is at c.cut_line.ensures in it)) ((let it : RUNS ≤ length c.cut_line.new.list = omega arith in it)) (rw c.in-Term.is at c.intern.ensures) c.if-t-k.true
+    add-again (limits_of a.lim) a.text.now a.at _ a.terms.now a.runs.now _ c.requires.2 c.count-k.ensures.0 ((let it : CutsLine (cut_line c.count-k.result (drop c.args.at c.args.text.now)) c.args.text.now c.args.at c.cut_line.new.list (N.Node c.in-Node.h c.in-Node.v c.in-Node.n c.in-Node.e) = rw c.in-Node.is at c.cut_line.ensures in it)) ((let it : RUNS ≤ length c.cut_line.new.list = omega arith in it)) (rw c.in-Some.is at c.intern.ensures) c.if-t-k.true
 
 pub returns-else-t-k : goal.returns-else-t-k
 returns-else-t-k c =
     let a = c.args in
-    add-new (limits_of a.lim) a.text.now a.at _ a.terms.now a.runs.now _ c.requires.2 c.count-k.ensures.0 ((let it : CutsLine (cut_line c.count-k.result (drop c.args.at c.args.text.now)) c.args.text.now c.args.at c.cut_line.new.list (N.Node c.in-Node.h c.in-Node.v c.in-Node.n c.in-Node.e) = rw c.in-Node.is at c.cut_line.ensures in it)) ((let it : RUNS ≤ length c.cut_line.new.list = omega arith in it)) (rw c.in-Term.is at c.intern.ensures) c.if-t-k.false
+    add-new (limits_of a.lim) a.text.now a.at _ a.terms.now a.runs.now _ c.requires.2 c.count-k.ensures.0 ((let it : CutsLine (cut_line c.count-k.result (drop c.args.at c.args.text.now)) c.args.text.now c.args.at c.cut_line.new.list (N.Node c.in-Node.h c.in-Node.v c.in-Node.n c.in-Node.e) = rw c.in-Node.is at c.cut_line.ensures in it)) ((let it : RUNS ≤ length c.cut_line.new.list = omega arith in it)) (rw c.in-Some.is at c.intern.ensures) c.if-t-k.false
 
-pub returns-in-Full-intern : goal.returns-in-Full-intern
-returns-in-Full-intern c =
+pub returns-in-None : goal.returns-in-None
+returns-in-None c =
     let a = c.args in
-    add-no-room (limits_of a.lim) a.text.now a.at _ a.terms.now a.runs.now _ c.requires.2 c.count-k.ensures.0 ((let it : CutsLine (cut_line c.count-k.result (drop c.args.at c.args.text.now)) c.args.text.now c.args.at c.cut_line.new.list (N.Node c.in-Node.h c.in-Node.v c.in-Node.n c.in-Node.e) = rw c.in-Node.is at c.cut_line.ensures in it)) ((let it : RUNS ≤ length c.cut_line.new.list = omega arith in it)) (rw c.in-Full-intern.is at c.intern.ensures)
+    add-no-room (limits_of a.lim) a.text.now a.at _ a.terms.now a.runs.now _ c.requires.2 c.count-k.ensures.0 ((let it : CutsLine (cut_line c.count-k.result (drop c.args.at c.args.text.now)) c.args.text.now c.args.at c.cut_line.new.list (N.Node c.in-Node.h c.in-Node.v c.in-Node.n c.in-Node.e) = rw c.in-Node.is at c.cut_line.ensures in it)) ((let it : RUNS ≤ length c.cut_line.new.list = omega arith in it)) (rw c.in-None.is at c.intern.ensures)
 
 pub returns-in-Broken : goal.returns-in-Broken
 returns-in-Broken c =
