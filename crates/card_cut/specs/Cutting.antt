@@ -1,13 +1,11 @@
 -- What is cut off at a place of a text.
-use Rattle.std.specs.Prelude.{◌≡◌, Bool, true, false, List, [], ◌∷◌, ◌++◌, ℕ, ◌+◌, length, drop}
+use Rattle.std.specs.Prelude.{Option, Some, None, ◌≡◌, Bool, true, false, List, [], ◌∷◌, ◌++◌, ℕ, ◌+◌, length, drop}
 use Rattle.spec.specs.Bytes.{both, place, up_from}
 use Rattle.formula.specs.Card as card
 use Rattle.formula.specs.Card.{operations, sign, proper, spell_mark}
 use Rattle.formula.specs.Lexer.{starts_with, mark_at, stands_at}
 use Rattle.card_cut.specs.declared.Mark.{Mark}
 use Rattle.card_cut.specs.declared.Mark.TheVariants as M
-use Rattle.card_cut.specs.declared.Cut.{Cut}
-use Rattle.card_cut.specs.declared.Cut.TheVariants as C
 
 -- the mark of the definitions
 abbrev pub mark_of : Mark → card.Mark
@@ -23,10 +21,10 @@ mark_of M.Or = card.or
 mark_of M.End = card.end
 
 -- the mark that the text from a place on begins with, and the place behind it; nothing where none stands there
-abbrev pub Cuts : List ℕ → List ℕ → ℕ → Cut → Type 0
-Cuts t s at (C.Mark m e) =
+abbrev pub Cuts : List ℕ → List ℕ → ℕ → Option (Mark × ℕ) → Type 0
+Cuts t s at (Some (m, e)) =
     (stands_at t (mark_at t (drop at s)) (drop at s) ≡ true) × (mark_of m ≡ mark_at t (drop at s)) × (e ≡ at + length (spell_mark t (mark_at t (drop at s))))
-Cuts t s at C.Nothing = stands_at t (mark_at t (drop at s)) (drop at s) ≡ false
+Cuts t s at None = stands_at t (mark_at t (drop at s)) (drop at s) ≡ false
 
 -- an operation is proper, and its sign stands in front with a byte behind it; the first such operation
 abbrev pub fits : List ℕ → ℕ → List ℕ → ℕ → Bool

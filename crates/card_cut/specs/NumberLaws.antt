@@ -1,7 +1,7 @@
 -- A number at a place, and a literal.
 use Rattle.std.proofs.Math.Path.{◌≡◌, refl, sym, ap}
 use Rattle.std.proofs.Common.{◌∙◌, length-drop, drop_of_length-le, drop-drop}
-use Rattle.std.specs.Prelude.{Bool, leb, eqb, get_or}
+use Rattle.std.specs.Prelude.{Some, None, Bool, leb, eqb, get_or}
 use Rattle.std.proofs.Math.Bool.{true, false}
 use mathlib.Core.List.{List, [], ◌∷◌, ◌++◌}
 use Prim.Native.Nat.{ℕ, suc, ◌+◌, ◌≤◌, ◌<◌}
@@ -18,10 +18,8 @@ use Rattle.formula.specs.Lexer.{digit, starts_with, lead, literal_at, mark_at, s
 use Rattle.formula.specs.Lines.{cut_number}
 use Rattle.text_cut.specs.Cutting.{CutsNumber}
 use Rattle.text_cut.specs.CutLaws.{word_fits}
-use Rattle.text_cut.specs.declared.Number.TheVariants as N
 use Rattle.card_cut.specs.Cutting.{Cuts}
 use Rattle.card_cut.specs.declared.Mark.TheVariants as M
-use Rattle.card_cut.specs.declared.Cut.TheVariants as C
 
 -- one word behind another
 pub starts-append : (w v s : List ℕ) → starts_with (w ++ v) s ≡ both (starts_with w s) (starts_with v (drop (length w) s))
@@ -43,7 +41,7 @@ pub record NumberAt (most : ℕ) (s : List ℕ) (at v e : ℕ) : Type 0 where
   pub within : e ≤ length s
 
 module _ (most : ℕ) (s : List ℕ) (at : ℕ) where
-  pub number_read : (v e : ℕ) → at ≤ length s → CutsNumber most s at (N.Is v e) → NumberAt most s at v e
+  pub number_read : (v e : ℕ) → at ≤ length s → CutsNumber most s at (Some (v, e)) → NumberAt most s at v e
   unfolding cut_number
   number_read v e h W = go (both (leb (lead 0 (drop at s)) most) (starts_with (decimal (lead 0 (drop at s))) (drop at s))) refl W.answer
     where
@@ -66,7 +64,7 @@ module _ (most : ℕ) (s : List ℕ) (at : ℕ) where
           }
       go false p q = absurd (refused-ok (sym q))
 
-  pub number-none : CutsNumber most s at N.Nothing → both (leb (lead 0 (drop at s)) most) (starts_with (decimal (lead 0 (drop at s))) (drop at s)) ≡ false
+  pub number-none : CutsNumber most s at None → both (leb (lead 0 (drop at s)) most) (starts_with (decimal (lead 0 (drop at s))) (drop at s)) ≡ false
   unfolding cut_number
   number-none W = go (both (leb (lead 0 (drop at s)) most) (starts_with (decimal (lead 0 (drop at s))) (drop at s))) refl W.answer
     where
@@ -95,7 +93,7 @@ module _ (t s : List ℕ) (at : ℕ) (h : at < length s) (d : digit (get_or s at
   unfolding operation_of
   tested = ap (λ m. stands_at t m (drop at s)) literal-mark ∙ literal-tests _ _
 
-  pub no_value : CutsNumber 4294967295 s at N.Nothing → Cuts t s at C.Nothing
+  pub no_value : CutsNumber 4294967295 s at None → Cuts t s at None
   unfolding four
   no_value W = tested ∙ go (leb (lead 0 (drop at s)) 4294967295) _ (starts_with (decimal (lead 0 (drop at s))) (drop at s)) _ (number-none 4294967295 s at W)
     where
@@ -118,13 +116,13 @@ module _ (t s : List ℕ) (at : ℕ) (h : at < length s) (d : digit (get_or s at
     no true b p = p
     no false b p = refl
 
-    pub value-ends : e ≡ length s → Cuts t s at C.Nothing
+    pub value-ends : e ≡ length s → Cuts t s at None
     unfolding starts_with
     value-ends p =
         let l : length s ≤ e = omega arith in
         two ∙ no (leb (operation_of v) 63) _ (rw (drop_of_length-le s l) refl)
 
-    pub no-hash : e < length s → (get_or s e 0 ≡ 35 → ⊥) → Cuts t s at C.Nothing
+    pub no-hash : e < length s → (get_or s e 0 ≡ 35 → ⊥) → Cuts t s at None
     unfolding starts_with
     no-hash l p = two ∙ no (leb (operation_of v) 63) _ (rw (drop-cons s e 0 l, ne_eqb 35 (get_or s e 0) (λ z. p (sym z)), starts_with) refl)
 
@@ -137,10 +135,10 @@ module _ (t s : List ℕ) (at : ℕ) (h : at < length s) (d : digit (get_or s at
       unfolding starts_with
       one = two ∙ (rw (drop-cons s e 0 l, p, operation, add-one e) refl)
 
-      pub no-operation : CutsNumber 63 s (e + 1) N.Nothing → Cuts t s at C.Nothing
+      pub no-operation : CutsNumber 63 s (e + 1) None → Cuts t s at None
       no-operation W = one ∙ number-none 63 s (e + 1) W
 
-      pub literal-there : (o f : ℕ) → NumberAt 63 s (e + 1) o f → Cuts t s at (C.Mark (M.Literal v o) f)
+      pub literal-there : (o f : ℕ) → NumberAt 63 s (e + 1) o f → Cuts t s at (Some (M.Literal v o, f))
       unfolding spell_mark operation_of
       literal-there o f O =
           let m : mark_at t (drop at s) ≡ literal v o = literal-mark ∙ ap (λ (z : ℕ). literal z (operation_of z)) X.value ∙ ap (literal v) (operation ∙ O.value) in

@@ -1,5 +1,5 @@
 -- A sign at a place, and the marks that hold one.
-use Rattle.std.specs.Prelude.{◌≡◌, Bool, leb, eqb, get_or, take, drop}
+use Rattle.std.specs.Prelude.{Some, None, ◌≡◌, Bool, leb, eqb, get_or, take, drop}
 use Rattle.std.proofs.Math.Path.{refl, sym, ap}
 use Rattle.std.proofs.Common.{◌∙◌, not-suc-le-zero, add-one, drop-drop}
 use Rattle.std.proofs.Math.Bool.{true, false}
@@ -20,7 +20,6 @@ use Rattle.sign_judge.specs.SignTests.{behind, sign-slice, bindings-at}
 use Rattle.card_cut.specs.Cutting.{Cuts, fits, sign_at}
 use Rattle.card_cut.specs.NumberLaws.{starts-append}
 use Rattle.card_cut.specs.declared.Mark.TheVariants as M
-use Rattle.card_cut.specs.declared.Cut.TheVariants as C
 
 -- ---- a proper operation has a precedence
 module _ (t : List ℕ) (o : ℕ) where
@@ -122,11 +121,11 @@ module _ (t s : List ℕ) (at o : ℕ) (h : at < length s) (d : digit (get_or s 
   unfolding mark_at operation_at spell_mark
   list-mark = let z = drop-cons s at 0 h in ap (mark_at t) z ∙ (rw (d, b, mark_at) refl) ∙ ap (λ (x : List ℕ). list (operation_at t list x)) (sym z) ∙ ap list (sym e)
 
-  pub list-there : o < operations t → (n : ℕ) → n ≡ length (sign t o) → Cuts t s at (C.Mark (M.List o) (at + n + 1))
+  pub list-there : o < operations t → (n : ℕ) → n ≡ length (sign t o) → Cuts t s at (Some (M.List o, at + n + 1))
   unfolding stands_at proper_mark spell_mark
   list-there l n k = (rw list-mark (found-fits t s at 91 o e l), sym list-mark, rw list-mark (omega (arith, length-append (sign t o) (91 ∷ []))))
 
-  pub list-missing : operations t ≤ o → Cuts t s at C.Nothing
+  pub list-missing : operations t ≤ o → Cuts t s at None
   unfolding stands_at proper_mark
   list-missing l = rw (list-mark, past t o l) refl
 
@@ -139,7 +138,7 @@ module _ (t s : List ℕ) (at : ℕ) (h : at < length s) (c : get_or s at 0 ≡ 
   unfolding mark_at
   spaced-mark = ap (mark_at t) spaced ∙ ap (spaced_at t) (sym spaced)
 
-  pub or-there : true ≡ starts_with (32 ∷ 124 ∷ 32 ∷ []) (drop at s) → Cuts t s at (C.Mark M.Or (at + 3))
+  pub or-there : true ≡ starts_with (32 ∷ 124 ∷ 32 ∷ []) (drop at s) → Cuts t s at (Some (M.Or, at + 3))
   unfolding spaced_at stands_at proper_mark spell_mark
   or-there e = let m : mark_at t (drop at s) ≡ or = spaced-mark ∙ (rw (← e, spaced_at) refl) in (rw m (sym e), sym m, rw m refl)
 
@@ -148,12 +147,12 @@ module _ (t s : List ℕ) (at : ℕ) (h : at < length s) (c : get_or s at 0 ≡ 
     unfolding spaced_at operation_at spell_mark starts_with
     between-mark = spaced-mark ∙ (rw (← p, spaced_at) refl) ∙ ap (λ (x : List ℕ). between (operation_at t between x)) spaced ∙ ap between (sym e)
 
-    pub between-there : o < operations t → (n : ℕ) → n ≡ length (sign t o) → Cuts t s at (C.Mark (M.Between o) (at + n + 2))
+    pub between-there : o < operations t → (n : ℕ) → n ≡ length (sign t o) → Cuts t s at (Some (M.Between o, at + n + 2))
     unfolding stands_at proper_mark spell_mark starts_with
     between-there l n k =
         let f = found-fits t s (at + 1) 32 o e l in
         (ap (λ m. stands_at t m (drop at s)) between-mark ∙ ap (stands_at t (between o)) spaced ∙ f, sym between-mark, rw between-mark (omega (arith, length-append (sign t o) (32 ∷ []))))
 
-    pub between-missing : operations t ≤ o → Cuts t s at C.Nothing
+    pub between-missing : operations t ≤ o → Cuts t s at None
     unfolding stands_at proper_mark
     between-missing l = rw (between-mark, past t o l) refl

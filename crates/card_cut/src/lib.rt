@@ -7,7 +7,7 @@ ghost use Rattle.formula.specs.Lexer.{digit, sign_byte};
 ghost use Rattle.card_cut.specs.Cutting.{Cuts, fits, sign_at};
 
 use signs::{operations, sign_length};
-use text_cut::{Number, cut_number, starts_with};
+use text_cut::{cut_number, starts_with};
 
 // A mark of a formula text; a literal's value, then its operation.
 #[derive(Clone, Copy)]
@@ -22,13 +22,6 @@ pub enum Mark {
     Begin,
     Or,
     End,
-}
-
-// The mark, and the place behind it.
-#[derive(Clone, Copy)]
-pub enum Cut {
-    Mark(Mark, usize),
-    Nothing,
 }
 
 // a number of one byte
@@ -60,23 +53,19 @@ fn is_sign_byte(c: u8) -> bool
 }
 
 // `value#operation`
-fn cut_literal(text: &[u8], at: usize) -> Cut
+fn cut_literal(text: &[u8], at: usize) -> Option<(Mark, usize)>
     requires { (at < length text.now) × (digit (get_or text.now at 0) ≡ true) }
     ensures { (t : List ℕ) → Cuts t text.now at result }
 {
-    let Number::Is(v, e) = cut_number(text, at, 4294967295) else {
-        return Cut::Nothing;
-    };
+    let (v, e) = cut_number(text, at, 4294967295)?;
     if e == text.len() {
-        return Cut::Nothing;
+        return None;
     }
     if text[e] != 35 {
-        return Cut::Nothing;
+        return None;
     }
-    let Number::Is(o, f) = cut_number(text, e + 1, 63) else {
-        return Cut::Nothing;
-    };
-    Cut::Mark(Mark::Literal(numbers::short_size(v), byte(o)), f)
+    let (o, f) = cut_number(text, e + 1, 63)?;
+    Some((Mark::Literal(numbers::short_size(v), byte(o)), f))
 }
 
 // an operation is proper, and its sign stands at a place with a byte behind it
@@ -113,72 +102,61 @@ fn find_sign(table: &[u8], binds: &[u8; 64], text: &[u8], at: usize, last: u8) -
 }
 
 // an operation's sign and `[`
-fn cut_list(table: &[u8], binds: &[u8; 64], text: &[u8], at: usize) -> Cut
+fn cut_list(table: &[u8], binds: &[u8; 64], text: &[u8], at: usize) -> Option<(Mark, usize)>
     requires { (binds.now ≡ bindings table.now) × (at < length text.now) × (digit (get_or text.now at 0) ≡ false) × (sign_byte (get_or text.now at 0) ≡ true) }
     ensures { Cuts table.now text.now at result }
 {
     let o = find_sign(table, binds, text, at, 91);
     if o < operations(table) {
-        return Cut::Mark(Mark::List(byte(o)), at + sign_length(table, o) + 1);
+        return Some((Mark::List(byte(o)), at + sign_length(table, o) + 1));
     }
-    Cut::Nothing
+    None
 }
 
 // ` | `, or an operation's sign between spaces
-fn cut_spaced(table: &[u8], binds: &[u8; 64], text: &[u8], at: usize) -> Cut
+fn cut_spaced(table: &[u8], binds: &[u8; 64], text: &[u8], at: usize) -> Option<(Mark, usize)>
     requires { (binds.now ≡ bindings table.now) × (at < length text.now) × (get_or text.now at 0 ≡ 32) }
     ensures { Cuts table.now text.now at result }
 {
     if starts_with(text, at, b" | ") {
-        return Cut::Mark(Mark::Or, at + 3);
+        return Some((Mark::Or, at + 3));
     }
     let o = find_sign(table, binds, text, at + 1, 32);
     if o < operations(table) {
-        return Cut::Mark(Mark::Between(byte(o)), at + sign_length(table, o) + 2);
+        return Some((Mark::Between(byte(o)), at + sign_length(table, o) + 2));
     }
-    Cut::Nothing
+    None
 }
 
 // `; `
-fn cut_next(text: &[u8], at: usize) -> Cut
+fn cut_next(text: &[u8], at: usize) -> Option<(Mark, usize)>
     requires { (at < length text.now) × (get_or text.now at 0 ≡ 59) }
     ensures { (t : List ℕ) → Cuts t text.now at result }
 {
     if starts_with(text, at, b"; ") {
-        return Cut::Mark(Mark::Next, at + 2);
+        return Some((Mark::Next, at + 2));
     }
-    Cut::Nothing
+    None
 }
 
 // one of ( ) ] { } and `; `
-fn cut_plain(text: &[u8], at: usize) -> Cut
+fn cut_plain(text: &[u8], at: usize) -> Option<(Mark, usize)>
     requires { (at < length text.now) × (digit (get_or text.now at 0) ≡ false) × (sign_byte (get_or text.now at 0) ≡ false) × (get_or text.now at 0 ≡ 32 → ⊥) }
     ensures { (t : List ℕ) → Cuts t text.now at result }
 {
-    let c = text[at];
-    if c == 40 {
-        return Cut::Mark(Mark::Opens, at + 1);
+    match text[at] {
+        b'(' => Some((Mark::Opens, at + 1)),
+        b')' => Some((Mark::Shuts, at + 1)),
+        b']' => Some((Mark::Close, at + 1)),
+        b'{' => Some((Mark::Begin, at + 1)),
+        b';' => cut_next(text, at),
+        b'}' => Some((Mark::End, at + 1)),
+        _ => None,
     }
-    if c == 41 {
-        return Cut::Mark(Mark::Shuts, at + 1);
-    }
-    if c == 93 {
-        return Cut::Mark(Mark::Close, at + 1);
-    }
-    if c == 123 {
-        return Cut::Mark(Mark::Begin, at + 1);
-    }
-    if c == 59 {
-        return cut_next(text, at);
-    }
-    if c == 125 {
-        return Cut::Mark(Mark::End, at + 1);
-    }
-    Cut::Nothing
 }
 
-// The mark that the text begins with at a place, by its first byte.
-pub fn cut_mark(table: &[u8], binds: &[u8; 64], text: &[u8], at: usize) -> Cut
+// The mark that the text begins with at a place, by its first byte, and the place behind it.
+pub fn cut_mark(table: &[u8], binds: &[u8; 64], text: &[u8], at: usize) -> Option<(Mark, usize)>
     requires { (at < length text.now) × (binds.now ≡ bindings table.now) }
     ensures { Cuts table.now text.now at result }
 {

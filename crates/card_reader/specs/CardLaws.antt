@@ -1,5 +1,5 @@
 -- The three ways out of reading a card.
-use Rattle.std.specs.Prelude.{◌≡◌, refl, List, ℕ, ◌-◌, length, take, Option, Some, None}
+use Rattle.std.specs.Prelude.{Ok, Err, ◌≡◌, refl, List, ℕ, ◌-◌, length, take, Option, Some, None}
 use Rattle.std.proofs.Common.{sym, ap, ap₂, ◌∙◌, take_at}
 use Rattle.spec.specs.Bytes.{Limits, ok, refused}
 use Rattle.spec.specs.Pool.{Pool, interned}
@@ -15,14 +15,14 @@ use Rattle.card_terms.specs.Words.{whole, full, result_of, enter_text}
 use Rattle.card_terms.specs.Results.{result-text}
 use Rattle.card_terms.specs.Reading.{Ends}
 use Rattle.card_reader.specs.CardReading.{buffers_after, CardRead}
-use Rattle.card_reader.specs.declared.Read.TheVariants as R
+use Rattle.card_reader.specs.declared.Unread.TheVariants as U
 
 module _ (lim : Limits) (t s terms runs : List ℕ) (H : Holds terms runs) where
   abbrev p : Pool
   p = pool_of terms runs
 
   -- "Refusal 17 is for a text that is not a formula"
-  pub read_none : read_text t s ≡ refused 17 → CardRead lim t s terms runs terms runs R.NoFormula
+  pub read_none : read_text t s ≡ refused 17 → CardRead lim t s terms runs terms runs (Err U.NoFormula)
   unfolding read_card enter_text
   read_none e = record {
     answer = rw e refl;
@@ -34,7 +34,7 @@ module _ (lim : Limits) (t s terms runs : List ℕ) (H : Holds terms runs) where
   }
 
   module _ (terms' runs' : List ℕ) (lt : length terms' ≡ length terms) (lr : length runs' ≡ length runs) (r : Option ℕ) (X : Ends terms runs terms' runs' (enter_text lim t (pool_of terms runs) s) r) where
-    pub read-term : (a : ℕ) → r ≡ Some a → CardRead lim t s terms runs terms' runs' (R.Term a)
+    pub read-term : (a : ℕ) → r ≡ Some a → CardRead lim t s terms runs terms' runs' (Ok a)
     read-term a e =
         let q : whole (interned (pool_of terms' runs') a) ≡ enter_text lim t p s = rw e at X.reached in
         let c : read_card lim t p s ≡ ok (interned (pool_of terms' runs') a) = sym (result-text lim t p s) ∙ ap result_of (sym q) in record {
@@ -56,7 +56,7 @@ module _ (lim : Limits) (t s terms runs : List ℕ) (H : Holds terms runs) where
       back : Clean terms runs → ◌≡◌ {A = Buffers} (terms'', runs'') (terms, runs)
       back Z = B.numbers ∙ ap (λ (k : ℕ). undo_over (count_in terms' - k) (terms', runs')) ne ∙ grows_back H X.grows lt lr Z
 
-      pub read-full : CardRead lim t s terms runs terms'' runs'' R.Full
+      pub read-full : CardRead lim t s terms runs terms'' runs'' (Err U.Full)
       read-full =
           let q = pool_of terms' runs' in
           let k : count_in terms' - n ≡ length (pool_of terms' runs') - length p = rw (pool-length terms runs, pool-length terms' runs', ne) refl in record {

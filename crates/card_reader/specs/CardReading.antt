@@ -1,5 +1,5 @@
 -- What reading a card leaves in the buffers, and its answer.
-use Rattle.std.specs.Prelude.{◌≡◌, List, ℕ, ◌-◌, eqb, length, drop}
+use Rattle.std.specs.Prelude.{Result, Ok, Err, ◌≡◌, List, ℕ, ◌-◌, eqb, length, drop}
 use Rattle.spec.specs.Bytes.{Limits, Res, ok, refused, pick}
 use Rattle.spec.specs.Pool.{Pool, Interned}
 use Rattle.terms.specs.Buffers.{pool_of}
@@ -9,13 +9,13 @@ use Rattle.interning.specs.Growing.{Buffers, laid_over}
 use Rattle.term_undo.specs.Undoing.{undo_over, Clean}
 use Rattle.formula.specs.Lexer.{read_card}
 use Rattle.card_terms.specs.Words.{Reached, whole, full, stuck, enter_text}
-use Rattle.card_reader.specs.declared.Read.{Read}
-use Rattle.card_reader.specs.declared.Read.TheVariants as R
+use Rattle.card_reader.specs.declared.Unread.{Unread}
+use Rattle.card_reader.specs.declared.Unread.TheVariants as U
 
 -- refusal 17 is `NoFormula`, 13 is `Full`
-abbrev pub read_of : Res Interned → Read
-read_of (ok x) = R.Term x.term
-read_of (refused n) = pick (eqb n 17) R.NoFormula R.Full
+abbrev pub read_of : Res Interned → Result ℕ Unread
+read_of (ok x) = Ok x.term
+read_of (refused n) = pick (eqb n 17) (Err U.NoFormula) (Err U.Full)
 
 -- the buffers: the term's nodes laid over the pool; those up to a refusal laid and taken back
 abbrev pub buffers_after : Pool → Buffers → Reached Interned → Buffers
@@ -29,7 +29,7 @@ Same b c (ok x) = Unit
 Same b c (refused n) = c ≡ b
 
 -- `read_card` into the pool
-pub record CardRead (lim : Limits) (t s terms runs terms' runs' : List ℕ) (r : Read) : Type 0 where
+pub record CardRead (lim : Limits) (t s terms runs terms' runs' : List ℕ) (r : Result ℕ Unread) : Type 0 where
   pub answer : r ≡ read_of (read_card lim t (pool_of terms runs) s)
   pub pool : pool_of terms' runs' ≡ pool_after (pool_of terms runs) (read_card lim t (pool_of terms runs) s)
   pub holds : Holds terms' runs'

@@ -9,10 +9,9 @@ ghost use Rattle.card_reader.specs.CardReading.{CardRead};
 
 use query::Limits;
 
-// the term's number; or 17; or 13
-#[derive(Clone, Copy)]
-pub enum Read {
-    Term(usize),
+// why a card isn't read: 17; 13
+#[derive(Clone, Copy, PartialEq, Eq, Debug)]
+pub enum Unread {
     NoFormula,
     Full,
 }
@@ -26,20 +25,19 @@ pub fn read_card(
     frames: &mut [u64],
     terms: &mut [u32],
     runs: &mut [u64],
-) -> Read
+) -> Result<usize, Unread>
     requires { (binds.now ≡ bindings table.now) × (length text.now ≤ length frames.old) × (length text.now < 2 ^ 48) × Holds terms.old runs.old × Rooms (limits_of lim) terms.old runs.old }
     ensures { CardRead (limits_of lim) table.now text.now terms.old runs.old terms.new runs.new result × (frames.new ≡ replicate (length frames.old) 0) }
 {
     if !card_syntax::is_formula(table, binds, text, frames) {
-        return Read::NoFormula;
+        return Err(Unread::NoFormula);
     }
     let n = terms::count(terms);
-    let r = card_terms::enter_terms(lim, table, binds, text, frames, terms, runs);
-    match r {
-        Some(a) => Read::Term(a),
+    match card_terms::enter_terms(lim, table, binds, text, frames, terms, runs) {
+        Some(a) => Ok(a),
         None => {
             term_undo::take_back(terms, runs, n);
-            Read::Full
+            Err(Unread::Full)
         }
     }
 }

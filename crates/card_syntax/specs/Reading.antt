@@ -1,5 +1,5 @@
 -- The text read mark by mark: the pass so far and what is left of the text tell whether it is a formula.
-use Rattle.std.specs.Prelude.{◌≡◌, refl, Bool, true, false, List, [], ◌∷◌, ℕ, zero, suc, ◌+◌, ◌-◌, ◌≤◌, ◌<◌, eqb, length, drop}
+use Rattle.std.specs.Prelude.{Some, None, ◌≡◌, refl, Bool, true, false, List, [], ◌∷◌, ℕ, zero, suc, ◌+◌, ◌-◌, ◌≤◌, ◌<◌, eqb, length, drop}
 use Rattle.std.proofs.Math.Path.{sym, ap}
 use Rattle.std.proofs.Common.{◌∙◌, arith, ne_eqb}
 use Rattle.spec.specs.Bytes.{Res, ok, refused, ◌>>=◌}
@@ -13,7 +13,6 @@ use Rattle.formula_laws.specs.Syntax.{Open, Phase, fresh, wanted, done, failed, 
 use Rattle.card_cut.specs.Cutting.{mark_of, Cuts}
 use Rattle.card_cut.specs.CutLaws.{mark-behind, mark-cut, nothing-cut, all-cut}
 use Rattle.card_cut.specs.declared.Mark as m
-use Rattle.card_cut.specs.declared.Cut.TheVariants as C
 use Rattle.card_syntax.specs.Passing.{is_ok, is_formula, stack, Passes, Room, depth_of}
 use Rattle.card_syntax.specs.PassLaws.{any_open, room-more}
 use Rattle.card_syntax.specs.declared.Pass.{Pass}
@@ -117,7 +116,7 @@ module _ (t s f : List ℕ) (p : Pass) (at : ℕ) (R : Reading t s f p at) where
     next-fuel : (g : ℕ) × (R.fuel ≡ suc g)
     next-fuel = some-fuel (length s - at) R.fuel (omega arith) (omega (arith, R.enough))
 
-    pub reading-mark : (m : m.Mark) (e : ℕ) (f' : List ℕ) (r : Pass) → Cuts t s at (C.Mark m e) → Room (depth_of p + 2) r → Passes f' r (pass R.phase (mark_of m)) → Reading t s f' r e
+    pub reading-mark : (m : m.Mark) (e : ℕ) (f' : List ℕ) (r : Pass) → Cuts t s at (Some (m, e)) → Room (depth_of p + 2) r → Passes f' r (pass R.phase (mark_of m)) → Reading t s f' r e
     reading-mark m e f' r X o S =
         let (g, z) = next-fuel in
         let (b, w) = mark-behind t s at h m e X in
@@ -131,7 +130,7 @@ module _ (t s f : List ℕ) (p : Pass) (at : ℕ) (R : Reading t s f p at) where
           left = R.left ∙ ap (λ (x : ℕ). verdict R.phase (cut x t (drop at s))) z ∙ ap (verdict R.phase) (mark-cut t s at h g m e X) ∙ verdict-mark R.phase (mark_of m) (cut g t (drop e s));
         }
 
-    pub reading-stops : Cuts t s at C.Nothing → false ≡ is_formula t s
+    pub reading-stops : Cuts t s at None → false ≡ is_formula t s
     unfolding verdict
     reading-stops X = let (g, z) = next-fuel in sym (R.left ∙ ap (λ (x : ℕ). verdict R.phase (cut x t (drop at s))) z ∙ ap (verdict R.phase) (nothing-cut t s at h g X))
 

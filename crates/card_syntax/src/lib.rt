@@ -8,7 +8,7 @@ ghost use Rattle.card_cut.specs.Cutting.{mark_of};
 ghost use Rattle.card_syntax.specs.Passing.{is_formula, is_close, Stacked, Passes, Room, depth_of, popped, counted};
 ghost use Rattle.card_syntax.specs.Reading.{is_done};
 
-use card_cut::{Cut, Mark, cut_mark};
+use card_cut::{Mark, cut_mark};
 use stores::put_u64;
 
 // right behind `[`, a child wanted, or one read, with so many frames on the stack; or no formula's marks
@@ -162,7 +162,7 @@ fn read(table: &[u8], binds: &[u8; 64], text: &[u8], frames: &mut [u64]) -> bool
     let mut p = Pass::Wanted(0);
     let mut at = 0;
     while at < text.len() {
-        let Cut::Mark(m, e) = cut_mark(table, binds, text, at) else {
+        let Some((m, e)) = cut_mark(table, binds, text, at) else {
             return false;
         };
         p = step(frames, p, m);

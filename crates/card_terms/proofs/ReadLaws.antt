@@ -21,9 +21,6 @@ use Rattle.formula_laws.specs.Lexing.{of-proper}
 use Rattle.card_cut.specs.Cutting.{mark_of, Cuts}
 use Rattle.card_cut.specs.CutLaws.{mark-behind, mark-cut, nothing-cut, all-cut}
 use Rattle.card_cut.specs.declared.Mark.{Mark}
-use Rattle.card_cut.specs.declared.Cut.TheVariants as C
-use Rattle.card_terms.specs.declared.Stood.{Stood}
-use Rattle.card_terms.specs.declared.Stood.TheVariants as S
 use Rattle.card_terms.specs.Words.{Reached, whole, full, stuck, ◌>>=◌, reached_by, intern_at, enter_at, enter_all_at, enter_read, enter_text, Word, bracket, list_head, marked_head, left_child, child, Stack, on_top, intern_on, reduce_on, reduce_top, turn_left, close_on, shut_on, step_on, only_term, run_on, word_of, words_in}
 use Rattle.card_terms.specs.Reading.{Known, Topped, Standing, Steps, Ends, Reads}
 use Rattle.card_terms.specs.StandLaws.{word-child}
@@ -205,14 +202,14 @@ module _ (lim : Limits) (t s : List ℕ) (terms₀ runs₀ frames₀ : List ℕ)
 
   module _ (terms runs frames : List ℕ) (at top : ℕ) (R : Entering lim t s terms₀ runs₀ frames₀ terms runs frames at top) where
     -- a mark stands there
-    pub entering-some : at < length s → Cuts t s at C.Nothing → ⊥
+    pub entering-some : at < length s → Cuts t s at None → ⊥
     entering-some h X = go R.fuel R.cuts
       where
         go : (f : ℕ) → cut f t (drop at s) ≡ ok R.rest → ⊥
         go zero e = no_fuel t s at R.rest h e
         go (suc f) e = refused-ok (sym (nothing-cut t s at h f X) ∙ e)
 
-    module _ (h : at < length s) (m : Mark) (e : ℕ) (X : Cuts t s at (C.Mark m e)) where
+    module _ (h : at < length s) (m : Mark) (e : ℕ) (X : Cuts t s at (Some (m, e))) where
       pub entering-ahead : Ahead lim t s (pool_of terms runs) (words_in frames top) m e final
       unfolding run_on
       entering-ahead = go R.fuel R.cuts
@@ -230,13 +227,13 @@ module _ (lim : Limits) (t s : List ℕ) (terms₀ runs₀ frames₀ : List ℕ)
       pub entering-free : step_on lim t (pool_of terms runs, words_in frames top) (mark_of m) ≢ stuck
       entering-free q = R.free (sym entering-ahead.same ∙ ap (λ (z : Reached Stack). z >>= λ y. run_on lim t y entering-ahead.rest) q)
 
-      module _ {terms' runs' frames' : List ℕ} {r : Stood} (Y : Steps lim terms runs terms' runs' frames' (top + 1) (step_on lim t (pool_of terms runs, words_in frames top) (mark_of m)) r) where
-        pub entering-stop : r ≡ S.Full → Ends terms₀ runs₀ terms' runs' final None
+      module _ {terms' runs' frames' : List ℕ} {r : Option ℕ} (Y : Steps lim terms runs terms' runs' frames' (top + 1) (step_on lim t (pool_of terms runs, words_in frames top) (mark_of m)) r) where
+        pub entering-stop : r ≡ None → Ends terms₀ runs₀ terms' runs' final None
         entering-stop q =
             let z : full (pool_of terms' runs') ≡ step_on lim t (pool_of terms runs, words_in frames top) (mark_of m) = rw q at Y.reached in
             record { reached = ap (λ (v : Reached Stack). v >>= λ y. run_on lim t y entering-ahead.rest) z ∙ entering-ahead.same; grows = grows_then R.grows Y.grows }
 
-        pub entering-turn : (n : ℕ) → r ≡ S.Top n → length terms' ≡ length terms → length runs' ≡ length runs → length frames' ≡ length frames → Entering lim t s terms₀ runs₀ frames₀ terms' runs' frames' e n
+        pub entering-turn : (n : ℕ) → r ≡ Some n → length terms' ≡ length terms → length runs' ≡ length runs → length frames' ≡ length frames → Entering lim t s terms₀ runs₀ frames₀ terms' runs' frames' e n
         entering-turn n q a b d =
             let z : whole (pool_of terms' runs', words_in frames' n) ≡ step_on lim t (pool_of terms runs, words_in frames top) (mark_of m) = rw q at Y.reached in
             let st : Standing lim terms' runs' frames' n × (n ≤ top + 1) = rw q at Y.stands in
@@ -303,14 +300,14 @@ module _ (lim : Limits) (t terms runs frames : List ℕ) (top : ℕ) (free : run
   unfolding run_on
   last-topped = topped-of lim t 0 (pool_of terms runs) (words_in frames top) (not_stuck _ only_term free)
 
-  module _ (terms' runs' frames' : List ℕ) (s : Stood) (Y : Steps lim terms runs terms' runs' frames' top (reduce_top lim t 0 (pool_of terms runs) (words_in frames top)) s) where
-    pub last-full : s ≡ S.Full → Ends terms runs terms' runs' (run_on lim t (pool_of terms runs, words_in frames top) []) None
+  module _ (terms' runs' frames' : List ℕ) (s : Option ℕ) (Y : Steps lim terms runs terms' runs' frames' top (reduce_top lim t 0 (pool_of terms runs) (words_in frames top)) s) where
+    pub last-full : s ≡ None → Ends terms runs terms' runs' (run_on lim t (pool_of terms runs, words_in frames top) []) None
     unfolding run_on
     last-full q =
         let z : full (pool_of terms' runs') ≡ reduce_top lim t 0 (pool_of terms runs) (words_in frames top) = rw q at Y.reached in
         record { reached = ap (λ (v : Reached Stack). v >>= only_term) z; grows = Y.grows }
 
-    module _ (n : ℕ) (q : s ≡ S.Top n) where
+    module _ (n : ℕ) (q : s ≡ Some n) where
       here : whole (pool_of terms' runs', words_in frames' n) ≡ reduce_top lim t 0 (pool_of terms runs) (words_in frames top)
       here = rw q at Y.reached
 

@@ -1,5 +1,5 @@
 -- A list or marked place closed on the words of a buffer.
-use Rattle.std.specs.Prelude.{◌≡◌, Bool, List, [], ◌∷◌, map, ltb, eqb}
+use Rattle.std.specs.Prelude.{Option, Some, None, ◌≡◌, Bool, List, [], ◌∷◌, map, ltb, eqb}
 use Rattle.std.proofs.Math.Path.{refl, ap}
 use Rattle.std.proofs.Common.{◌∙◌, eq-or-lt_of_le}
 use Rattle.std.proofs.Math.Logic.{inl, inr}
@@ -13,8 +13,6 @@ use Rattle.spec.specs.Bytes.{Limits, Two, pick}
 use Rattle.spec.specs.Pool.{Pool}
 use Rattle.terms.specs.Buffers.{count_in, part, unpack}
 use Rattle.terms.specs.PartLaws.{part-cons, part-over}
-use Rattle.card_terms.specs.declared.Stood.{Stood}
-use Rattle.card_terms.specs.declared.Stood.TheVariants as S
 use Rattle.card_terms.specs.Words.{Reached, Word, bracket, list_head, marked_head, child, Stack, intern_on, close_on, word_of, words_in}
 use Rattle.card_terms.specs.Reading.{HeadFormed, head_node, Items, WordsBelow, Closes, Heads, Standing, Steps, StandingAt}
 use Rattle.card_terms.specs.StandLaws.{word-left, word-child, words-top}
@@ -127,9 +125,9 @@ module _ (lim : Limits) (terms runs frames : List ℕ) (top r : ℕ) (Z : Standi
       below-items (count_in terms) frames (top - r) r (λ j a b. H.items j a (rw e at b)) (rw e Z.below)
 
 -- a lower stack is no higher
-pub steps-most : {lim : Limits} {terms runs terms' runs' frames' : List ℕ} {a b : ℕ} {m : Reached Stack} {s : Stood} → a ≤ b → Steps lim terms runs terms' runs' frames' a m s → Steps lim terms runs terms' runs' frames' b m s
+pub steps-most : {lim : Limits} {terms runs terms' runs' frames' : List ℕ} {a b : ℕ} {m : Reached Stack} {s : Option ℕ} → a ≤ b → Steps lim terms runs terms' runs' frames' a m s → Steps lim terms runs terms' runs' frames' b m s
 steps-most {lim} {terms} {runs} {terms'} {runs'} {frames'} {a} {b} {m} {s} h X = record { reached = X.reached; grows = X.grows; stands = go s X.stands }
   where
-    go : (s : Stood) → StandingAt lim terms' runs' frames' a s → StandingAt lim terms' runs' frames' b s
-    go (S.Top n) y = (y.0, omega (arith, y.1))
-    go S.Full y = tt
+    go : (s : Option ℕ) → StandingAt lim terms' runs' frames' a s → StandingAt lim terms' runs' frames' b s
+    go (Some n) y = (y.0, omega (arith, y.1))
+    go None y = tt

@@ -14,7 +14,6 @@ use Rattle.joining.specs.Joining.{Begins, joined_in}
 use Rattle.joining.specs.JoinLaws.{joined-runs, join-sum}
 use Rattle.interning.specs.Interning.{entered_of, pool_after, Interning}
 use Rattle.interning.specs.GrowLaws.{grows-intern}
-use Rattle.card_terms.specs.declared.Stood.TheVariants as S
 use Rattle.card_terms.specs.Words.{intern_at, reached_by}
 use Rattle.card_terms.specs.Reading.{HeadFormed, head_node, reached_term, TermIn, Enters, Placed}
 
@@ -79,8 +78,8 @@ module _ (lim : Limits) {terms runs list : List ℕ} {n h v : ℕ} {terms' runs'
 pub term-small : {r : Option ℕ} {a n : ℕ} → r ≡ Some a → TermIn n r → a < n
 term-small {r} {a} {n} e h = rw e at h
 
-pub placed-term : (frames : List ℕ) (to : ℕ) {r : Option ℕ} {a x : ℕ} {frames' : List ℕ} → r ≡ Some a → x ≡ a → frames' ≡ set frames to (16384 + x) → Placed frames to r frames' (S.Top (to + 1))
+pub placed-term : (frames : List ℕ) (to : ℕ) {r : Option ℕ} {a x : ℕ} {frames' : List ℕ} → r ≡ Some a → x ≡ a → frames' ≡ set frames to (16384 + x) → Placed frames to r frames' (Some (to + 1))
 placed-term frames to e f g = rw (e, ← f) (g, refl)
 
-pub placed-full : (frames : List ℕ) (to : ℕ) {r : Option ℕ} → r ≡ None → Placed frames to r frames S.Full
+pub placed-full : (frames : List ℕ) (to : ℕ) {r : Option ℕ} → r ≡ None → Placed frames to r frames None
 placed-full frames to e = rw e (refl, refl)

@@ -7,8 +7,6 @@ use Rattle.terms.specs.Chains.{Holds, Rooms}
 use Rattle.interning.specs.Growing.{Grows}
 use Rattle.formula.specs.Card.{Tree, operations, prec_of}
 use Rattle.formula.specs.Lexer.{read_text}
-use Rattle.card_terms.specs.declared.Stood.{Stood}
-use Rattle.card_terms.specs.declared.Stood.TheVariants as S
 use Rattle.card_terms.specs.Words.{Reached, whole, full, intern_at, Word, bracket, list_head, marked_head, left_child, child, Stack, intern_on, reduce_top, close_on, words_in}
 
 -- ---- a node by its head and its runs, not joined yet: an operation, or a marked place
@@ -46,9 +44,9 @@ pub record Ends (terms runs terms' runs' : List ℕ) (m : Reached Interned) (r :
   pub grows : Grows terms runs terms' runs' (pool_of terms' runs')
 
 -- it is put on the stack as a run of 1
-abbrev pub Placed : List ℕ → ℕ → Option ℕ → List ℕ → Stood → Type 0
-Placed frames to (Some a) frames' s = (frames' ≡ set frames to (16384 + a)) × (s ≡ S.Top (to + 1))
-Placed frames to None frames' s = (frames' ≡ frames) × (s ≡ S.Full)
+abbrev pub Placed : List ℕ → ℕ → Option ℕ → List ℕ → Option ℕ → Type 0
+Placed frames to (Some a) frames' s = (frames' ≡ set frames to (16384 + a)) × (s ≡ Some (to + 1))
+Placed frames to None frames' s = (frames' ≡ frames) × (s ≡ None)
 
 -- ---- the stack
 -- its terms are below n
@@ -100,16 +98,16 @@ pub record Standing (lim : Limits) (terms runs frames : List ℕ) (top : ℕ) : 
   pub inside : top ≤ length frames
   pub below : WordsBelow (count_in terms) (words_in frames top)
 
-abbrev pub StandingAt : Limits → List ℕ → List ℕ → List ℕ → ℕ → Stood → Type 0
-StandingAt lim terms runs frames most (S.Top n) = Standing lim terms runs frames n × (n ≤ most)
-StandingAt lim terms runs frames most S.Full = Unit
+abbrev pub StandingAt : Limits → List ℕ → List ℕ → List ℕ → ℕ → Option ℕ → Type 0
+StandingAt lim terms runs frames most (Some n) = Standing lim terms runs frames n × (n ≤ most)
+StandingAt lim terms runs frames most None = Unit
 
-abbrev pub reached_stack : Stood → Pool → List ℕ → Reached Stack
-reached_stack (S.Top n) p frames = whole (p, words_in frames n)
-reached_stack S.Full p frames = full p
+abbrev pub reached_stack : Option ℕ → Pool → List ℕ → Reached Stack
+reached_stack (Some n) p frames = whole (p, words_in frames n)
+reached_stack None p frames = full p
 
 -- The buffers after steps that reach m: no more than `most` words.
-pub record Steps (lim : Limits) (terms runs terms' runs' frames' : List ℕ) (most : ℕ) (m : Reached Stack) (s : Stood) : Type 0 where
+pub record Steps (lim : Limits) (terms runs terms' runs' frames' : List ℕ) (most : ℕ) (m : Reached Stack) (s : Option ℕ) : Type 0 where
   pub reached : reached_stack s (pool_of terms' runs') frames' ≡ m
   pub grows : Grows terms runs terms' runs' (pool_of terms' runs')
   pub stands : StandingAt lim terms' runs' frames' most s

@@ -1,5 +1,5 @@
 -- "By precedence" on the words of a buffer: where it stops, and one turn.
-use Rattle.std.specs.Prelude.{◌≡◌, List, [], ◌∷◌, map, leb, ltb, eqb, length, get_or, set}
+use Rattle.std.specs.Prelude.{Option, Some, None, ◌≡◌, List, [], ◌∷◌, map, leb, ltb, eqb, length, get_or, set}
 use Rattle.std.proofs.Math.Path.{refl, sym, ap}
 use Rattle.std.proofs.Common.{ap₂, ◌∙◌, length-set}
 use Rattle.std.proofs.Math.Bool.{Bool, true, false}
@@ -13,8 +13,6 @@ use Rattle.terms.specs.Buffers.{count_in, part, unpack, pool_of}
 use Rattle.formula.specs.Card.{operations, prec_of}
 use Rattle.interning.specs.Growing.{Grows}
 use Rattle.interning.specs.GrowLaws.{grows_then, grows_none}
-use Rattle.card_terms.specs.declared.Stood.{Stood}
-use Rattle.card_terms.specs.declared.Stood.TheVariants as S
 use Rattle.card_terms.specs.Words.{Reached, whole, full, stuck, Word, bracket, list_head, marked_head, left_child, child, Stack, intern_at, intern_on, on_top, ◌>>=◌, reduce_on, reduce_top, word_of, words_in}
 use Rattle.card_terms.specs.Reading.{head_node, Items, WordsBelow, Known, Topped, LeftBelow, reduced_once, Waits, Standing, Steps}
 use Rattle.card_terms.specs.StandLaws.{word-left, word-child, words-top, words-set}
@@ -200,19 +198,19 @@ module _ (lim : Limits) (t : List ℕ) (m : ℕ) (terms₀ runs₀ frames₀ : L
   reducing-start Z k l = record { long_terms = refl; long_runs = refl; long_frames = refl; stands = Z; known = k; topped = l; most = omega arith; grows = grows_none terms₀ runs₀ Z.holds; same = refl }
 
   module _ (terms runs frames : List ℕ) (n : ℕ) (R : Reducing lim t m terms₀ runs₀ frames₀ top terms runs frames n) where
-    pub reducing-end : Waits t m frames n false → Steps lim terms₀ runs₀ terms runs frames top (reduce_top lim t m (pool_of terms₀ runs₀) (words_in frames₀ top)) (S.Top n)
+    pub reducing-end : Waits t m frames n false → Steps lim terms₀ runs₀ terms runs frames top (reduce_top lim t m (pool_of terms₀ runs₀) (words_in frames₀ top)) (Some n)
     reducing-end h = record { reached = sym (h lim (pool_of terms runs)) ∙ R.same; grows = R.grows; stands = (R.stands, R.most) }
 
     module _ (h : Waits t m frames n true) (terms' runs' frames' : List ℕ) where
       goes_on : reduce_top lim t m (pool_of terms₀ runs₀) (words_in frames₀ top) ≡ (reduced_once lim (pool_of terms runs) frames n >>= λ s. reduce_top lim t m s.0 s.1)
       goes_on = sym R.same ∙ pair_turn lim t m (pool_of terms runs) frames n h.0 h.1
 
-      pub reducing-full : (r : Stood) → r ≡ S.Full → Steps lim terms runs terms' runs' frames' (n - 2 + 1) (reduced_once lim (pool_of terms runs) frames n) r → Steps lim terms₀ runs₀ terms' runs' frames' top (reduce_top lim t m (pool_of terms₀ runs₀) (words_in frames₀ top)) S.Full
+      pub reducing-full : (r : Option ℕ) → r ≡ None → Steps lim terms runs terms' runs' frames' (n - 2 + 1) (reduced_once lim (pool_of terms runs) frames n) r → Steps lim terms₀ runs₀ terms' runs' frames' top (reduce_top lim t m (pool_of terms₀ runs₀) (words_in frames₀ top)) None
       reducing-full r e X =
           let q : full (pool_of terms' runs') ≡ reduced_once lim (pool_of terms runs) frames n = rw e at X.reached in
           record { reached = ap (λ (z : Reached Stack). z >>= λ s. reduce_top lim t m s.0 s.1) q ∙ sym goes_on; grows = grows_then R.grows X.grows; stands = tt }
 
-      module _ (r : Stood) (k : ℕ) (e : r ≡ S.Top k) (X : Steps lim terms runs terms' runs' frames' (n - 2 + 1) (reduced_once lim (pool_of terms runs) frames n) r) where
+      module _ (r : Option ℕ) (k : ℕ) (e : r ≡ Some k) (X : Steps lim terms runs terms' runs' frames' (n - 2 + 1) (reduced_once lim (pool_of terms runs) frames n) r) where
         stood : Standing lim terms' runs' frames' k × (k ≤ n - 2 + 1)
         stood = rw e at X.stands
 

@@ -16,7 +16,6 @@ use Rattle.terms.specs.Buffers.{count_in, part, unpack, pool_of}
 use Rattle.terms.specs.PartLaws.{part-cong}
 use Rattle.terms.specs.PoolLaws.{pool-length, rooms_same}
 use Rattle.interning.specs.Growing.{Grows}
-use Rattle.card_terms.specs.declared.Stood.{Stood}
 use Rattle.card_terms.specs.Words.{Reached, whole, Word, bracket, list_head, marked_head, left_child, child, intern_on, on_top, ◌>>=◌, word_of, words_in}
 use Rattle.card_terms.specs.Reading.{Items, Enters, Placed, WordBelow, WordsBelow, Standing, Steps, TermIn}
 
@@ -102,7 +101,7 @@ back-same frames ys from n h k = words_same (put_mid from (length frames - from)
 
 -- ---- a term entered and put on the stack
 module _ (lim : Limits) {terms runs frames : List ℕ} {to : ℕ} (Z : Standing lim terms runs frames to) {terms' runs' : List ℕ} (n : Node) (lt : length terms' ≡ length terms) (lr : length runs' ≡ length runs)
-    (frames₁ : List ℕ) (same : words_in frames₁ to ≡ words_in frames to) (long : length frames₁ ≡ length frames) (room : to < length frames) (frames' : List ℕ) (s : Stood) where
+    (frames₁ : List ℕ) (same : words_in frames₁ to ≡ words_in frames to) (long : length frames₁ ≡ length frames) (room : to < length frames) (frames' : List ℕ) (s : Option ℕ) where
   pub enters-placed : (r : Option ℕ) → Enters lim terms runs terms' runs' n r → Placed frames₁ to r frames' s → Steps lim terms runs terms' runs' frames' (to + 1) (intern_on lim (pool_of terms runs) n (words_in frames to)) s
   unfolding WordsBelow
   enters-placed (Some a) X P =

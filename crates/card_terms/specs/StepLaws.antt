@@ -1,5 +1,5 @@
 -- Steps one after the other, and the marks' steps on the words of a buffer.
-use Rattle.std.specs.Prelude.{◌≡◌, refl, ◌≢◌, Bool, true, false, ℕ, zero, suc, ◌+◌, ◌*◌, ◌-◌, ◌/◌, ◌%◌, ◌≤◌, ◌<◌, leb, ltb, eqb, set}
+use Rattle.std.specs.Prelude.{Option, Some, None, ◌≡◌, refl, ◌≢◌, Bool, true, false, ℕ, zero, suc, ◌+◌, ◌*◌, ◌-◌, ◌/◌, ◌%◌, ◌≤◌, ◌<◌, leb, ltb, eqb, set}
 use Rattle.std.proofs.Common.{sym, ◌∙◌, lt-ltb, leb-true, leb-false}
 use Rattle.std.proofs.Math.Path.{ap, ap₂}
 use mathlib.Core.List.{List, [], ◌∷◌}
@@ -14,8 +14,6 @@ use Rattle.formula.specs.Card as card
 use Rattle.formula.specs.Card.{operations, prec_of, has_sign, own, proper, proper_mark}
 use Rattle.formula_laws.specs.Lexing.{of-proper}
 use Rattle.interning.specs.GrowLaws.{grows_then, grows_none}
-use Rattle.card_terms.specs.declared.Stood.{Stood}
-use Rattle.card_terms.specs.declared.Stood.TheVariants as S
 use Rattle.card_terms.specs.Words.{Reached, whole, full, stuck, ◌>>=◌, Word, bracket, list_head, marked_head, left_child, child, Stack, reduce_top, turn_left, close_on, shut_on, word_of, words_in}
 use Rattle.card_terms.specs.Reading.{WordsBelow, Topped, Closes, Standing, Steps}
 use Rattle.card_terms.specs.StandLaws.{word-left, word-child, words-top, words-push}
@@ -25,11 +23,11 @@ use Rattle.card_terms.specs.ReduceLaws.{words-two}
 pub not_stuck : {A B : Type 0} (m : Reached A) (f : A → Reached B) → (m >>= f) ≢ stuck → m ≢ stuck
 not_stuck m f h e = h (ap (λ z. z >>= f) e)
 
-module _ {lim : Limits} {terms runs terms₁ runs₁ frames₁ : List ℕ} {a : ℕ} {m : Reached Stack} {r : Stood} (X : Steps lim terms runs terms₁ runs₁ frames₁ a m r) (f : Stack → Reached Stack) where
-  pub then-full : r ≡ S.Full → (b : ℕ) → Steps lim terms runs terms₁ runs₁ frames₁ b (m >>= f) S.Full
+module _ {lim : Limits} {terms runs terms₁ runs₁ frames₁ : List ℕ} {a : ℕ} {m : Reached Stack} {r : Option ℕ} (X : Steps lim terms runs terms₁ runs₁ frames₁ a m r) (f : Stack → Reached Stack) where
+  pub then-full : r ≡ None → (b : ℕ) → Steps lim terms runs terms₁ runs₁ frames₁ b (m >>= f) None
   then-full e b = let q : full (pool_of terms₁ runs₁) ≡ m = rw e at X.reached in record { reached = ap (λ (z : Reached Stack). z >>= f) q; grows = X.grows; stands = tt }
 
-  module _ (n : ℕ) (e : r ≡ S.Top n) where
+  module _ (n : ℕ) (e : r ≡ Some n) where
     pub then-stands : Standing lim terms₁ runs₁ frames₁ n
     then-stands = (rw e at X.stands).0
 
@@ -42,12 +40,12 @@ module _ {lim : Limits} {terms runs terms₁ runs₁ frames₁ : List ℕ} {a : 
     pub then-not : (m >>= f) ≢ stuck → f (pool_of terms₁ runs₁, words_in frames₁ n) ≢ stuck
     then-not h q = h (sym then_is ∙ q)
 
-    pub steps_then : {terms₂ runs₂ frames₂ : List ℕ} {b : ℕ} {s : Stood} → Steps lim terms₁ runs₁ terms₂ runs₂ frames₂ b (f (pool_of terms₁ runs₁, words_in frames₁ n)) s → Steps lim terms runs terms₂ runs₂ frames₂ b (m >>= f) s
+    pub steps_then : {terms₂ runs₂ frames₂ : List ℕ} {b : ℕ} {s : Option ℕ} → Steps lim terms₁ runs₁ terms₂ runs₂ frames₂ b (f (pool_of terms₁ runs₁, words_in frames₁ n)) s → Steps lim terms runs terms₂ runs₂ frames₂ b (m >>= f) s
     steps_then Y = record { reached = Y.reached ∙ then_is; grows = grows_then X.grows Y.grows; stands = Y.stands }
 
 -- a step that enters nothing
 pub steps-words : {lim : Limits} {terms runs frames : List ℕ} {n : ℕ} → Standing lim terms runs frames n → (frames' : List ℕ) (k b : ℕ) (w : List Word) → words_in frames' k ≡ w → WordsBelow (count_in terms) w → k ≤ length frames' → k ≤ b
-    → Steps lim terms runs terms runs frames' b (whole (pool_of terms runs, w)) (S.Top k)
+    → Steps lim terms runs terms runs frames' b (whole (pool_of terms runs, w)) (Some k)
 steps-words {lim} {terms} {runs} Z frames' k b w e h i l = record {
   reached = ap (λ (v : List Word). whole (pool_of terms runs, v)) e;
   grows = grows_none terms runs Z.holds;
@@ -81,7 +79,7 @@ shut-two p frames (suc zero) h = absurd (h refl)
 shut-two p frames (suc (suc n)) h = omega arith
 
 module _ {lim : Limits} {terms runs frames : List ℕ} {n : ℕ} (Z : Standing lim terms runs frames n) where
-  pub shut-steps : 2 ≤ n → (frames' : List ℕ) → frames' ≡ set frames (n - 2) (get_or frames (n - 1) 0) → (b : ℕ) → n ≤ b → Steps lim terms runs terms runs frames' b (shut_on (pool_of terms runs, words_in frames n)) (S.Top (n - 1))
+  pub shut-steps : 2 ≤ n → (frames' : List ℕ) → frames' ≡ set frames (n - 2) (get_or frames (n - 1) 0) → (b : ℕ) → n ≤ b → Steps lim terms runs terms runs frames' b (shut_on (pool_of terms runs, words_in frames n)) (Some (n - 1))
   unfolding shut_on WordsBelow
   shut-steps h frames' q b l =
       let e : n - 2 + 1 ≡ n - 1 = omega arith in
@@ -109,7 +107,7 @@ turn-some o p frames (suc n) h = let e : suc n - 1 ≡ n = omega arith in let (a
 
 module _ {lim : Limits} {terms runs frames : List ℕ} {n : ℕ} (Z : Standing lim terms runs frames n) (o : ℕ) where
   pub turn-steps : (0 < n) × (16384 ≤ get_or frames (n - 1) 0) × (get_or frames (n - 1) 0 < 32768) → (frames' : List ℕ) → frames' ≡ set frames (n - 1) (get_or frames (n - 1) 0 + (o + 1) * 16384) → (b : ℕ) → n ≤ b
-      → Steps lim terms runs terms runs frames' b (turn_left o (pool_of terms runs, words_in frames n)) (S.Top n)
+      → Steps lim terms runs terms runs frames' b (turn_left o (pool_of terms runs, words_in frames n)) (Some n)
   unfolding turn_left WordsBelow
   turn-steps (h, k, l) frames' q b m =
       let e : n - 1 + 1 ≡ n = omega arith in
@@ -123,7 +121,7 @@ module _ {lim : Limits} {terms runs frames : List ℕ} {n : ℕ} (Z : Standing l
 
 -- ---- what is open
 pub open-steps : {lim : Limits} {terms runs frames : List ℕ} {n : ℕ} → Standing lim terms runs frames n → n < length frames → (x : ℕ) → WordsBelow (count_in terms) (word_of x ∷ []) → (frames' : List ℕ) → frames' ≡ set frames n x
-    → Steps lim terms runs terms runs frames' (n + 1) (whole (pool_of terms runs, word_of x ∷ words_in frames n)) (S.Top (n + 1))
+    → Steps lim terms runs terms runs frames' (n + 1) (whole (pool_of terms runs, word_of x ∷ words_in frames n)) (Some (n + 1))
 unfolding WordsBelow
 open-steps {lim} {terms} {runs} {frames} {n} Z h x d frames' q =
     steps-words Z frames' (n + 1) (n + 1) (word_of x ∷ words_in frames n) (ap (λ (f : List ℕ). words_in f (n + 1)) q ∙ words-push frames n x h) (d.0, Z.below) (omega (arith, ap length q, length-set frames n x)) (omega arith)
@@ -156,7 +154,7 @@ literal-small t v o e = let h : o ≤ 63 = leb-true o 63 ((both_true (leb v 4294
 
 -- a list's operation, a bracket, a marked place
 pub list_steps : {lim : Limits} {terms runs frames : List ℕ} {n : ℕ} → Standing lim terms runs frames n → n < length frames → (x : ℕ) → x < 64 → (frames' : List ℕ) → frames' ≡ set frames n x
-    → Steps lim terms runs terms runs frames' (n + 1) (whole (pool_of terms runs, list_head x ∷ words_in frames n)) (S.Top (n + 1))
+    → Steps lim terms runs terms runs frames' (n + 1) (whole (pool_of terms runs, list_head x ∷ words_in frames n)) (Some (n + 1))
 unfolding WordsBelow
 list_steps {lim} {terms} {runs} {frames} {n} Z h x k frames' q =
     let e : word_of x ≡ list_head x = rw (lt-leb 32768 x (omega arith), lt-leb 16384 x (omega arith), lt-ltb x 64 k) refl in

@@ -14,16 +14,11 @@ ghost use Rattle.card_cut.specs.Cutting.{mark_of};
 ghost use Rattle.card_terms.specs.Words.{stuck, intern_on, reduce_top, close_on, step_on, run_on, words_in, enter_text};
 ghost use Rattle.card_terms.specs.Reading.{HeadFormed, head_node, TermIn, Enters, Items, Placed, Standing, Known, Topped, LeftBelow, reduced_once, Closes, Heads, Waits, Steps, Ends, Reads};
 
-use card_cut::{Cut, Mark};
+use card_cut::Mark;
 use query::Limits;
 
 // A word of the stack: below 16,384 what is open, by its head number (a list by its operation, 128 a marked place, 64 a bracket); a term as a run of 1; a left child as a run of 2 and its operation.
-// how high the stack is; or refusal 13
-#[derive(Clone, Copy)]
-enum Stood {
-    Top(usize),
-    Full,
-}
+// What enters terms answers how high the stack is afterwards; None: refusal 13.
 
 // ---- a term entered, and put on the stack
 // the term with head h over the first n runs of list, joined in place
@@ -43,17 +38,13 @@ fn enter_items(
 }
 
 // a term put on the stack
-fn place(frames: &mut [u64], to: usize, r: Option<usize>) -> Stood
+fn place(frames: &mut [u64], to: usize, r: Option<usize>) -> Option<usize>
     requires { (to < length frames.old) × TermIn 16384 r }
     ensures { Placed frames.old to r frames.new result }
 {
-    match r {
-        Some(a) => {
-            stores::put_u64(frames, to, 16384 + numbers::long_size(a));
-            Stood::Top(to + 1)
-        }
-        None => Stood::Full,
-    }
+    let a = r?;
+    stores::put_u64(frames, to, 16384 + numbers::long_size(a));
+    Some(to + 1)
 }
 
 // the term with head h over the runs of frames from one place to the top, put in their place or below them
@@ -66,7 +57,7 @@ fn intern_items(
     h: u32,
     terms: &mut [u32],
     runs: &mut [u64],
-) -> Stood
+) -> Option<usize>
     requires { Standing (limits_of lim) terms.old runs.old frames.old to × HeadFormed h × (to ≤ from) × (from ≤ top) × (to < top) × (top ≤ length frames.old) × (top < 2 ^ 48) × Items (count_in terms.old) (part frames.old from (top - from)) }
     ensures { Steps (limits_of lim) terms.old runs.old terms.new runs.new frames.new (to + 1) (intern_on (limits_of lim) (pool_of terms.old runs.old) (head_node h (map unpack (part frames.old from (top - from)))) (words_in frames.old to)) result }
 {
@@ -83,7 +74,7 @@ fn intern_literal(
     o: u8,
     terms: &mut [u32],
     runs: &mut [u64],
-) -> Stood
+) -> Option<usize>
     requires { Standing (limits_of lim) terms.old runs.old frames.old top × (top < length frames.old) × (o < 64) }
     ensures { Steps (limits_of lim) terms.old runs.old terms.new runs.new frames.new (top + 1) (intern_on (limits_of lim) (pool_of terms.old runs.old) (lit_node o v) (words_in frames.old top)) result }
 {
@@ -118,7 +109,7 @@ fn reduce_once(
     n: usize,
     terms: &mut [u32],
     runs: &mut [u64],
-) -> Stood
+) -> Option<usize>
     requires { Standing (limits_of lim) terms.old runs.old frames.old n × LeftBelow frames.old n × (n < 2 ^ 48) }
     ensures { Steps (limits_of lim) terms.old runs.old terms.new runs.new frames.new (n - 2 + 1) (reduced_once (limits_of lim) (pool_of terms.old runs.old) frames.old n) result }
 {
@@ -137,23 +128,15 @@ fn reduce(
     m: usize,
     terms: &mut [u32],
     runs: &mut [u64],
-) -> Stood
+) -> Option<usize>
     requires { Standing (limits_of lim) terms.old runs.old frames.old top × Known table.now (words_in frames.old top) × Topped (words_in frames.old top) × (top < 2 ^ 48) }
     ensures { Steps (limits_of lim) terms.old runs.old terms.new runs.new frames.new top (reduce_top (limits_of lim) table.now m (pool_of terms.old runs.old) (words_in frames.old top)) result }
 {
     let mut n = top;
     while waits(table, frames, n, m) {
-        let r = reduce_once(lim, frames, n, terms, runs);
-        match r {
-            Stood::Top(k) => {
-                n = k;
-            }
-            Stood::Full => {
-                return Stood::Full;
-            }
-        }
+        n = reduce_once(lim, frames, n, terms, runs)?;
     }
-    Stood::Top(n)
+    Some(n)
 }
 
 // ---- the marks
@@ -170,7 +153,13 @@ fn first_item(frames: &[u64], top: usize) -> usize
 }
 
 // the list or marked place on top as a term
-fn close(lim: Limits, frames: &mut [u64], top: usize, terms: &mut [u32], runs: &mut [u64]) -> Stood
+fn close(
+    lim: Limits,
+    frames: &mut [u64],
+    top: usize,
+    terms: &mut [u32],
+    runs: &mut [u64],
+) -> Option<usize>
     requires { Standing (limits_of lim) terms.old runs.old frames.old top × Closes (words_in frames.old top) × (top < 2 ^ 48) }
     ensures { Steps (limits_of lim) terms.old runs.old terms.new runs.new frames.new top (close_on (limits_of lim) (pool_of terms.old runs.old) (words_in frames.old top) []) result }
 {
@@ -187,15 +176,12 @@ fn close_last(
     top: usize,
     terms: &mut [u32],
     runs: &mut [u64],
-) -> Stood
+) -> Option<usize>
     requires { Standing (limits_of lim) terms.old runs.old frames.old top × Known table.now (words_in frames.old top) × (top < 2 ^ 48) × (step_on (limits_of lim) table.now (pool_of terms.old runs.old, words_in frames.old top) card.close ≢ stuck) }
     ensures { Steps (limits_of lim) terms.old runs.old terms.new runs.new frames.new top (step_on (limits_of lim) table.now (pool_of terms.old runs.old, words_in frames.old top) card.close) result }
 {
-    let r = reduce(lim, table, frames, top, 0, terms, runs);
-    match r {
-        Stood::Top(n) => close(lim, frames, n, terms, runs),
-        Stood::Full => Stood::Full,
-    }
+    let n = reduce(lim, table, frames, top, 0, terms, runs)?;
+    close(lim, frames, n, terms, runs)
 }
 
 // the bracket below the term on top goes
@@ -215,18 +201,13 @@ fn shut(
     top: usize,
     terms: &mut [u32],
     runs: &mut [u64],
-) -> Stood
+) -> Option<usize>
     requires { Standing (limits_of lim) terms.old runs.old frames.old top × Known table.now (words_in frames.old top) × (top < 2 ^ 48) × (step_on (limits_of lim) table.now (pool_of terms.old runs.old, words_in frames.old top) card.shuts ≢ stuck) }
     ensures { Steps (limits_of lim) terms.old runs.old terms.new runs.new frames.new top (step_on (limits_of lim) table.now (pool_of terms.old runs.old, words_in frames.old top) card.shuts) result }
 {
-    let r = reduce(lim, table, frames, top, 0, terms, runs);
-    match r {
-        Stood::Top(n) => {
-            drop_bracket(frames, n);
-            Stood::Top(n - 1)
-        }
-        Stood::Full => Stood::Full,
-    }
+    let n = reduce(lim, table, frames, top, 0, terms, runs)?;
+    drop_bracket(frames, n);
+    Some(n - 1)
 }
 
 // the term on top is the left child of operation o
@@ -247,28 +228,23 @@ fn between(
     o: usize,
     terms: &mut [u32],
     runs: &mut [u64],
-) -> Stood
+) -> Option<usize>
     requires { Standing (limits_of lim) terms.old runs.old frames.old top × Known table.now (words_in frames.old top) × (top < 2 ^ 48) × (proper table.now o ≡ true) × (step_on (limits_of lim) table.now (pool_of terms.old runs.old, words_in frames.old top) (card.between o) ≢ stuck) }
     ensures { Steps (limits_of lim) terms.old runs.old terms.new runs.new frames.new top (step_on (limits_of lim) table.now (pool_of terms.old runs.old, words_in frames.old top) (card.between o)) result }
 {
     let m = signs::left_level(table, signs::precedence(table, o));
-    let r = reduce(lim, table, frames, top, m, terms, runs);
-    match r {
-        Stood::Top(n) => {
-            turn_left(frames, n, o);
-            Stood::Top(n)
-        }
-        Stood::Full => Stood::Full,
-    }
+    let n = reduce(lim, table, frames, top, m, terms, runs)?;
+    turn_left(frames, n, o);
+    Some(n)
 }
 
 // what is open, on top
-fn put_open(frames: &mut [u64], top: usize, x: u64) -> Stood
+fn put_open(frames: &mut [u64], top: usize, x: u64) -> Option<usize>
     requires { top < length frames.old }
-    ensures { (frames.new ≡ set frames.old top x) × (result ≡ Stood.Top (top + 1)) }
+    ensures { (frames.new ≡ set frames.old top x) × (result ≡ Some (top + 1)) }
 {
     stores::put_u64(frames, top, x);
-    Stood::Top(top + 1)
+    Some(top + 1)
 }
 
 // one mark
@@ -280,7 +256,7 @@ fn step(
     mark: Mark,
     terms: &mut [u32],
     runs: &mut [u64],
-) -> Stood
+) -> Option<usize>
     requires { Standing (limits_of lim) terms.old runs.old frames.old top × Known table.now (words_in frames.old top) × (top < length frames.old) × (top < 2 ^ 48) × (proper_mark table.now (mark_of mark) ≡ true) × (step_on (limits_of lim) table.now (pool_of terms.old runs.old, words_in frames.old top) (mark_of mark) ≢ stuck) }
     ensures { Steps (limits_of lim) terms.old runs.old terms.new runs.new frames.new (top + 1) (step_on (limits_of lim) table.now (pool_of terms.old runs.old, words_in frames.old top) (mark_of mark)) result }
 {
@@ -311,11 +287,8 @@ fn last(
     requires { Standing (limits_of lim) terms.old runs.old frames.old top × Known table.now (words_in frames.old top) × (top < 2 ^ 48) × (run_on (limits_of lim) table.now (pool_of terms.old runs.old, words_in frames.old top) [] ≢ stuck) }
     ensures { Ends terms.old runs.old terms.new runs.new (run_on (limits_of lim) table.now (pool_of terms.old runs.old, words_in frames.old top) []) result }
 {
-    let r = reduce(lim, table, frames, top, 0, terms, runs);
-    match r {
-        Stood::Top(_) => Some(numbers::size_u64(frames[0] - 16384)),
-        Stood::Full => None,
-    }
+    reduce(lim, table, frames, top, 0, terms, runs)?;
+    Some(numbers::size_u64(frames[0] - 16384))
 }
 
 // the text's marks from the left
@@ -334,24 +307,9 @@ fn read_terms(
     let mut at = 0;
     let mut top = 0;
     while at < text.len() {
-        let c = card_cut::cut_mark(table, binds, text, at);
-        match c {
-            Cut::Mark(m, e) => {
-                let r = step(lim, table, frames, top, m, terms, runs);
-                match r {
-                    Stood::Top(n) => {
-                        top = n;
-                        at = e;
-                    }
-                    Stood::Full => {
-                        return None;
-                    }
-                }
-            }
-            Cut::Nothing => {
-                return None;
-            }
-        }
+        let (m, e) = card_cut::cut_mark(table, binds, text, at)?;
+        top = step(lim, table, frames, top, m, terms, runs)?;
+        at = e;
     }
     last(lim, table, frames, top, terms, runs)
 }

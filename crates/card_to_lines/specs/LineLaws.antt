@@ -1,5 +1,5 @@
 -- What the parts of `lines_of_card` give together.
-use Rattle.std.specs.Prelude.{◌≡◌, Bool, true, false, not, List, [], ◌++◌, ℕ, ◌*◌, ◌≤◌, ◌<◌, ltb, leb, eqb, length, take, drop}
+use Rattle.std.specs.Prelude.{Result, Ok, Err, ◌≡◌, Bool, true, false, not, List, [], ◌++◌, ℕ, ◌*◌, ◌≤◌, ◌<◌, ltb, leb, eqb, length, take, drop}
 use Rattle.std.proofs.Math.Path.{refl, sym, ap}
 use Rattle.std.proofs.Common.{◌∙◌, inl, inr, arith, length-append, ltb-true}
 use Rattle.std.proofs.Math.Seq.{take-append_seam}
@@ -24,8 +24,8 @@ use Rattle.listing.specs.declared.Written.{Written}
 use Rattle.listing.specs.declared.Written.TheVariants as W
 use Rattle.interning.specs.Interning.{pool_after}
 use Rattle.card_reader.specs.CardReading.{read_of, CardRead}
-use Rattle.card_reader.specs.declared.Read.{Read}
-use Rattle.card_reader.specs.declared.Read.TheVariants as R
+use Rattle.card_reader.specs.declared.Unread.{Unread}
+use Rattle.card_reader.specs.declared.Unread.TheVariants as U
 use Rattle.card_contract.specs.Calls.{fit_of, fits_text, read_call, Answers, Reads, Cleared}
 use Rattle.card_contract.specs.declared.Answer.{Answer}
 use Rattle.card_contract.specs.declared.Answer.TheVariants.{Text, Refused}
@@ -75,7 +75,7 @@ rooms lim terms runs e R =
     let r : Rooms lim terms runs = rw e (record { few = omega arith; ends = omega arith; long = R.room.terms; roomy = R.room.runs }) in
     (emptied-holds terms runs h, rooms_same (emptied-length terms runs h) refl r)
 
-module _ (lim : bytes.Limits) (is : lim ≡ document_limits) (t s terms runs terms' runs' : List ℕ) (x : Read) (A : CardRead lim t s (emptied terms) runs terms' runs' x) where
+module _ (lim : bytes.Limits) (is : lim ≡ document_limits) (t s terms runs terms' runs' : List ℕ) (x : Result ℕ Unread) (A : CardRead lim t s (emptied terms) runs terms' runs' x) where
   read_is : x ≡ read_of (read_card document_limits t [] s)
   read_is = A.answer ∙ rw (emptied-pool terms runs, is) refl
 
@@ -86,37 +86,37 @@ module _ (lim : bytes.Limits) (is : lim ≡ document_limits) (t s terms runs ter
   unfolding lines_of_card output_after
   refused-text k e out r f = rw f (record { answer = rw e refl; output = rw e refl; inside = tt })
 
-  term-apart : {a : ℕ} → R.Term a ≡ R.NoFormula → ⊥
+  term-apart : {a : ℕ} → Ok a ≡ Err U.NoFormula → ⊥
   term-apart e = let z : ◌≡◌ {A = ℕ} 0 1 = cc in omega arith
 
-  term-full : {a : ℕ} → R.Term a ≡ R.Full → ⊥
+  term-full : {a : ℕ} → Ok a ≡ Err U.Full → ⊥
   term-full e = let z : ◌≡◌ {A = ℕ} 0 1 = cc in omega arith
 
-  none-full : R.NoFormula ≡ R.Full → ⊥
+  none-full : ◌≡◌ {A = Result ℕ Unread} (Err U.NoFormula) (Err U.Full) → ⊥
   none-full e = let z : ◌≡◌ {A = ℕ} 0 1 = cc in omega arith
 
-  pub text-none : x ≡ R.NoFormula → (out : List ℕ) (r : Answer) → r ≡ Refused 17 → Answers (lines_of_card document_limits t s (length out)) out out r
+  pub text-none : x ≡ Err U.NoFormula → (out : List ℕ) (r : Answer) → r ≡ Refused 17 → Answers (lines_of_card document_limits t s (length out)) out out r
   text-none e = refused-text 17 (go (read_card document_limits t [] s) refl)
     where
       go : (m : Res Interned) → read_card document_limits t [] s ≡ m → read_card document_limits t [] s ≡ refused 17
       go (ok y) q = absurd (term-apart (sym (ap read_of q) ∙ sym read_is ∙ e))
       go (refused n) q = elim (read_only document_limits t [] s n q) [ inl z ↦ q ∙ ap refused z | inr z ↦ absurd (none-full (sym e ∙ read_is ∙ ap read_of (q ∙ ap refused z))) ]
 
-  pub text-full : x ≡ R.Full → (out : List ℕ) (r : Answer) → r ≡ Refused 13 → Answers (lines_of_card document_limits t s (length out)) out out r
+  pub text-full : x ≡ Err U.Full → (out : List ℕ) (r : Answer) → r ≡ Refused 13 → Answers (lines_of_card document_limits t s (length out)) out out r
   text-full e = refused-text 13 (go (read_card document_limits t [] s) refl)
     where
       go : (m : Res Interned) → read_card document_limits t [] s ≡ m → read_card document_limits t [] s ≡ refused 13
       go (ok y) q = absurd (term-full (sym (ap read_of q) ∙ sym read_is ∙ e))
       go (refused n) q = elim (read_only document_limits t [] s n q) [ inl z ↦ absurd (none-full (sym (ap read_of (q ∙ ap refused z)) ∙ sym read_is ∙ e)) | inr z ↦ q ∙ ap refused z ]
 
-  module _ (a : ℕ) (e : x ≡ R.Term a) where
+  module _ (a : ℕ) (e : x ≡ Ok a) where
     read : read_card document_limits t [] s ≡ ok (interned (pool_of terms' runs') a)
     read = go (read_card document_limits t [] s) refl
       where
-        term-inj : {b c : ℕ} → R.Term b ≡ R.Term c → b ≡ c
+        term-inj : {b c : ℕ} → ◌≡◌ {A = Result ℕ Unread} (Ok b) (Ok c) → b ≡ c
         term-inj e = cc
 
-        refused-term : (n : ℕ) (b : Bool) → pick b R.NoFormula R.Full ≡ R.Term a → ⊥
+        refused-term : (n : ℕ) (b : Bool) → pick b (Err U.NoFormula) (Err U.Full) ≡ Ok a → ⊥
         refused-term n true z = term-apart (sym z)
         refused-term n false z = term-full (sym z)
 

@@ -12,7 +12,7 @@ ghost use Rattle.card_to_lines.specs.LineLaws.{answer_as, listed_term, fit_text,
 
 use card_buffers::{clear_all, short};
 use card_contract::Answer;
-use card_reader::Read;
+use card_reader::Unread;
 use listing::Written;
 use spec::Caller;
 
@@ -58,11 +58,10 @@ fn lines_of(
     sign_judge::judge(table, &mut binds);
     terms::empty(terms);
     let lim = query::limits_for(Caller::Desk);
-    let x = card_reader::read_card(lim, table, &binds, text, frames, terms, runs);
-    match x {
-        Read::Term(a) => list_term(terms, runs, marks, out, a),
-        Read::NoFormula => refuse(17),
-        Read::Full => refuse(13),
+    match card_reader::read_card(lim, table, &binds, text, frames, terms, runs) {
+        Ok(a) => list_term(terms, runs, marks, out, a),
+        Err(Unread::NoFormula) => refuse(17),
+        Err(Unread::Full) => refuse(13),
     }
 }
 

@@ -1,11 +1,9 @@
 -- What is left of a room after so many bytes.
-use Rattle.std.specs.Prelude.{Bool, ℕ, ◌+◌, ◌*◌, ◌-◌, leb}
+use Rattle.std.specs.Prelude.{Option, Some, None, Bool, ℕ, ◌+◌, ◌*◌, ◌-◌, leb}
 use Rattle.spec.specs.Bytes.{pick}
-use Rattle.card_widths.specs.declared.Room.{Room}
-use Rattle.card_widths.specs.declared.Room.TheVariants as R
 
-abbrev pub room_after : ℕ → ℕ → Room
-room_after room n = pick (leb n room) (R.Left (room - n)) R.Over
+abbrev pub room_after : ℕ → ℕ → Option ℕ
+room_after room n = pick (leb n room) (Some (room - n)) None
 
 -- what a run of n children of w bytes has beside the first child, for a gap of g bytes
 abbrev pub run_width : Bool → ℕ → ℕ → ℕ → ℕ

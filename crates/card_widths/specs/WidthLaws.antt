@@ -1,5 +1,5 @@
 -- The widths of a term's text, piece by piece.
-use Rattle.std.specs.Prelude.{◌≡◌, Bool, true, false, ◌≢◌, List, [], ◌∷◌, ◌++◌, ℕ, zero, suc, ◌+◌, ◌*◌, ◌-◌, ◌/◌, ◌%◌, ◌≤◌, ◌<◌, eqb, length, get_or}
+use Rattle.std.specs.Prelude.{Option, Some, None, ◌≡◌, Bool, true, false, ◌≢◌, List, [], ◌∷◌, ◌++◌, ℕ, zero, suc, ◌+◌, ◌*◌, ◌-◌, ◌/◌, ◌%◌, ◌≤◌, ◌<◌, eqb, length, get_or}
 use Rattle.std.proofs.Math.Path.{refl, sym, ap}
 use Rattle.std.proofs.Common.{◌∙◌, le_refl, arith, eq-eqb, ne_eqb}
 use Rattle.std.proofs.Math.Nat.{sub-zero}
@@ -11,8 +11,6 @@ use Rattle.terms.specs.Buffers.{part, pool_of}
 use Rattle.terms.specs.PartLaws.{part-cons, part-over}
 use Rattle.card_forms.specs.declared.Infix.{Infix}
 use Rattle.card_forms.specs.Forms.{card_text, literal_text, open_text, shut_text, sign_text, IsBetween, opening_text, gap_text, closing_text, copies, series_text, IsSeries}
-use Rattle.card_widths.specs.declared.Room.{Room}
-use Rattle.card_widths.specs.declared.Room.TheVariants as R
 use Rattle.card_widths.specs.Rooms.{room_after, run_width}
 use Rattle.card_widths.specs.RoomLaws.{run-width, room-left, room-then, room_out, left-says}
 
@@ -90,11 +88,11 @@ pub charged-start : (t terms runs : List ℕ) (h from to room : ℕ) → from �
 charged-start t terms runs h from to room l = record { begun = le_refl from; until = l; rest = refl }
 
 module _ (t terms runs : List ℕ) (h from to room₀ : ℕ) {room i : ℕ} (I : Charged t terms runs h from to room₀ room i) where
-  pub charged-end : to ≤ i → R.Left room ≡ room_after room₀ (rest_width t terms runs h from to from)
+  pub charged-end : to ≤ i → Some room ≡ room_after room₀ (rest_width t terms runs h from to from)
   unfolding series_text
   charged-end l =
       let e : rest_width t terms runs h from to i ≡ 0 = rw (part-over runs i to l) refl in
-      sym (I.rest ∙ ap (room_after room) e ∙ room-left room 0 (omega arith) ∙ ap R.Left (sub-zero room))
+      sym (I.rest ∙ ap (room_after room) e ∙ room-left room 0 (omega arith) ∙ ap Some (sub-zero room))
 
   module _ (l : i < to) (k : 1 ≤ get_or runs i 0 / 16384) {c : ℕ} (z : c ≡ get_or runs i 0 % 16384) where
     rest-turn : rest_width t terms runs h from to i
@@ -103,29 +101,29 @@ module _ (t terms runs : List ℕ) (h from to room₀ : ℕ) {room i : ℕ} (I :
         let e : eqb (i + 1) from ≡ false = ne_eqb (i + 1) from (λ q. absurd (omega (arith, I.begun))) in
         rw (part-cons runs i to l, e, z) (run-text (eqb i from) (gap_text h) (card_text t (pool_of terms runs) 0) (get_or runs i 0) (part runs (i + 1) (to - (i + 1))) k)
 
-    module _ {r : Room} (e : r ≡ room_after room (length (card_text t (pool_of terms runs) 0 c))) where
-      pub child-over : r ≡ R.Over → R.Over ≡ room_after room₀ (rest_width t terms runs h from to from)
+    module _ {r : Option ℕ} (e : r ≡ room_after room (length (card_text t (pool_of terms runs) 0 c))) where
+      pub child-over : r ≡ None → None ≡ room_after room₀ (rest_width t terms runs h from to from)
       child-over f = room_out room (length (card_text t (pool_of terms runs) 0 c)) e _ f ∙ ap (room_after room) (sym rest-turn) ∙ sym I.rest
 
-      module _ {b : ℕ} (f : r ≡ R.Left b) where
+      module _ {b : ℕ} (f : r ≡ Some b) where
         pub child-width : (b ≤ room) × (room - b ≡ length (card_text t (pool_of terms runs) 0 c))
         child-width = let x : (length (card_text t (pool_of terms runs) 0 c) ≤ room) × (b ≡ room - length (card_text t (pool_of terms runs) 0 c)) = left-says e f in omega arith
 
         after-child : (k : ℕ) → room_after room (length (card_text t (pool_of terms runs) 0 c) + k) ≡ room_after b k
         after-child k = room-then room (length (card_text t (pool_of terms runs) 0 c)) e k f
 
-        module _ {n w : ℕ} (x : n ≡ get_or runs i 0 / 16384) (y : w ≡ room - b) {s : Room} (g : s ≡ room_after b (run_width (eqb i from) (length (gap_text h)) w n)) where
+        module _ {n w : ℕ} (x : n ≡ get_or runs i 0 / 16384) (y : w ≡ room - b) {s : Option ℕ} (g : s ≡ room_after b (run_width (eqb i from) (length (gap_text h)) w n)) where
           rest-is : room_after room₀ (rest_width t terms runs h from to from) ≡ room_after b (run_width (eqb i from) (length (gap_text h)) w n + rest_width t terms runs h from to (i + 1))
           rest-is = I.rest ∙ ap (room_after room) rest-turn ∙ after-child _ ∙ rw (x, y ∙ child-width.1) refl
 
-          pub run-over : s ≡ R.Over → R.Over ≡ room_after room₀ (rest_width t terms runs h from to from)
+          pub run-over : s ≡ None → None ≡ room_after room₀ (rest_width t terms runs h from to from)
           run-over u = room_out b (run_width (eqb i from) (length (gap_text h)) w n) g (rest_width t terms runs h from to (i + 1)) u ∙ sym rest-is
 
-          pub charged-turn : {d : ℕ} → s ≡ R.Left d → Charged t terms runs h from to room₀ d (i + 1)
+          pub charged-turn : {d : ℕ} → s ≡ Some d → Charged t terms runs h from to room₀ d (i + 1)
           charged-turn u = record { begun = omega (arith, I.begun); until = omega arith; rest = rest-is ∙ room-then b (run_width (eqb i from) (length (gap_text h)) w n) g (rest_width t terms runs h from to (i + 1)) u }
 
 -- ---- the whole
-module _ (t : List ℕ) (p : Pool) (m a : ℕ) (x : Infix) (B : IsBetween t p m a x) (room : ℕ) {w : ℕ} (y : w ≡ length (open_text x.bracketed) + length (sign_text t x.operation) + length (shut_text x.bracketed)) {r : Room} (e : r ≡ room_after room w) where
+module _ (t : List ℕ) (p : Pool) (m a : ℕ) (x : Infix) (B : IsBetween t p m a x) (room : ℕ) {w : ℕ} (y : w ≡ length (open_text x.bracketed) + length (sign_text t x.operation) + length (shut_text x.bracketed)) {r : Option ℕ} (e : r ≡ room_after room w) where
   abbrev left_width : ℕ
   left_width = length (card_text t p x.left.level x.left.term)
 
@@ -135,25 +133,25 @@ module _ (t : List ℕ) (p : Pool) (m a : ℕ) (x : Infix) (B : IsBetween t p m 
   whole_is : length (card_text t p m a) ≡ w + (left_width + right_width)
   whole_is = between-width t p m a x B ∙ rw y refl
 
-  pub between-over : r ≡ R.Over → R.Over ≡ room_after room (length (card_text t p m a))
+  pub between-over : r ≡ None → None ≡ room_after room (length (card_text t p m a))
   between-over f = room_out room w e (left_width + right_width) f ∙ ap (room_after room) (sym whole_is)
 
-  module _ {b : ℕ} (f : r ≡ R.Left b) {s : Room} (g : s ≡ room_after b left_width) where
+  module _ {b : ℕ} (f : r ≡ Some b) {s : Option ℕ} (g : s ≡ room_after b left_width) where
     after-own : room_after room (length (card_text t p m a)) ≡ room_after b (left_width + right_width)
     after-own = ap (room_after room) whole_is ∙ room-then room w e (left_width + right_width) f
 
-    pub left_over : s ≡ R.Over → R.Over ≡ room_after room (length (card_text t p m a))
+    pub left_over : s ≡ None → None ≡ room_after room (length (card_text t p m a))
     left_over u = room_out b left_width g right_width u ∙ sym after-own
 
-    pub right-left : {c : ℕ} → s ≡ R.Left c → room_after c right_width ≡ room_after room (length (card_text t p m a))
+    pub right-left : {c : ℕ} → s ≡ Some c → room_after c right_width ≡ room_after room (length (card_text t p m a))
     right-left u = sym (after-own ∙ room-then b left_width g right_width u)
 
-module _ (t terms runs : List ℕ) (m a h from to : ℕ) (S : IsSeries t terms runs m a h from to) (room : ℕ) {w : ℕ} (y : w ≡ length (opening_text t h) + length (closing_text h)) {r : Room} (e : r ≡ room_after room w) where
+module _ (t terms runs : List ℕ) (m a h from to : ℕ) (S : IsSeries t terms runs m a h from to) (room : ℕ) {w : ℕ} (y : w ≡ length (opening_text t h) + length (closing_text h)) {r : Option ℕ} (e : r ≡ room_after room w) where
   series-is : length (card_text t (pool_of terms runs) m a) ≡ w + rest_width t terms runs h from to from
   series-is = series-width t terms runs m a h from to S ∙ rw (y, eq-eqb from from refl) refl
 
-  pub ends-over : r ≡ R.Over → R.Over ≡ room_after room (length (card_text t (pool_of terms runs) m a))
+  pub ends-over : r ≡ None → None ≡ room_after room (length (card_text t (pool_of terms runs) m a))
   ends-over f = room_out room w e (rest_width t terms runs h from to from) f ∙ ap (room_after room) (sym series-is)
 
-  pub after-ends : {b : ℕ} → r ≡ R.Left b → room_after b (rest_width t terms runs h from to from) ≡ room_after room (length (card_text t (pool_of terms runs) m a))
+  pub after-ends : {b : ℕ} → r ≡ Some b → room_after b (rest_width t terms runs h from to from) ≡ room_after room (length (card_text t (pool_of terms runs) m a))
   after-ends f = sym (ap (room_after room) series-is ∙ room-then room w e (rest_width t terms runs h from to from) f)

@@ -12,35 +12,19 @@ ghost use Rattle.card_widths.specs.Rooms.{room_after, run_width};
 use card_forms::{Form, form_of};
 use decimals::digits;
 
-// what is left of a room; or that the text is longer
-#[derive(Clone, Copy)]
-pub enum Room {
-    Left(usize),
-    Over,
-}
-
-// ---- taking from a room
-fn charge(room: usize, w: usize) -> Room
+// ---- taking from a room: what is left of it; None: the text is longer
+fn charge(room: usize, w: usize) -> Option<usize>
     ensures { result ≡ room_after room w }
 {
-    if w <= room {
-        return Room::Left(room - w);
-    }
-    Room::Over
+    room.checked_sub(w)
 }
 
 // w bytes n times
-fn charge_times(room: usize, w: usize, n: u64) -> Room
+fn charge_times(room: usize, w: usize, n: u64) -> Option<usize>
     ensures { result ≡ room_after room (w * n) }
 {
-    if n == 0 {
-        return Room::Left(room);
-    }
-    let k = numbers::size_u64(n);
-    if w <= room / k {
-        return Room::Left(room - w * k);
-    }
-    Room::Over
+    let all = w.checked_mul(numbers::size_u64(n))?;
+    charge(room, all)
 }
 
 // ---- the widths of what stands round children and between them
@@ -93,19 +77,23 @@ fn gaps(n: u64, first: bool) -> u64
 }
 
 // what a run of n children of w bytes has beside the first child
-fn charge_run(room: usize, w: usize, h: u32, n: u64, first: bool) -> Room
+fn charge_run(room: usize, w: usize, h: u32, n: u64, first: bool) -> Option<usize>
     requires { 1 ≤ n }
     ensures { result ≡ room_after room (run_width first (length (gap_text h)) w n) }
 {
-    let a = charge_times(room, gap_width(h), gaps(n, first));
-    match a {
-        Room::Left(b) => charge_times(b, w, n - 1),
-        Room::Over => Room::Over,
-    }
+    let b = charge_times(room, gap_width(h), gaps(n, first))?;
+    charge_times(b, w, n - 1)
 }
 
-// What is left of a room for the text of term a, where m is the surrounding precedence.
-pub fn measure(table: &[u8], terms: &[u32], runs: &[u64], a: usize, m: usize, room0: usize) -> Room
+// What is left of a room behind the text of term a, where m is the surrounding precedence; None: the text is longer.
+pub fn measure(
+    table: &[u8],
+    terms: &[u32],
+    runs: &[u64],
+    a: usize,
+    m: usize,
+    room0: usize,
+) -> Option<usize>
     requires { Holds terms.now runs.now × (a < count_in terms.now) × AllSigned table.now (pool_of terms.now runs.now) a }
     ensures { result ≡ room_after room0 (length (card_text table.now (pool_of terms.now runs.now) m a)) }
 {
@@ -113,34 +101,17 @@ pub fn measure(table: &[u8], terms: &[u32], runs: &[u64], a: usize, m: usize, ro
     match form {
         Form::Literal(v, o) => charge(room0, literal_width(v, o)),
         Form::Between(x) => {
-            let own = charge(room0, infix_width(table, x.operation, x.bracketed));
-            let Room::Left(b) = own else {
-                return Room::Over;
-            };
-            let left = measure(table, terms, runs, x.left.term, x.left.level, b);
-            let Room::Left(c) = left else {
-                return Room::Over;
-            };
+            let b = charge(room0, infix_width(table, x.operation, x.bracketed))?;
+            let c = measure(table, terms, runs, x.left.term, x.left.level, b)?;
             measure(table, terms, runs, x.right.term, x.right.level, c)
         }
         Form::Series(h, from, to) => {
-            let own = charge(room0, ends_width(table, h));
-            let Room::Left(rest) = own else {
-                return Room::Over;
-            };
-            let mut room = rest;
+            let mut room = charge(room0, ends_width(table, h))?;
             for i in from..to {
-                let child = measure(table, terms, runs, terms::child(runs[i]), 0, room);
-                let Room::Left(b) = child else {
-                    return Room::Over;
-                };
-                let more = charge_run(b, room - b, h, terms::times(runs[i]), i == from);
-                let Room::Left(c) = more else {
-                    return Room::Over;
-                };
-                room = c;
+                let b = measure(table, terms, runs, terms::child(runs[i]), 0, room)?;
+                room = charge_run(b, room - b, h, terms::times(runs[i]), i == from)?;
             }
-            Room::Left(room)
+            Some(room)
         }
     }
 }

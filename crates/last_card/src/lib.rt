@@ -10,16 +10,16 @@ ghost use Rattle.card_contract.specs.Calls.{Answers};
 ghost use Rattle.last_card.specs.LastLaws.{answer_as};
 
 use card_contract::Answer;
-use card_writer::Carded;
+use card_writer::Unwritten;
 
 // what was written, as the answer
-fn answer_of(w: Carded) -> Answer
+fn answer_of(w: Result<usize, Unwritten>) -> Answer
     ensures { result ≡ answer_as w }
 {
     match w {
-        Carded::Bytes(n) => Answer::Text(n),
-        Carded::Unsigned => Answer::Refused(18),
-        Carded::Full => Answer::Refused(14),
+        Ok(n) => Answer::Text(n),
+        Err(Unwritten::Unsigned) => Answer::Refused(18),
+        Err(Unwritten::Full) => Answer::Refused(14),
     }
 }
 

@@ -1,7 +1,7 @@
 -- Words and numbers at a place: the loops' turns and ends.
 use Rattle.std.proofs.Math.Path.{◌≡◌, refl}
 use Rattle.std.proofs.Common.{sym, ap, length-drop, drop-drop}
-use Rattle.std.specs.Prelude.{Bool, List, [], ◌∷◌, eqb, length, get_or}
+use Rattle.std.specs.Prelude.{Bool, Option, Some, None, List, [], ◌∷◌, eqb, length, get_or}
 use Rattle.std.proofs.Math.Bool.{true, false}
 use Prim.Native.Nat.{ℕ, suc, ◌+◌, ◌*◌, ◌-◌, ◌≤◌, ◌<◌, min}
 use Rattle.std.proofs.Math.Decide.{dec_lt}
@@ -16,9 +16,6 @@ use Rattle.decimals.specs.DecimalLaws.{decimal-length-one, decimal-length-more}
 use Rattle.formula.specs.Lexer.{digit, starts_with, lead}
 use Rattle.formula.specs.Lines.{cut_word, cut_number}
 use Rattle.text_cut.specs.Cutting.{CutsWord, CutsNumber}
-use Rattle.text_cut.specs.declared.Place.TheVariants as P
-use Rattle.text_cut.specs.declared.Number.TheVariants as N
-use Rattle.text_cut.specs.declared.Place.{Place}
 
 -- ---- a word byte by byte
 module _ (w s : List ℕ) (at i : ℕ) where
@@ -59,15 +56,15 @@ module _ (w s : List ℕ) (at : ℕ) where
   pub word_fits : true ≡ starts_with w (drop at s) → at ≤ length s → at + length w ≤ length s
   word_fits e h = omega (arith, starts-fits w (drop at s) (sym e), length-drop at s)
 
-  pub word-there : true ≡ starts_with w (drop at s) → at ≤ length s → CutsWord w s at (P.At (at + length w))
+  pub word-there : true ≡ starts_with w (drop at s) → at ≤ length s → CutsWord w s at (Some (at + length w))
   unfolding cut_word
   word-there e h = record { answer = rw (← e) (ap ok (sym (drop-drop (length w) at s))); behind = (refl, word_fits e h) }
 
-  pub word-missing : false ≡ starts_with w (drop at s) → CutsWord w s at P.Nothing
+  pub word-missing : false ≡ starts_with w (drop at s) → CutsWord w s at None
   unfolding cut_word
   word-missing e = record { answer = rw (← e) refl; behind = tt }
 
-pub word-as : {w v s : List ℕ} {at : ℕ} {r : Place} → w ≡ v → CutsWord w s at r → CutsWord v s at r
+pub word-as : {w v s : List ℕ} {at : ℕ} {r : Option ℕ} → w ≡ v → CutsWord w s at r → CutsWord v s at r
 word-as e W = rw (← e) W
 
 -- ---- a number digit by digit
@@ -109,7 +106,7 @@ decimal-some v = go (dec_lt v 10)
     go (no h) = omega (arith, decimal-length-more v (omega arith))
 
 module _ (most : ℕ) (s : List ℕ) (at v : ℕ) (e : v ≡ min (lead 0 (drop at s)) (most + 1)) where
-  pub number-over : most < v → CutsNumber most s at N.Nothing
+  pub number-over : most < v → CutsNumber most s at None
   unfolding cut_number
   number-over h = record { answer = rw (lt-leb (lead 0 (drop at s)) most (omega arith)) refl; behind = tt }
 
@@ -117,7 +114,7 @@ module _ (most : ℕ) (s : List ℕ) (at v : ℕ) (e : v ≡ min (lead 0 (drop a
     value : lead 0 (drop at s) ≡ v
     value = omega arith
 
-    pub number-missing : CutsWord (decimal v) s at P.Nothing → CutsNumber most s at N.Nothing
+    pub number-missing : CutsWord (decimal v) s at None → CutsNumber most s at None
     unfolding cut_number cut_word
     number-missing W = record { answer = go (starts_with (decimal v) (drop at s)) refl; behind = tt }
       where
@@ -125,7 +122,7 @@ module _ (most : ℕ) (s : List ℕ) (at v : ℕ) (e : v ≡ min (lead 0 (drop a
         go true p = absurd (let z : ◌≡◌ {A = ℕ} 0 1 = cc (rw p at W.answer) in omega arith)
         go false p = rw (value, le-leb v most h, p) refl
 
-    pub number-there : (r : ℕ) → CutsWord (decimal v) s at (P.At r) → CutsNumber most s at (N.Is v r)
+    pub number-there : (r : ℕ) → CutsWord (decimal v) s at (Some r) → CutsNumber most s at (Some (v, r))
     unfolding cut_number cut_word
     number-there r W = record { answer = go (starts_with (decimal v) (drop at s)) refl; behind = (omega (arith, W.behind.0, decimal-some v), W.behind.1, h) }
       where

@@ -6,20 +6,6 @@ ghost use Rattle.spec.specs.Bytes.{decimal};
 ghost use Rattle.formula.specs.Lexer.{starts_with, lead};
 ghost use Rattle.text_cut.specs.Cutting.{CutsWord, CutsNumber};
 
-// the place behind a word
-#[derive(Clone, Copy)]
-pub enum Place {
-    At(usize),
-    Nothing,
-}
-
-// a number, and the place behind it
-#[derive(Clone, Copy)]
-pub enum Number {
-    Is(usize, usize),
-    Nothing,
-}
-
 // the text at a place starts with a word
 pub fn starts_with(text: &[u8], at: usize, w: &[u8]) -> bool
     requires { at ≤ length text.now }
@@ -36,19 +22,19 @@ pub fn starts_with(text: &[u8], at: usize, w: &[u8]) -> bool
     true
 }
 
-// a word at a place
-pub fn cut_word(text: &[u8], at: usize, w: &[u8]) -> Place
+// the place behind a word at a place
+pub fn cut_word(text: &[u8], at: usize, w: &[u8]) -> Option<usize>
     requires { at ≤ length text.now }
     ensures { CutsWord w.now text.now at result }
 {
     if starts_with(text, at, w) {
-        return Place::At(at + w.len());
+        return Some(at + w.len());
     }
-    Place::Nothing
+    None
 }
 
-// the number v at a place, as the listing prints it
-pub fn cut_decimal(text: &[u8], at: usize, v: usize) -> Place
+// the place behind the number v at a place, as the listing prints it
+pub fn cut_decimal(text: &[u8], at: usize, v: usize) -> Option<usize>
     requires { at ≤ length text.now }
     ensures { CutsWord (decimal v) text.now at result }
 {
@@ -79,17 +65,15 @@ fn lead(text: &[u8], at: usize, most: usize) -> usize
     v
 }
 
-// a number at a place, at most `most`
-pub fn cut_number(text: &[u8], at: usize, most: usize) -> Number
+// a number at a place, at most `most`, and the place behind it
+pub fn cut_number(text: &[u8], at: usize, most: usize) -> Option<(usize, usize)>
     requires { (at ≤ length text.now) × (most < 2 ^ 48) }
     ensures { CutsNumber most text.now at result }
 {
     let v = lead(text, at, most);
     if most < v {
-        return Number::Nothing;
+        return None;
     }
-    match cut_decimal(text, at, v) {
-        Place::At(e) => Number::Is(v, e),
-        Place::Nothing => Number::Nothing,
-    }
+    let e = cut_decimal(text, at, v)?;
+    Some((v, e))
 }

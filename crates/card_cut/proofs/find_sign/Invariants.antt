@@ -7,6 +7,3 @@ use Rattle.card_cut.proofs.find_sign.Given as goal
 
 abbrev pub invariant-loop-o : goal.invariant-loop-o
 invariant-loop-o l = (l.o ≤ l.n) × (sign_at l.table l.last (drop l.at l.text) ≡ l.o + place (fits l.table l.last (drop l.at l.text)) (up_from l.o (l.n - l.o)))
-
-abbrev pub decreases-loop-o : goal.decreases-loop-o
-decreases-loop-o l = l.n - l.o

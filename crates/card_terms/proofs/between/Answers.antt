@@ -16,9 +16,9 @@ left_level-m-requires c =
     let e = c.precedence.ensures.0 in
     (omega (arith, v.some), omega (arith, v.most), v.long)
 
-pub reduce-r-requires : goal.reduce-r-requires
+pub reduce-requires : goal.reduce-requires
 unfolding step_on
-reduce-r-requires c =
+reduce-requires c =
     let a = c.args in
     (c.requires.0, c.requires.1, topped-of (limits_of a.lim) a.table.now (left_level a.table.now (prec_of a.table.now a.o)) (pool_of a.terms.now a.runs.now) (words_in a.frames.now a.top) (not_stuck _ _ c.requires.4), c.requires.2)
 
@@ -27,22 +27,22 @@ unfolding step_on
 turn_left-requires c =
     let a = c.args in
     let e : c.left_level-m.result ≡ left_level a.table.now (prec_of a.table.now a.o) = c.left_level-m.ensures ∙ ap (left_level a.table.now) c.precedence.ensures.0 in
-    let X = rw e at c.reduce-r.ensures in
-    let q = turn-some a.o _ _ _ (then-not X (turn_left a.o) _ c.in-Top.is c.requires.4) in
-    (q.0, (then-stands X (turn_left a.o) _ c.in-Top.is).inside, q.2, (level-of a.table.now a.o c.requires.3).small)
+    let X = rw e at c.reduce.ensures in
+    let q = turn-some a.o _ _ _ (then-not X (turn_left a.o) _ c.in_ok-n.was c.requires.4) in
+    (q.0, (then-stands X (turn_left a.o) _ c.in_ok-n.was).inside, q.2, (level-of a.table.now a.o c.requires.3).small)
 
-pub returns-in-Top : goal.returns-in-Top
+pub returns : goal.returns
 unfolding step_on
-returns-in-Top c =
+returns c =
     let a = c.args in
     let e : c.left_level-m.result ≡ left_level a.table.now (prec_of a.table.now a.o) = c.left_level-m.ensures ∙ ap (left_level a.table.now) c.precedence.ensures.0 in
-    let X = rw e at c.reduce-r.ensures in
-    let g = c.in-Top.is in
+    let X = rw e at c.reduce.ensures in
+    let g = c.in_ok-n.was in
     steps_then X (turn_left a.o) _ g (turn-steps (then-stands X (turn_left a.o) _ g) a.o (turn-some a.o _ _ _ (then-not X (turn_left a.o) _ g c.requires.4)) _ c.turn_left.ensures a.top (then-most X (turn_left a.o) _ g))
 
-pub returns-in-Full : goal.returns-in-Full
+pub returns-in_err-n : goal.returns-in_err-n
 unfolding step_on
-returns-in-Full c =
+returns-in_err-n c =
     let a = c.args in
     let e : c.left_level-m.result ≡ left_level a.table.now (prec_of a.table.now a.o) = c.left_level-m.ensures ∙ ap (left_level a.table.now) c.precedence.ensures.0 in
-    then-full (rw e at c.reduce-r.ensures) (turn_left a.o) c.in-Full.is a.top
+    rw c.from_residual.ensures (then-full (rw e at c.reduce.ensures) (turn_left a.o) c.in_err-n.was a.top)

@@ -7,9 +7,9 @@ use native.Mathlib.Omega.{arith}
 use mathlib.Core.List.{[]}
 use Rattle.card_terms.proofs.close_last.Goals as goal
 
-pub reduce-r-requires : goal.reduce-r-requires
+pub reduce-requires : goal.reduce-requires
 unfolding step_on
-reduce-r-requires c =
+reduce-requires c =
     let a = c.args in
     let w = words_in a.frames.now a.top in
     (c.requires.0, c.requires.1, topped-of (limits_of a.lim) a.table.now 0 (pool_of a.terms.now a.runs.now) w (not_stuck _ _ c.requires.3), c.requires.2)
@@ -18,20 +18,20 @@ pub close-requires : goal.close-requires
 unfolding step_on
 close-requires c =
     let a = c.args in
-    let X = c.reduce-r.ensures in
+    let X = c.reduce.ensures in
     let f : Stack → Reached Stack = λ r. close_on (limits_of a.lim) r.0 r.1 [] in
-    (then-stands X f _ c.in-Top.is, closes-of (limits_of a.lim) (pool_of c.reduce-r.new.terms c.reduce-r.new.runs) (words_in c.reduce-r.new.frames c.in-Top.n) [] (then-not X f _ c.in-Top.is c.requires.3), omega (arith, then-most X f _ c.in-Top.is, c.requires.2))
+    (then-stands X f _ c.in_ok-n.was, closes-of (limits_of a.lim) (pool_of c.reduce.new.terms c.reduce.new.runs) (words_in c.reduce.new.frames c.in_ok-n.n) [] (then-not X f _ c.in_ok-n.was c.requires.3), omega (arith, then-most X f _ c.in_ok-n.was, c.requires.2))
 
-pub returns-in-Top : goal.returns-in-Top
+pub returns : goal.returns
 unfolding step_on
-returns-in-Top c =
+returns c =
     let a = c.args in
-    let X = c.reduce-r.ensures in
+    let X = c.reduce.ensures in
     let f : Stack → Reached Stack = λ r. close_on (limits_of a.lim) r.0 r.1 [] in
-    steps_then X f _ c.in-Top.is (steps-most (then-most X f _ c.in-Top.is) c.close.ensures)
+    steps_then X f _ c.in_ok-n.was (steps-most (then-most X f _ c.in_ok-n.was) c.close.ensures)
 
-pub returns-in-Full : goal.returns-in-Full
+pub returns-in_err-n : goal.returns-in_err-n
 unfolding step_on
-returns-in-Full c =
+returns-in_err-n c =
     let a = c.args in
-    then-full c.reduce-r.ensures (λ (r : Stack). close_on (limits_of a.lim) r.0 r.1 []) c.in-Full.is a.top
+    rw c.from_residual.ensures (then-full c.reduce.ensures (λ (r : Stack). close_on (limits_of a.lim) r.0 r.1 []) c.in_err-n.was a.top)

@@ -1,8 +1,6 @@
 use Rattle.card_terms.specs.Words.{words_in}
 use Rattle.card_terms.specs.Reading.{WordsBelow}
-use Rattle.card_cut.specs.declared.Cut.TheVariants as C
 use Rattle.card_cut.specs.CutLaws.{mark-behind}
-use Rattle.card_cut.specs.Cutting.{Cuts}
 use Rattle.query.specs.Settings.{limits_of}
 use Rattle.card_terms.proofs.ReadLaws.{entering-start, entering-some, entering-proper, entering-free, entering-stop, entering-turn, entering-end, ending-free}
 use Prim.Native.Nat.{◌≤◌, ◌<◌}
@@ -16,47 +14,42 @@ loop-at-init c =
     let a = c.args in
     entering-start (limits_of a.lim) a.table.now a.text.now a.terms.now a.runs.now a.frames.now c.requires.0 (record { holds = c.requires.4; rooms = c.requires.5; inside = omega arith; below = tt })
 
-pub step-r-requires : goal.step-r-requires
-step-r-requires c =
+pub step-requires : goal.step-requires
+step-requires c =
     let a = c.args in
     let l = c.loop-at in
-    let X : Cuts a.table.now a.text.now l.at (C.Mark c.in-Mark.m c.in-Mark.e) = rw c.in-Mark.is at c.cut_mark-c.ensures in
     let h : l.at < length a.text.now = omega (arith, c.loop-at-test) in
-    (l.invariant.stands, l.invariant.known, omega (arith, h, l.invariant.low, l.invariant.long_frames, c.requires.2), omega (arith, h, l.invariant.low, c.requires.3), entering-proper (limits_of a.lim) a.table.now a.text.now a.terms.now a.runs.now a.frames.now l.terms l.runs l.frames l.at l.top l.invariant h c.in-Mark.m c.in-Mark.e X, entering-free (limits_of a.lim) a.table.now a.text.now a.terms.now a.runs.now a.frames.now l.terms l.runs l.frames l.at l.top l.invariant h c.in-Mark.m c.in-Mark.e X)
+    (l.invariant.stands, l.invariant.known, omega (arith, h, l.invariant.low, l.invariant.long_frames, c.requires.2), omega (arith, h, l.invariant.low, c.requires.3), entering-proper (limits_of a.lim) a.table.now a.text.now a.terms.now a.runs.now a.frames.now l.terms l.runs l.frames l.at l.top l.invariant h c.in_ok-m.m c.in_ok-m.e c.in_ok-m.ensures, entering-free (limits_of a.lim) a.table.now a.text.now a.terms.now a.runs.now a.frames.now l.terms l.runs l.frames l.at l.top l.invariant h c.in_ok-m.m c.in_ok-m.e c.in_ok-m.ensures)
 
 pub loop-at-smaller : goal.loop-at-smaller
 loop-at-smaller c =
     let a = c.args in
     let l = c.loop-at in
-    let X : Cuts a.table.now a.text.now l.at (C.Mark c.in-Mark.m c.in-Mark.e) = rw c.in-Mark.is at c.cut_mark-c.ensures in
     let h : l.at < length a.text.now = omega (arith, c.loop-at-test) in
-    let (x, y) = mark-behind a.table.now a.text.now l.at h c.in-Mark.m c.in-Mark.e X in
+    let (x, y) = mark-behind a.table.now a.text.now l.at h c.in_ok-m.m c.in_ok-m.e c.in_ok-m.ensures in
     omega (arith, h, x, y)
 
 pub loop-at-preserved : goal.loop-at-preserved
 loop-at-preserved c =
     let a = c.args in
     let l = c.loop-at in
-    let X : Cuts a.table.now a.text.now l.at (C.Mark c.in-Mark.m c.in-Mark.e) = rw c.in-Mark.is at c.cut_mark-c.ensures in
     let h : l.at < length a.text.now = omega (arith, c.loop-at-test) in
-    let i = c.step-r in
-    entering-turn (limits_of a.lim) a.table.now a.text.now a.terms.now a.runs.now a.frames.now l.terms l.runs l.frames l.at l.top l.invariant h c.in-Mark.m c.in-Mark.e X i.ensures _ c.in-Top.is i.auto.terms i.auto.runs i.auto.frames
+    let i = c.step in
+    entering-turn (limits_of a.lim) a.table.now a.text.now a.terms.now a.runs.now a.frames.now l.terms l.runs l.frames l.at l.top l.invariant h c.in_ok-m.m c.in_ok-m.e c.in_ok-m.ensures i.ensures _ c.in_ok-top.was i.auto.terms i.auto.runs i.auto.frames
 
-pub returns-in-Full : goal.returns-in-Full
-returns-in-Full c =
+pub returns-in_err-top : goal.returns-in_err-top
+returns-in_err-top c =
     let a = c.args in
     let l = c.loop-at in
-    let X : Cuts a.table.now a.text.now l.at (C.Mark c.in-Mark.m c.in-Mark.e) = rw c.in-Mark.is at c.cut_mark-c.ensures in
     let h : l.at < length a.text.now = omega (arith, c.loop-at-test) in
-    let i = c.step-r in
-    entering-stop (limits_of a.lim) a.table.now a.text.now a.terms.now a.runs.now a.frames.now l.terms l.runs l.frames l.at l.top l.invariant h c.in-Mark.m c.in-Mark.e X i.ensures c.in-Full.is
+    let i = c.step in
+    rw c.from_residual-in_err-top.ensures (entering-stop (limits_of a.lim) a.table.now a.text.now a.terms.now a.runs.now a.frames.now l.terms l.runs l.frames l.at l.top l.invariant h c.in_ok-m.m c.in_ok-m.e c.in_ok-m.ensures i.ensures c.in_err-top.was)
 
-pub returns-in-Nothing : goal.returns-in-Nothing
-returns-in-Nothing c =
+pub returns-in_err-m : goal.returns-in_err-m
+returns-in_err-m c =
     let a = c.args in
     let l = c.loop-at in
-    let X : Cuts a.table.now a.text.now l.at C.Nothing = rw c.in-Nothing.is at c.cut_mark-c.ensures in
-    absurd (entering-some (limits_of a.lim) a.table.now a.text.now a.terms.now a.runs.now a.frames.now l.terms l.runs l.frames l.at l.top l.invariant (omega (arith, c.loop-at-test)) X)
+    absurd (entering-some (limits_of a.lim) a.table.now a.text.now a.terms.now a.runs.now a.frames.now l.terms l.runs l.frames l.at l.top l.invariant (omega (arith, c.loop-at-test)) c.in_err-m.ensures)
 
 pub last-requires : goal.last-requires
 last-requires c =

@@ -1,4 +1,3 @@
-use Rattle.std.proofs.Common.{◌-◌}
 use Rattle.card_widths.specs.WidthLaws.{Charged}
 use Rattle.card_widths.proofs.+measure.Given as goal
 
@@ -7,6 +6,3 @@ decreases-measure l = l.a
 
 abbrev pub invariant-loop-i : goal.invariant-loop-i
 invariant-loop-i l = Charged l.table l.terms l.runs l.h l.from l.to l.initial.room l.room l.i
-
-abbrev pub decreases-loop-i : goal.decreases-loop-i
-decreases-loop-i l = l.to - l.i

@@ -15,8 +15,8 @@ returns-then-not-all_signed c =
     let v : (i : ℕ) → value_in a.terms.now i ≤ 4294967295 = λ i. omega (arith, c.shared_slice_known-2-1.given (VALUES + i * 4)) in
     writes-unsigned a.table.now a.terms.now a.runs.now a.root a.marks.now a.out.now _ c.all_signed.ensures.1 (card-signed a.table.now a.terms.now a.runs.now a.binds.now c.requires.3 c.requires.0 v a.root c.requires.1 c.all_signed.ensures.0) (ap not c.if-not-all_signed.true)
 
-pub measure-room-requires : goal.measure-room-requires
-measure-room-requires c =
+pub measure-requires : goal.measure-requires
+measure-requires c =
     let a = c.args in
     let v : (i : ℕ) → value_in a.terms.now i ≤ 4294967295 = λ i. omega (arith, c.shared_slice_known-2-1.given (VALUES + i * 4)) in
     (c.requires.0, c.requires.1, bound-signed a.table.now a.terms.now a.runs.now a.binds.now c.requires.3 c.requires.0 v a.root c.requires.1 (c.all_signed.ensures.0.0 (passed refl (ap not c.if-not-all_signed.false))))
@@ -25,16 +25,16 @@ pub write_term-requires : goal.write_term-requires
 write_term-requires c =
     let a = c.args in
     let v : (i : ℕ) → value_in a.terms.now i ≤ 4294967295 = λ i. omega (arith, c.shared_slice_known-2-1.given (VALUES + i * 4)) in
-    (c.requires.0, c.requires.1, bound-signed a.table.now a.terms.now a.runs.now a.binds.now c.requires.3 c.requires.0 v a.root c.requires.1 (c.all_signed.ensures.0.0 (passed refl (ap not c.if-not-all_signed.false))), room-is a.table.now a.terms.now a.runs.now a.root a.marks.now a.out.now _ c.all_signed.ensures.1 (card-signed a.table.now a.terms.now a.runs.now a.binds.now c.requires.3 c.requires.0 v a.root c.requires.1 c.all_signed.ensures.0) (ap not c.if-not-all_signed.false) c.measure-room.ensures c.in-Left.is)
+    (c.requires.0, c.requires.1, bound-signed a.table.now a.terms.now a.runs.now a.binds.now c.requires.3 c.requires.0 v a.root c.requires.1 (c.all_signed.ensures.0.0 (passed refl (ap not c.if-not-all_signed.false))), room-is a.table.now a.terms.now a.runs.now a.root a.marks.now a.out.now _ c.all_signed.ensures.1 (card-signed a.table.now a.terms.now a.runs.now a.binds.now c.requires.3 c.requires.0 v a.root c.requires.1 c.all_signed.ensures.0) (ap not c.if-not-all_signed.false) c.measure.ensures c.in-Some.is)
 
-pub returns-in-Left : goal.returns-in-Left
-returns-in-Left c =
+pub returns-in-Some : goal.returns-in-Some
+returns-in-Some c =
     let a = c.args in
     let v : (i : ℕ) → value_in a.terms.now i ≤ 4294967295 = λ i. omega (arith, c.shared_slice_known-2-1.given (VALUES + i * 4)) in
-    writes_bytes a.table.now a.terms.now a.runs.now a.root a.marks.now a.out.now _ c.all_signed.ensures.1 (card-signed a.table.now a.terms.now a.runs.now a.binds.now c.requires.3 c.requires.0 v a.root c.requires.1 c.all_signed.ensures.0) (ap not c.if-not-all_signed.false) c.measure-room.ensures c.in-Left.is c.write_term.ensures
+    writes_bytes a.table.now a.terms.now a.runs.now a.root a.marks.now a.out.now _ c.all_signed.ensures.1 (card-signed a.table.now a.terms.now a.runs.now a.binds.now c.requires.3 c.requires.0 v a.root c.requires.1 c.all_signed.ensures.0) (ap not c.if-not-all_signed.false) c.measure.ensures c.in-Some.is c.write_term.ensures
 
-pub returns-in-Over : goal.returns-in-Over
-returns-in-Over c =
+pub returns-in-None : goal.returns-in-None
+returns-in-None c =
     let a = c.args in
     let v : (i : ℕ) → value_in a.terms.now i ≤ 4294967295 = λ i. omega (arith, c.shared_slice_known-2-1.given (VALUES + i * 4)) in
-    writes-full a.table.now a.terms.now a.runs.now a.root a.marks.now a.out.now _ c.all_signed.ensures.1 (card-signed a.table.now a.terms.now a.runs.now a.binds.now c.requires.3 c.requires.0 v a.root c.requires.1 c.all_signed.ensures.0) (ap not c.if-not-all_signed.false) c.measure-room.ensures c.in-Over.is
+    writes-full a.table.now a.terms.now a.runs.now a.root a.marks.now a.out.now _ c.all_signed.ensures.1 (card-signed a.table.now a.terms.now a.runs.now a.binds.now c.requires.3 c.requires.0 v a.root c.requires.1 c.all_signed.ensures.0) (ap not c.if-not-all_signed.false) c.measure.ensures c.in-None.is

@@ -3,5 +3,5 @@ use Rattle.last_card.specs.LastLaws.{answer_as}
 use Rattle.last_card.proofs.answer_of.Goals as goal
 
 -- src/lib.rt:15:1
-pub returns-in-Bytes : goal.returns-in-Bytes
-returns-in-Bytes c = sym (ap answer_as c.in-Bytes.is)
+pub returns-in-Ok : goal.returns-in-Ok
+returns-in-Ok c = sym (ap answer_as c.in-Ok.is)
