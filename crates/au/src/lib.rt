@@ -1,9 +1,8 @@
 // The public merge: document 01's, which is the desk's; and for callers that lend plain buffers only.
 #![tactic(auto)]
 
-ghost use Rattle.std.specs.Prelude.{◌≡◌, length, replicate};
+ghost use Rattle.std.specs.Prelude.{◌≡◌, length};
 ghost use Rattle.spec.specs.declared.Caller.TheVariants.{Desk};
-ghost use Rattle.pair_search.specs.Records.{none};
 ghost use Rattle.contract.specs.Answers.{Cleared, Table};
 ghost use Rattle.contract.specs.Merges.{fit_of, fits, Merges};
 
@@ -46,13 +45,6 @@ pub fn merge(
     merge_query(s, q, table, graph, pairs, work, flow, terms, runs, out)
 }
 
-// An empty pair table.
-fn empty() -> [Pair; 256]
-    ensures { result ≡ replicate 256 none }
-{
-    [Pair { left: 0, right: 0 }; 256]
-}
-
 // The merge that a query asks for, with a pair table of its own.
 pub fn merge_plain(
     s: &[u8],
@@ -67,6 +59,6 @@ pub fn merge_plain(
 ) -> Answer
     ensures { let fit = fit_of 256 (length graph.old) (length pairs.old) (length work.old) (length flow.old) (length terms.old) (length runs.old) in Merges q.caller s.now q.left q.right q.budget fit out.old out.new result × Cleared fit graph.old graph.new pairs.old pairs.new work.old work.new flow.old flow.new terms.old terms.new runs.old runs.new }
 {
-    let mut table = empty();
+    let mut table = [Pair::NONE; 256];
     merge_query(s, q, &mut table, graph, pairs, work, flow, terms, runs, out)
 }

@@ -13,7 +13,6 @@ ghost use Rattle.cells.specs.Problem.{problem_at};
 
 use arrays::{mass_of, size_of};
 use cells::cell;
-use weights::larger;
 use wide::Wide;
 
 // V: the largest mass of the cells' pairs.
@@ -33,7 +32,7 @@ pub fn largest_mass(
     let mut v = 0u32;
     for k in 0..count {
         let p = cell(left, rows, right, cols, k);
-        v = larger(v, mass_of(graph, pairs, w, p.left, p.right));
+        v = v.max(mass_of(graph, pairs, w, p.left, p.right));
     }
     v
 }

@@ -8,7 +8,7 @@ ghost use Rattle.cost_matrix.specs.Matrix.{cost_of, celled, laid_cell};
 
 use numbers::long_u32;
 use stores::put_u64;
-use weights::{cell_cost, least};
+use weights::cell_cost;
 use wide::Wide;
 
 // "At most 65 rows and 65 columns": so many cells, and so many numbers of the matrix.
@@ -56,6 +56,6 @@ pub fn lay_cell(
     ensures { costs.new ≡ laid_cell (unsigned w) (cost size mass) supply demand k costs.old }
 {
     let d = cell_cost(size, mass, w);
-    let cap = least(long_u32(supply), long_u32(demand));
+    let cap = long_u32(supply).min(long_u32(demand));
     put_cell(costs, k, d, cap);
 }

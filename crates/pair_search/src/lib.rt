@@ -1,7 +1,7 @@
 // Pair records, and the search among them from the start. What decides is on values; the functions that hold the slice only index, call and loop.
 #![tactic(auto)]
 
-ghost use Rattle.std.specs.Prelude.{◌≡◌, min, ◌-◌, ◌≤◌, length};
+ghost use Rattle.std.specs.Prelude.{◌≡◌, ◌-◌, ◌≤◌, length};
 ghost use Rattle.spec.specs.Bytes.{either, same_two};
 ghost use Rattle.pair_search.specs.Records.{two_of, find_of};
 ghost use Rattle.pair_search.specs.Code.{code_of};
@@ -12,6 +12,11 @@ ghost use Rattle.pair_search.specs.Search.{seek, any_from};
 pub struct Pair {
     pub left: u16,
     pub right: u16,
+}
+
+impl Pair {
+    // the record of an empty table
+    pub const NONE: Pair = Pair { left: 0, right: 0 };
 }
 
 // How many records are looked at in one turn of the search.
@@ -36,16 +41,6 @@ fn or_pair(any: bool, p: Pair, left: u16, right: u16) -> bool
     ensures { result ≡ either any (same_two (left, right) (two_of p)) }
 {
     any | is_pair(p, left, right)
-}
-
-// The lesser of two numbers.
-pub fn least(a: usize, b: usize) -> usize
-    ensures { result ≡ min a b }
-{
-    if a < b {
-        return a;
-    }
-    b
 }
 
 // Whether one of the records numbered from..to is the pair. Every one is looked at, so that many can be compared at once.
@@ -79,7 +74,7 @@ fn find_block(table: &[Pair], end: usize, left: u16, right: u16) -> usize
 pub fn find(table: &[Pair], count: usize, left: u16, right: u16) -> usize
     ensures { result ≡ find_of table.now count (left, right) }
 {
-    let end = least(count, table.len());
+    let end = count.min(table.len());
     for i in find_block(table, end, left, right)..end {
         if is_pair(table[i], left, right) {
             return i;

@@ -7,7 +7,7 @@ ghost use Rattle.spec.specs.Graph.{PAIRS};
 ghost use Rattle.pair_search.specs.Records.{none};
 ghost use Rattle.pair_table.specs.Table.{put_in, outcome_of, enter_of, table_after};
 
-use pair_search::{Pair, find, least};
+use pair_search::{Pair, find};
 
 // A pair was there already, was entered, or there was no room.
 #[derive(Clone, Copy)]
@@ -24,14 +24,14 @@ pub const PAIRS: usize = 4096;
 fn room(len: usize) -> usize
     ensures { result ≡ min PAIRS len }
 {
-    least(PAIRS, len)
+    PAIRS.min(len)
 }
 
 // What became of a pair that was found at `at`, with `count` records in use in a table of `len`.
 fn outcome(at: usize, count: usize, len: usize) -> Entered
     ensures { result ≡ outcome_of at count len }
 {
-    if at < least(count, len) {
+    if at < count.min(len) {
         return Entered::At(at);
     }
     if count < room(len) {
@@ -64,5 +64,5 @@ pub fn enter(table: &mut [Pair], count: usize, left: u16, right: u16) -> Entered
 pub fn clear_table(table: &mut [Pair])
     ensures { table.new ≡ work_after none true table.old }
 {
-    table.fill(Pair { left: 0, right: 0 });
+    table.fill(Pair::NONE);
 }

@@ -3,10 +3,6 @@
 
 use std::io;
 
-fn emit(rt: &impl Print, s: &[u8], k: usize) -> io::Result<()> {
-    streams::write_front(&mut io::writer(rt), s, k)
-}
-
 fn main(rt: HostRuntime) -> io::Result<()> {
     let mut input = [0u8; 65537];
     let mut frames = [0u64; 65536];
@@ -23,5 +19,5 @@ fn main(rt: HostRuntime) -> io::Result<()> {
         &mut runs,
         &mut out,
     );
-    emit(&rt, &out, k)
+    streams::write_front(&mut io::writer(&rt), &out, k)
 }

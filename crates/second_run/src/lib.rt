@@ -1,11 +1,10 @@
 // A call's second run: where the first met a limit that is not the caller's own, once more at the caller's limits, in arrays of its own.
 #![tactic(auto)]
 
-ghost use Rattle.std.specs.Prelude.{◌≡◌, true, replicate};
+ghost use Rattle.std.specs.Prelude.{◌≡◌, true};
 ghost use Rattle.spec.specs.Run.{limits_for};
 ghost use Rattle.spec.specs.declared.Caller.TheVariants.{Page, Desk};
 ghost use Rattle.query.specs.Settings.{limits_of};
-ghost use Rattle.pair_search.specs.Records.{none};
 ghost use Rattle.contract.specs.Merges.{Merges};
 ghost use Rattle.first_run.specs.First.{limited};
 ghost use Rattle.second_run.specs.Twice.{Full, Settles};
@@ -41,13 +40,6 @@ const RUNS: usize = 65536;
 // Room for every graph.
 const TABLE: usize = 4096;
 
-// An empty pair table for every graph.
-fn full_table() -> [Pair; TABLE]
-    ensures { result ≡ replicate 4096 none }
-{
-    [Pair { left: 0, right: 0 }; TABLE]
-}
-
 // The limits of the query's caller.
 fn limits_of(q: Query) -> Limits
     ensures { limits_of result ≡ limits_for q.caller }
@@ -71,7 +63,7 @@ fn run_full(
     requires { Full q.caller graph.old pairs.old work.old flow.old terms.old runs.old }
     ensures { Merges q.caller s.now q.left q.right q.budget true out.old out.new result }
 {
-    let mut table = full_table();
+    let mut table = [Pair::NONE; TABLE];
     let lim = limits_of(q);
     merge_under(
         lim, s, q, &mut table, graph, pairs, work, flow, terms, runs, out,

@@ -3,7 +3,6 @@
 
 ghost use Rattle.std.specs.Prelude.{◌≡◌, not};
 ghost use Rattle.contract.specs.Answers.{Cleared, Table};
-ghost use Rattle.contract.specs.declared.Answer.TheVariants.{Refused};
 ghost use Rattle.contract.specs.Merges.{fit_of, fits, Merges};
 
 use contract::Answer;
@@ -61,12 +60,6 @@ fn short(
     runs < RUNS
 }
 
-fn refuse(k: u8) -> Answer
-    ensures { result ≡ Refused k }
-{
-    Answer::Refused(k)
-}
-
 // The merge that a query asks for, with its caller's limit of pairs, into a listing. Refuses as the table of refusals says.
 pub fn merge_query(
     s: &[u8],
@@ -91,7 +84,7 @@ pub fn merge_query(
         terms.len(),
         runs.len(),
     ) {
-        return refuse(1);
+        return Answer::Refused(1);
     }
     let lim = small();
     let a = merge_under(lim, s, q, table, graph, pairs, work, flow, terms, runs, out);

@@ -6,5 +6,5 @@ use Rattle.cost_matrix.proofs.lay_cell.Goals as goal
 pub returns : goal.returns
 returns c =
     let a = c.args in
-    let cap : c.least-cap.result ≡ min a.supply a.demand = c.least-cap.ensures ∙ (λ i. min (c.long_u32.ensures.0 i) (c.long_u32-2.ensures.0 i)) in
+    let cap : c.min-cap.result ≡ min a.supply a.demand = c.min-cap.ensures ∙ (λ i. min (c.long_u32.ensures.0 i) (c.long_u32-2.ensures.0 i)) in
     c.put_cell.ensures ∙ (λ i. celled a.costs.now a.k (c.cell_cost-d.ensures i) (cap i))

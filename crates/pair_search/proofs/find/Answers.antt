@@ -17,8 +17,8 @@ here s p end i h e = sym (seek-here s p (end - (i + 1)) i e) ∙ ap (λ (k : ℕ
 
 -- src/lib.rt:85:5
 pub loop-i-init : goal.loop-i-init
-loop-i-init c = c.find_block-i.ensures.1 ∙ rw c.least-end.ensures (seek_finds c.args.table.now (c.args.left, c.args.right) c.args.count)
+loop-i-init c = c.find_block-i.ensures.1 ∙ rw c.min-end.ensures (seek_finds c.args.table.now (c.args.left, c.args.right) c.args.count)
 
 -- src/lib.rt:85:5
 pub loop-i-preserved : goal.loop-i-preserved
-loop-i-preserved c = on c.args.table.now (c.args.left, c.args.right) c.least-end.result c.loop-i.i c.loop-i-test.true (sym c.is_pair.ensures ∙ c.if-is_pair.false) ∙ c.loop-i.invariant
+loop-i-preserved c = on c.args.table.now (c.args.left, c.args.right) c.min-end.result c.loop-i.i c.loop-i-test.true (sym c.is_pair.ensures ∙ c.if-is_pair.false) ∙ c.loop-i.invariant

@@ -1,4 +1,4 @@
 use Rattle.pair_table.proofs.room.Goals as goal
 
 pub returns : goal.returns
-returns c = c.least.ensures
+returns c = c.min.ensures

@@ -17,7 +17,7 @@ returns-then-short c =
     let a = c.args in
     let fit : Bool = fits a.table.now a.graph.now a.pairs.now a.work.now a.flow.now a.terms.now a.runs.now in
     let e : fit ≡ false = fails fit (sym c.short.ensures ∙ c.if-short.true) in (
-      one a.q.caller a.s.now a.q.left a.q.right a.q.budget fit a.out.now c.refuse.result c.refuse.ensures e,
+      one a.q.caller a.s.now a.q.left a.q.right a.q.budget fit a.out.now _ refl e,
       table-alone fit a.table.now e,
       work-alone fit a.graph.now a.pairs.now a.work.now a.flow.now a.terms.now a.runs.now e,
     )
