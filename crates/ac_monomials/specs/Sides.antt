@@ -1,9 +1,9 @@
 -- What the answer of `monomials` says of the action at a pair of places, for its callers.
-use Rattle.std.specs.Prelude.{◌≡◌, Bool, ℕ, ◌-◌, length, drop}
+use Rattle.std.specs.Prelude.{◌≡◌, Bool, ℕ, ◌-◌, length, drop, Option, Some, None}
 use Rattle.std.proofs.Math.Path.{refl}
 use Rattle.std.proofs.Math.Bool.{true, false}
 use mathlib.Core.List.{List, [], ◌∷◌}
-use Rattle.std.proofs.Common.{arith, take_at}
+use Rattle.std.proofs.Common.{ap, arith, take_at}
 use borrow.Author.Tests.{ltb-true, ltb-false, eqb-true, eqb-false}
 use Rattle.std.proofs.Math.Dec.{ltb, eqb}
 use Rattle.spec.specs.Bytes.{pick, both, filter}
@@ -15,7 +15,6 @@ use Rattle.monomial.specs.Places.{monomial_at}
 use Rattle.padding.specs.Pad.{levelled, unmatched, both_narrow, padded_of, answer_of, sides_of}
 use Rattle.ac_monomials.specs.Actions.{action_over, actions_at, Answered}
 use Rattle.ac_repr.specs.declared.Walk.{Walk}
-use Rattle.padding.specs.declared.Padded.TheVariants.{Pair, Nothing}
 
 -- ---- the definitions' pair, by what the buffers hold
 abbrev fits : MonomialPair → Bool
@@ -59,15 +58,17 @@ module _ (identity : ℕ) (a b : Monomial) where
   sides-are l r = step (both_itself l r a b) refl
     where
       step : (p : Bool) → both_itself l r a b ≡ p → filter fits (elim p [ true ↦ [] | false ↦ pad_pair identity a b ])
-          ≡ sides_of (pick p Nothing (padded_of identity a b)) (levelled identity a b) (levelled identity b a)
+          ≡ sides_of (pick p None (padded_of identity a b)) (levelled identity a b) (levelled identity b a)
       step true e = refl
       step false e = narrow-sides
 
 -- a pair was answered: so many rows and columns, no count too large, and no padding lacking
-invert : (p q s : Bool) (x y n m : ℕ) → Pair n m ≡ pick p Nothing (pick q Nothing (pick s (Pair x y) Nothing)) → (x ≡ n) × (y ≡ m) × (s ≡ true) × (q ≡ false)
+invert : (p q s : Bool) (x y n m : ℕ) → ◌≡◌ {A = Option (ℕ × ℕ)} (Some (n, m)) (pick p None (pick q None (pick s (Some (x, y)) None))) → (x ≡ n) × (y ≡ m) × (s ≡ true) × (q ≡ false)
 invert true q s x y n m e = absurd (let z : ◌≡◌ {A = ℕ} 0 1 = cc in omega arith)
 invert false true s x y n m e = absurd (let z : ◌≡◌ {A = ℕ} 0 1 = cc in omega arith)
-invert false false true x y n m e = (cc, cc, refl, refl)
+invert false false true x y n m e =
+    let z : ◌≡◌ {A = ℕ × ℕ} (x, y) (n, m) = cc in
+    (ap (λ (p : ℕ × ℕ). p.0) z, ap (λ (p : ℕ × ℕ). p.1) z, refl, refl)
 invert false false false x y n m e = absurd (let z : ◌≡◌ {A = ℕ} 0 1 = cc in omega arith)
 
 -- padding makes totals equal
@@ -91,11 +92,11 @@ levels identity a b h = step (eqb (total a) (total b)) refl (eqb identity NO-IDE
 -- ---- what a caller of `monomials` knows
 module _ (t : Tables) (l r : ℕ) (w : Walk) (s u s' u' : List ℕ) where
   -- no action at this pair of places
-  pub action-none : Answered t l r w s u s' u' Nothing → actions_at t l r w ≡ []
+  pub action-none : Answered t l r w s u s' u' None → actions_at t l r w ≡ []
   unfolding actions_at action_over
   action-none d = rw (sides-are (identity_of t w.op) (monomial_at t l w.a) (monomial_at t r w.b) l r, ← d.answer) refl
 
-  module _ (n m : ℕ) (d : Answered t l r w s u s' u' (Pair n m)) where
+  module _ (n m : ℕ) (d : Answered t l r w s u s' u' (Some (n, m))) where
     A : Monomial
     A = levelled (identity_of t w.op) (monomial_at t l w.a) (monomial_at t r w.b)
 

@@ -1,5 +1,5 @@
 -- The walk goes through the transports of two classes, each once and in order: what `first` and `next` lead through is what the definitions list.
-use Rattle.std.specs.Prelude.{◌≡◌, Bool, take, drop}
+use Rattle.std.specs.Prelude.{◌≡◌, Bool, take, drop, Option, Some, None}
 use Rattle.std.proofs.Math.Path.{refl, sym, ap}
 use Rattle.std.proofs.Common.{◌∙◌, drop-cons}
 use Rattle.std.proofs.Math.Bool.{true, false}
@@ -22,8 +22,6 @@ use Rattle.laws.specs.Firsts.{passing}
 use Rattle.ac_ops.specs.AcOps.{end_of, ac_op}
 use Rattle.ac_monomials.specs.Actions.{action_over, actions_at}
 use Rattle.ac_repr.specs.declared.Walk.{Walk}
-use Rattle.ac_repr.specs.declared.Step.{Step}
-use Rattle.ac_repr.specs.declared.Step.TheVariants.{At, End}
 
 -- ---- lists, one after the other
 each_append : {A B : Type 0} (f : A → List B) (a b : List A) → each f (a ++ b) ≡ each f a ++ each f b
@@ -191,22 +189,22 @@ module _ (t : Tables) (v : Valid t) (l r : ℕ) (a : l < length t.classes) (b : 
       step false e = rw (transports, all_walks, e) by-operations
 
 -- ---- what a caller of `first` and `next` knows: the actions that are left at a step
-unfoldable pub actions_left : Tables → ℕ → ℕ → Step → List TransportAction
+unfoldable pub actions_left : Tables → ℕ → ℕ → Option Walk → List TransportAction
 unfolding each actions_at walks
 actions_left t l r x = each (actions_at t l r) (left_of (walks t l r) x)
 
 module _ (t : Tables) (l r : ℕ) where
   -- at the first step, all
-  pub left-first : (x : Step) → Valid t → l < length t.classes → r < length t.classes → Stepped t l r (walks t l r) (all_walks t l r) x → transports t l r ≡ actions_left t l r x
+  pub left-first : (x : Option Walk) → Valid t → l < length t.classes → r < length t.classes → Stepped t l r (walks t l r) (all_walks t l r) x → transports t l r ≡ actions_left t l r x
   unfolding actions_left
   left-first x v a b d = transports-walk t v l r a b ∙ ap (λ (m : List Walk). each (actions_at t l r) m) d.left
 
   -- at a pair of places its own action, if there is one, and those left at the next step
-  pub left-next : (w : Walk) (x : Step) → Stepped t l r (walks t l r) (walks t l r (after_of w)) x → actions_left t l r (At w) ≡ actions_at t l r w ++ actions_left t l r x
+  pub left-next : (w : Walk) (x : Option Walk) → Stepped t l r (walks t l r) (walks t l r (after_of w)) x → actions_left t l r (Some w) ≡ actions_at t l r w ++ actions_left t l r x
   unfolding actions_left each
   left-next w x d = ap (λ (m : List Walk). actions_at t l r w ++ each (actions_at t l r) m) d.left
 
   -- at the end, none
-  pub left_end : actions_left t l r End ≡ []
+  pub left_end : actions_left t l r None ≡ []
   unfolding actions_left each
   left_end = refl

@@ -1,5 +1,5 @@
 // The two monomials of a representation pair (ac_repr.rs), padded: at a state of the walk (crate ac_repr).
-// From `first`, over `next`, to `End` the actions that `monomials` finds are the transports of the two classes, in order (specs/Transports: left-first, left-next, left-end; specs/Sides: action-one, action-none).
+// From `first`, over `next`, to `None` the actions that `monomials` finds are the transports of the two classes, in order (specs/Transports: left-first, left-next, left-end; specs/Sides: action-one, action-none).
 #![tactic(auto)]
 
 ghost use Rattle.std.specs.Prelude.{◌≡◌, ◌<◌, length};
@@ -12,7 +12,7 @@ ghost use Rattle.ac_monomials.specs.Actions.{Answered};
 use ac_repr::Walk;
 use image::Image;
 use monomial::of_place;
-use padding::{Padded, pad_pair};
+use padding::pad_pair;
 
 pub fn monomials(
     s: &[u8],
@@ -22,7 +22,7 @@ pub fn monomials(
     w: Walk,
     left: &mut [u64],
     right: &mut [u64],
-) -> Padded
+) -> Option<(usize, usize)>
     requires { Loaded s.now im × Valid (tables_of s.now) × (l < im.classes) × (r < im.classes) × (w.op < im.operations) × (length left.old ≡ NUMBERS) × (length right.old ≡ NUMBERS) }
     ensures { Answered (tables_of s.now) l r w left.old right.old left.new right.new result }
 {

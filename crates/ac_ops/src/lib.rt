@@ -43,12 +43,10 @@ pub fn next_op(s: &[u8], im: Image, l: usize, r: usize, o: usize) -> usize
     requires { Loaded s.now im × Valid (tables_of s.now) × (l < im.classes) × (r < im.classes) }
     ensures { result ≡ first_from (ac_op (tables_of s.now) l r) o im.operations }
 {
-    let mut i = o;
-    while i < im.operations {
+    for i in o..im.operations {
         if is_ac_op(s, im, l, r, i) {
             return i;
         }
-        i += 1;
     }
-    i
+    o.max(im.operations)
 }

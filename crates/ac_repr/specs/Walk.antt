@@ -1,11 +1,9 @@
 -- The walk through the representation pairs of two classes: operations of either class rising, places of the left class, places of the right class.
 -- A place of a class is a member's number, or the end of its members, which stands for the class itself once.
-use Rattle.std.specs.Prelude.{◌≡◌, Bool, true, false, not, List, [], ◌∷◌, ◌++◌, map, ℕ, suc, ◌+◌, ◌-◌, ◌≤◌, ◌<◌, ltb, eqb, length}
+use Rattle.std.specs.Prelude.{◌≡◌, Bool, true, false, not, List, [], ◌∷◌, ◌++◌, map, ℕ, suc, ◌+◌, ◌≤◌, ◌<◌, ltb, eqb, length, Option, Some, None}
 use Rattle.spec.specs.Bytes.{pick, each}
 use Rattle.spec.specs.Image.{Tables, NO-IDENTITY, identity_of, the_class, the_member}
 use Rattle.ac_repr.specs.declared.Walk.{Walk}
-use Rattle.ac_repr.specs.declared.Step.{Step}
-use Rattle.ac_repr.specs.declared.Step.TheVariants.{At, End}
 use Rattle.laws.specs.Firsts.{passing}
 use Rattle.ac_ops.specs.AcOps.{end_of, ac_op}
 
@@ -58,41 +56,41 @@ abbrev pub after_of : Walk → Walk
 after_of w = record { op = w.op; a = w.a; b = w.b + 1 }
 
 -- the first pair, if there is one
-abbrev pub step_of : List Walk → Step
-step_of [] = End
-step_of (w ∷ l) = At w
+abbrev pub step_of : List Walk → Option Walk
+step_of [] = None
+step_of (w ∷ l) = Some w
 
 -- what is left at a step: its pair, and those after it
-abbrev pub left_of : (Walk → List Walk) → Step → List Walk
-left_of later (At w) = w ∷ later (after_of w)
-left_of later End = []
+abbrev pub left_of : (Walk → List Walk) → Option Walk → List Walk
+left_of later (Some w) = w ∷ later (after_of w)
+left_of later None = []
 
 -- the step's pair stands within the tables
-abbrev pub Within : Tables → ℕ → ℕ → Step → Type 0
-Within t l r (At w) = (w.op < length t.operations) × (w.a ≤ end_of t l) × (w.b ≤ end_of t r)
-Within t l r End = Unit
+abbrev pub Within : Tables → ℕ → ℕ → Option Walk → Type 0
+Within t l r (Some w) = (w.op < length t.operations) × (w.a ≤ end_of t l) × (w.b ≤ end_of t r)
+Within t l r None = Unit
 
 -- beside left place a of operation o
-abbrev pub Beside : Tables → ℕ → ℕ → ℕ → Step → Type 0
-Beside t r o a (At w) = (w.op ≡ o) × (w.a ≡ a) × (w.b ≤ end_of t r)
-Beside t r o a End = Unit
+abbrev pub Beside : Tables → ℕ → ℕ → ℕ → Option Walk → Type 0
+Beside t r o a (Some w) = (w.op ≡ o) × (w.a ≡ a) × (w.b ≤ end_of t r)
+Beside t r o a None = Unit
 
 -- under operation o
-abbrev pub Under : Tables → ℕ → ℕ → ℕ → Step → Type 0
-Under t l r o (At w) = (w.op ≡ o) × (w.a ≤ end_of t l) × (w.b ≤ end_of t r)
-Under t l r o End = Unit
+abbrev pub Under : Tables → ℕ → ℕ → ℕ → Option Walk → Type 0
+Under t l r o (Some w) = (w.op ≡ o) × (w.a ≤ end_of t l) × (w.b ≤ end_of t r)
+Under t l r o None = Unit
 
 -- A step beside one left place, and one under one operation.
-pub record InRow (t : Tables) (r o a b : ℕ) (x : Step) : Type 0 where
+pub record InRow (t : Tables) (r o a b : ℕ) (x : Option Walk) : Type 0 where
   pub left : row t (end_of t r) o a b ≡ left_of (λ w. row t (end_of t r) o a w.b) x
   pub beside : Beside t r o a x
 
-pub record InOp (t : Tables) (l r o : ℕ) (list : List Walk) (x : Step) : Type 0 where
+pub record InOp (t : Tables) (l r o : ℕ) (list : List Walk) (x : Option Walk) : Type 0 where
   pub left : list ≡ left_of (under t l r) x
   pub placed : Under t l r o x
 
 -- A step through the pairs of `list`: the answer is the first one, and `later` gives those after it.
-pub record Stepped (t : Tables) (l r : ℕ) (later : Walk → List Walk) (list : List Walk) (x : Step) : Type 0 where
+pub record Stepped (t : Tables) (l r : ℕ) (later : Walk → List Walk) (list : List Walk) (x : Option Walk) : Type 0 where
   pub answer : x ≡ step_of list
   pub left : list ≡ left_of later x
   pub within : Within t l r x

@@ -1,13 +1,11 @@
 -- Laws of the walk: each pair of places leads to the one after it.
-use Rattle.std.specs.Prelude.{◌≡◌, true, false, List, [], ◌∷◌, ◌++◌, map, ℕ, suc, ◌≤◌, ◌<◌, length}
+use Rattle.std.specs.Prelude.{◌≡◌, true, false, List, [], ◌∷◌, ◌++◌, map, ℕ, suc, ◌≤◌, ◌<◌, length, Option, Some, None}
 use Rattle.std.proofs.Math.Path.{refl}
 use Rattle.std.proofs.Common.{sym, ap, arith}
 use Rattle.spec.specs.Bytes.{each}
 use Rattle.spec.specs.Image.{Tables, the_class}
 use Rattle.ac_repr.specs.Walk.{has_place, places_from, walk_at, row, rows, under, step_of, left_of, Within, Stepped}
 use Rattle.ac_repr.specs.declared.Walk.{Walk}
-use Rattle.ac_repr.specs.declared.Step.{Step}
-use Rattle.ac_repr.specs.declared.Step.TheVariants.{At, End}
 use Rattle.laws.specs.Firsts.{first_from, found, found_some, found_none}
 use Rattle.ac_ops.specs.AcOps.{end_of}
 
@@ -63,6 +61,6 @@ module _ (t : Tables) (l r : ℕ) (w : Walk) where
 
 -- ---- steps
 -- the answer follows from what is left
-pub stepped : (t : Tables) (l r : ℕ) (later : Walk → List Walk) (list : List Walk) (x : Step) → list ≡ left_of later x → Within t l r x → Stepped t l r later list x
-stepped t l r later list (At w) e b = record { answer = ap step_of (sym e); left = e; within = b }
-stepped t l r later list End e b = record { answer = ap step_of (sym e); left = e; within = b }
+pub stepped : (t : Tables) (l r : ℕ) (later : Walk → List Walk) (list : List Walk) (x : Option Walk) → list ≡ left_of later x → Within t l r x → Stepped t l r later list x
+stepped t l r later list (Some w) e b = record { answer = ap step_of (sym e); left = e; within = b }
+stepped t l r later list None e b = record { answer = ap step_of (sym e); left = e; within = b }

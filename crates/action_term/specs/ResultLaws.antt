@@ -1,5 +1,5 @@
 -- The list of an action's children is what `intern_action_result` of the definitions interns.
-use Rattle.std.specs.Prelude.{◌≡◌, refl, Bool, true, false, List, [], map, ℕ, ◌^◌, ◌≤◌, ◌<◌, length, drop}
+use Rattle.std.specs.Prelude.{◌≡◌, refl, Bool, true, false, List, [], map, ℕ, ◌^◌, ◌≤◌, ◌<◌, length, drop, Option}
 use Rattle.std.proofs.Common.{sym, ap, ◌∙◌, arith, take-append-drop}
 use Rattle.spec.specs.Bytes.{Limits, pick, sum}
 use Rattle.spec.specs.Pool.{Pool, Node, op_node, join_runs, sort_runs, intern}
@@ -14,7 +14,6 @@ use Rattle.action_term.specs.Results.{ActionResult}
 use Rattle.terms.specs.PartLaws.{part_length, part-take, part-front}
 use Rattle.joining.specs.JoinLaws.{joined-runs, join-sum, begins-fits, op-node}
 use Rattle.action_term.specs.SortLaws.{sorted-runs, sort-length, sort-sum}
-use Rattle.interning.specs.declared.Entered.{Entered}
 
 pub over-same : (list : List ℕ) (n : ℕ) → n ≤ length list → list ≡ over (part list 0 n) list
 over-same list n h = rw (part_length list 0 n, part-take list n h) (sym (take-append-drop n list))
@@ -62,7 +61,7 @@ module _ (p : Pool) (list : List ℕ) (n : ℕ) (t : Bool) (list₁ : List ℕ) 
     list-is : list₂ ≡ over (join_numbers [] (ordered_in t p list n)) (over (ordered_in t p list n) list)
     list-is = J.numbers ∙ ap (λ (l : List ℕ). over (join_numbers [] l) list₁) front ∙ ap (λ (l : List ℕ). over (join_numbers [] (ordered_in t p list n)) l) E
 
-module _ (lim : Limits) (terms runs list : List ℕ) (n o : ℕ) (t : Bool) (list₁ : List ℕ) (E : list₁ ≡ over (ordered_in t (pool_of terms runs) list n) list) (list₂ : List ℕ) (m : ℕ) (J : Begins (joined_in list₁ n) list₁ list₂ m) (h : o < 64) (terms' runs' : List ℕ) (r : Entered) where
+module _ (lim : Limits) (terms runs list : List ℕ) (n o : ℕ) (t : Bool) (list₁ : List ℕ) (E : list₁ ≡ over (ordered_in t (pool_of terms runs) list n) list) (list₂ : List ℕ) (m : ℕ) (J : Begins (joined_in list₁ n) list₁ list₂ m) (h : o < 64) (terms' runs' : List ℕ) (r : Option ℕ) where
   pub action-result : Interning lim terms runs list₂ m o 0 terms' runs' r → ActionResult lim terms runs list n o t terms' runs' list₂ r
   action-result I =
       let e = action-node (pool_of terms runs) list n t list₁ E list₂ m J o h in record {

@@ -12,7 +12,6 @@ ghost use Rattle.joining.specs.Joining.{over};
 ghost use Rattle.action_term.specs.Sorting.{insert_number, sort_numbers, within, ordered_in};
 ghost use Rattle.action_term.specs.Results.{ActionResult};
 
-use interning::Entered;
 use query::Limits;
 use term_order::Order;
 
@@ -78,7 +77,7 @@ pub fn intern_action_result(
     n: usize,
     op: u32,
     commutative: bool,
-) -> Entered
+) -> Option<usize>
     requires { Holds terms.old runs.old × (n ≤ length list.old) × RunsBelow (count_in terms.old) (map unpack (part list.old 0 n)) × (sum (part list.old 0 n) < 2 ^ 64) × (op < 64) × Rooms (limits_of lim) terms.old runs.old }
     ensures { ActionResult (limits_of lim) terms.old runs.old list.old n op commutative terms.new runs.new list.new result }
 {

@@ -1,5 +1,5 @@
 -- "A strictly better action replaces; structural actions come before transport": what a pair has after its structural actions.
-use Rattle.std.specs.Prelude.{◌≡◌, List, map, ℕ, zero, suc, length}
+use Rattle.std.specs.Prelude.{◌≡◌, List, map, ℕ, zero, suc, length, Option, Some, None}
 use Rattle.spec.specs.Bytes.{Two}
 use Rattle.spec.specs.Image.{Tables}
 use Rattle.spec.specs.Action.{Action, structural}
@@ -9,17 +9,15 @@ use Rattle.spec.specs.Round.{Choice, stay, Turn, of_action}
 use Rattle.actions.specs.Place.{Stands, after_of}
 use Rattle.enumeration.specs.Seek.{start_of, seek_rows, seek_of}
 use Rattle.actions.specs.declared.State.{State}
-use Rattle.enumeration.specs.declared.Sought.{Sought}
-use Rattle.enumeration.specs.declared.Sought.TheVariants.{At, End}
 use Rattle.quality.specs.Offer.{offer_at, act_at}
 use Rattle.quality.specs.declared.How.{How}
 use Rattle.quality.specs.declared.How.TheVariants.{Stay, Aligned, Plan}
 use Rattle.quality.specs.declared.Best.{Best}
 
 -- the next n actions from w on are offered to b, as far as there are any
-abbrev pub at_found : Sought → Best → (State → Best) → Best
-at_found End b f = b
-at_found (At v) b f = f v
+abbrev pub at_found : Option State → Best → (State → Best) → Best
+at_found None b f = b
+at_found (Some v) b f = f v
 
 unfoldable pub best_from : Tables → (Two → Two) → Two → ℕ → State → Best → Best
 unfolding seek_rows

@@ -1,5 +1,5 @@
 -- A pair's structural actions, offered one after the other.
-use Rattle.std.specs.Prelude.{◌≡◌, Bool, true, false}
+use Rattle.std.specs.Prelude.{◌≡◌, Bool, true, false, Option, Some, None}
 use Rattle.std.proofs.Math.Path.{refl, sym, ap}
 use Rattle.std.proofs.Common.{◌∙◌, arith}
 use mathlib.Core.List.{List}
@@ -19,8 +19,6 @@ use Rattle.enumeration.specs.Remaining.{StandsFound, list_from, found_in}
 use Rattle.enumeration.specs.Seek.{start_of, seek_of}
 use Rattle.enumeration.specs.SeekLaws.{start-list, seek-list, seek-stands}
 use Rattle.actions.specs.declared.State.{State}
-use Rattle.enumeration.specs.declared.Sought.{Sought}
-use Rattle.enumeration.specs.declared.Sought.TheVariants.{At, End}
 use Rattle.quality.specs.declared.How.TheVariants.{Stay, Aligned}
 use Rattle.quality.specs.declared.Best.{Best}
 use Rattle.quality.specs.Offer.{structural_quality, offer_at}
@@ -48,12 +46,12 @@ module _ {s : List ℕ} {im : Image} (L : Loaded s im) (ok : Valid (tables_of s)
     turn : turn_at t x ≡ offer_actions t q (list_from t l r w) (turn_at t b)
     stands : StandsAt t x.how
 
-  makes-step : (n : ℕ) (w : State) (b : Best) (x : Sought) → list_from t l r w ≡ found_in t l r x → StandsFound t x → StandsAt t b.how → length (list_from t l r w) ≡ suc n
+  makes-step : (n : ℕ) (w : State) (b : Best) (x : Option State) → list_from t l r w ≡ found_in t l r x → StandsFound t x → StandsAt t b.how → length (list_from t l r w) ≡ suc n
       → ((u : State) (c : Best) → length (list_from t l r u) ≡ n → StandsAt t c.how → Makes u c (best_from t q (l, r) n u c))
       → Makes w b (at_found x b (λ v. best_from t q (l, r) n (after_of v) (offer_at t q v b)))
   unfolding offer_all
-  makes-step n w b End e st h m ih = record { turn = ap (λ (z : List Action). offer_actions t q z (turn_at t b)) (sym e); stands = h }
-  makes-step n w b (At v) e st h m ih =
+  makes-step n w b None e st h m ih = record { turn = ap (λ (z : List Action). offer_actions t q z (turn_at t b)) (sym e); stands = h }
+  makes-step n w b (Some v) e st h m ih =
       let y = structural_quality q (action_at t v) in
       let x : Best = record { size = y.0; mass = y.1; how = Aligned v } in
       let c = better y (b.size, b.mass) in
@@ -83,15 +81,15 @@ module _ {s : List ℕ} {im : Image} (L : Loaded s im) (ok : Valid (tables_of s)
       let n = ap (λ (z : List Action). length z) (start-list L ok hl hr e) in
       λ i. best_from t q (l, r) (n i) (e i) (record { size = f i; mass = g i; how = Stay })
 
-  module _ (w : State) (b : Best) {x : Sought} (e : x ≡ seek_of t l r w) where
-    pub best-last : (n : ℕ) → x ≡ End → best_from t q (l, r) n w b ≡ b
+  module _ (w : State) (b : Best) {x : Option State} (e : x ≡ seek_of t l r w) where
+    pub best-last : (n : ℕ) → x ≡ None → best_from t q (l, r) n w b ≡ b
     unfolding best_from
     best-last zero f = refl
-    best-last (suc n) f = ap (λ (z : Sought). at_found z b (λ v. best_from t q (l, r) n (after_of v) (offer_at t q v b))) (sym e ∙ f)
+    best-last (suc n) f = ap (λ (z : Option State). at_found z b (λ v. best_from t q (l, r) n (after_of v) (offer_at t q v b))) (sym e ∙ f)
 
-    pub best-next : (v : State) → x ≡ At v → {u : State} {c : Best} → c ≡ offer_at t q v b → u ≡ after_of v → best_from t q (l, r) (length (list_from t l r w)) w b ≡ best_from t q (l, r) (length (list_from t l r u)) u c
+    pub best-next : (v : State) → x ≡ Some v → {u : State} {c : Best} → c ≡ offer_at t q v b → u ≡ after_of v → best_from t q (l, r) (length (list_from t l r w)) w b ≡ best_from t q (l, r) (length (list_from t l r u)) u c
     unfolding best_from
     best-next v f g h =
         ap (λ (z : List Action). best_from t q (l, r) (length z) w b) (seek-list L ok hl hr w e ∙ ap (found_in t l r) f)
-        ∙ ap (λ (z : Sought). at_found z b (λ u. best_from t q (l, r) (length (list_from t l r (after_of v))) (after_of u) (offer_at t q u b))) (sym e ∙ f)
+        ∙ ap (λ (z : Option State). at_found z b (λ u. best_from t q (l, r) (length (list_from t l r (after_of v))) (after_of u) (offer_at t q u b))) (sym e ∙ f)
         ∙ sym (λ i. best_from t q (l, r) (length (list_from t l r (h i))) (h i) (g i))

@@ -9,7 +9,7 @@ ghost use Rattle.image.specs.Loaded.{Loaded};
 ghost use Rattle.best_aligned.specs.Aligned.{best_aligned};
 
 use arrays::{mass_of, size_of};
-use enumeration::{Sought, seek, start};
+use enumeration::{seek, start};
 use image::Image;
 use numbers::long_u32;
 use quality::{Best, How, offer};
@@ -25,15 +25,9 @@ pub fn best_aligned(s: &[u8], im: Image, graph: &[u16], pairs: &[u32], l: usize,
         how: How::Stay,
     };
     let mut w = start(s, im, l, r);
-    loop {
-        match seek(s, im, l, r, w) {
-            Sought::End => {
-                return best;
-            }
-            Sought::At(v) => {
-                best = offer(s, im, v, graph, pairs, best);
-                w = v.after();
-            }
-        }
+    while let Some(v) = seek(s, im, l, r, w) {
+        best = offer(s, im, v, graph, pairs, best);
+        w = v.after();
     }
+    best
 }

@@ -1,5 +1,5 @@
 -- `build_best_term`: the class at hand, the classes that wait for it, and what is left to do.
-use Rattle.std.specs.Prelude.{◌≡◌, refl, ◌⊎◌, ℕ, zero, suc, ◌+◌, ◌*◌, ◌-◌, ◌≤◌, ◌<◌, eqb, get_or, set, take, drop}
+use Rattle.std.specs.Prelude.{◌≡◌, refl, ◌⊎◌, ℕ, zero, suc, ◌+◌, ◌*◌, ◌-◌, ◌≤◌, ◌<◌, eqb, get_or, set, take, drop, Option, Some, None}
 use Rattle.std.proofs.Common.{sym, ap, ◌∙◌, inl, inr, not-suc-le-zero, eq-or-lt_of_le, eq-eqb, ne_eqb, get_or-set_same, get_or-set_other}
 use mathlib.Core.List.{List, [], ◌∷◌, ◌++◌, map}
 use Rattle.std.proofs.Math.Decide.{ℕ_discrete}
@@ -31,8 +31,6 @@ use Rattle.op_terms.specs.Members.{Gives, kept_run, member_node, MemberReady}
 use Rattle.best_terms.specs.Bests.{Kept}
 use Rattle.terms.specs.PoolLaws.{pool-length}
 use Rattle.best_terms.specs.BestLaws.{best-again, best-literal, best-node, children-built, down-ok, down-refused, onward, onward-end, onward-down, onward-up, onward-refused}
-use Rattle.interning.specs.declared.Entered.{Entered}
-use Rattle.interning.specs.declared.Entered.TheVariants as E
 
 -- the classes that wait: each is larger than the one before it, and unbuilt
 pub data Linked (t : Tables) (best waiting : List ℕ) : ℕ → List ℕ → Type 0 where
@@ -141,7 +139,7 @@ pub grown-to : {x y z : Pool} → y ≡ z → Extends x z → Extends x y
 grown-to e g = rw e g
 
 -- what `build_best_term` gives
-pub record Builds (lim : Limits) (t : Tables) (terms₀ runs₀ best₀ : List ℕ) (class : ℕ) (terms' runs' best' : List ℕ) (r : Entered) : Type 0 where
+pub record Builds (lim : Limits) (t : Tables) (terms₀ runs₀ best₀ : List ℕ) (class : ℕ) (terms' runs' best' : List ℕ) (r : Option ℕ) : Type 0 where
   pub answer : r ≡ entered_of (best_term lim t (pool_of terms₀ runs₀) class)
   pub holds : Holds terms' runs'
   pub kept : Kept lim t (pool_of terms' runs') best'
@@ -150,11 +148,11 @@ pub record Builds (lim : Limits) (t : Tables) (terms₀ runs₀ best₀ : List �
   pub keeps : Keeps t best₀ best'
   pub marks : (a : Interned) → best_term lim t (pool_of terms₀ runs₀) class ≡ ok a → marks_of best' ≡ reach t (marks_of best₀) class
 
-pub full-told : (m : Res Interned) → E.Full ≡ entered_of m → (n : ℕ) × (m ≡ refused n)
+pub full-told : (m : Res Interned) → None ≡ entered_of m → (n : ℕ) × (m ≡ refused n)
 full-told (ok r) e = let z : ◌≡◌ {A = ℕ} 0 1 = cc in absurd (omega arith)
 full-told (refused n) e = (n, refl)
 
-pub term_told : (m : Res Interned) (a : ℕ) → E.Term a ≡ entered_of m → (r : Interned) × (m ≡ ok r) × (r.term ≡ a)
+pub term_told : (m : Res Interned) (a : ℕ) → Some a ≡ entered_of m → (r : Interned) × (m ≡ ok r) × (r.term ≡ a)
 term_told (ok r) a e = (r, refl, cc)
 term_told (refused n) a e = let z : ◌≡◌ {A = ℕ} 0 1 = cc in absurd (omega arith)
 
@@ -245,10 +243,10 @@ module _ (lim : Limits) (t : Tables) (v : Valid t) (terms₀ runs₀ best₀ : L
     is-intern : best_term lim t (pool_of terms runs) c ≡ intern lim (pool_of terms runs) (member_node t best (best_member t c))
     is-intern = built-term lim t v (pool_of terms runs) best c W.within W.kept b
 
-    now-grows : {r : Entered} → Gives terms runs terms' runs' (intern lim (pool_of terms runs) (member_node t best (best_member t c))) r → Grows terms₀ runs₀ terms' runs' (pool_of terms' runs')
+    now-grows : {r : Option ℕ} → Gives terms runs terms' runs' (intern lim (pool_of terms runs) (member_node t best (best_member t c))) r → Grows terms₀ runs₀ terms' runs' (pool_of terms' runs')
     now-grows G = grows_then W.grows (rw (← G.pool) at G.grows)
 
-    pub walk-full : Gives terms runs terms' runs' (intern lim (pool_of terms runs) (member_node t best (best_member t c))) E.Full → Builds lim t terms₀ runs₀ best₀ class terms' runs' best E.Full
+    pub walk-full : Gives terms runs terms' runs' (intern lim (pool_of terms runs) (member_node t best (best_member t c))) None → Builds lim t terms₀ runs₀ best₀ class terms' runs' best None
     walk-full G =
         let (n, e) = full-told _ G.answer in
         let q : best_term lim t (pool_of terms₀ runs₀) class ≡ refused n = W.same ∙ onward-refused lim t (pool_of terms runs) c W.stack n (is-intern ∙ e) in record {
@@ -261,7 +259,7 @@ module _ (lim : Limits) (t : Tables) (v : Valid t) (terms₀ runs₀ best₀ : L
           marks = λ a z. absurd (refused-ok (sym q ∙ z));
         }
 
-    module _ (a : ℕ) (fits : c < length best) (G : Gives terms runs terms' runs' (intern lim (pool_of terms runs) (member_node t best (best_member t c))) (E.Term a)) where
+    module _ (a : ℕ) (fits : c < length best) (G : Gives terms runs terms' runs' (intern lim (pool_of terms runs) (member_node t best (best_member t c))) (Some a)) where
       told : (r : Interned) × (best_term lim t (pool_of terms runs) c ≡ ok r) × (r.term ≡ a) × (pool_of terms' runs' ≡ r.pool)
       told = let (r, e, f) = term_told _ a G.answer in (r, is-intern ∙ e, f, G.pool ∙ ap (pool_after (pool_of terms runs)) e)
 
@@ -286,10 +284,10 @@ module _ (lim : Limits) (t : Tables) (v : Valid t) (terms₀ runs₀ best₀ : L
       done-marks : marks_of (set best c (a + 1)) ≡ reach t (marks_of best) c
       done-marks = marks-set best c a ∙ sym (reach-built t v (marks_of best) c W.within (mark-none best c W.unbuilt) (λ e i. omega (arith, mark-some best e.0 (b e i))))
 
-      pub walk_end : get_or waiting c 0 ≡ 0 → Builds lim t terms₀ runs₀ best₀ class terms' runs' (set best c (a + 1)) (E.Term a)
+      pub walk_end : get_or waiting c 0 ≡ 0 → Builds lim t terms₀ runs₀ best₀ class terms' runs' (set best c (a + 1)) (Some a)
       walk_end z = go W.stack W.linked W.same W.marks
         where
-          go : (st : List ℕ) → Linked t best waiting c st → best_term lim t (pool_of terms₀ runs₀) class ≡ (best_term lim t (pool_of terms runs) c >>= onward lim t st) → reach t (marks_of best₀) class ≡ reach_on t st (reach t (marks_of best) c) → Builds lim t terms₀ runs₀ best₀ class terms' runs' (set best c (a + 1)) (E.Term a)
+          go : (st : List ℕ) → Linked t best waiting c st → best_term lim t (pool_of terms₀ runs₀) class ≡ (best_term lim t (pool_of terms runs) c >>= onward lim t st) → reach t (marks_of best₀) class ≡ reach_on t st (reach t (marks_of best) c) → Builds lim t terms₀ runs₀ best₀ class terms' runs' (set best c (a + 1)) (Some a)
           go st (bottom y) s ms =
               let (r, e, f, g) = told in
               let q : best_term lim t (pool_of terms₀ runs₀) class ≡ ok r = s ∙ onward-end lim t (best_term lim t (pool_of terms runs) c) ∙ e in record {
@@ -382,17 +380,17 @@ module _ (lim : Limits) (s : List ℕ) (im : Image) (Ld : Loaded s im) (v : Vali
       turn-down i d h e b u l = walk-down lim t v terms₀ runs₀ best₀ class terms runs best waiting c W i d (omega (arith, long)) (e ∙ ap (λ (z : Two). z.0) (sym (kid i h))) (before i (omega arith) b) u l (omega (arith, turn_inside i h, ap (λ (z : ℕ). z) e))
 
       module _ (b : (j : ℕ) → j < n → 0 < get_or best (the_child t (k + j)).0 0) (terms' runs' : List ℕ) where
-        pub turn-full : Gives terms runs terms' runs' (intern lim (pool_of terms runs) (member_node t best (the_member t m))) E.Full → Builds lim t terms₀ runs₀ best₀ class terms' runs' best E.Full
+        pub turn-full : Gives terms runs terms' runs' (intern lim (pool_of terms runs) (member_node t best (the_member t m))) None → Builds lim t terms₀ runs₀ best₀ class terms' runs' best None
         turn-full G = walk-full lim t v terms₀ runs₀ best₀ class terms runs best waiting c W (whole b) terms' runs' (rw em at G)
 
-        module _ (a : ℕ) (G : Gives terms runs terms' runs' (intern lim (pool_of terms runs) (member_node t best (the_member t m))) (E.Term a)) where
+        module _ (a : ℕ) (G : Gives terms runs terms' runs' (intern lim (pool_of terms runs) (member_node t best (the_member t m))) (Some a)) where
           fits : c < length best
           fits = omega (arith, turn-fits)
 
           pub turn_small : a < 16384
           turn_small = done-small lim t v terms₀ runs₀ best₀ class terms runs best waiting c W (whole b) terms' runs' a fits (rw em at G)
 
-          pub turn_end : get_or waiting c 0 ≡ 0 → Builds lim t terms₀ runs₀ best₀ class terms' runs' (set best c (a + 1)) (E.Term a)
+          pub turn_end : get_or waiting c 0 ≡ 0 → Builds lim t terms₀ runs₀ best₀ class terms' runs' (set best c (a + 1)) (Some a)
           turn_end z = walk_end lim t v terms₀ runs₀ best₀ class terms runs best waiting c W (whole b) terms' runs' a fits (rw em at G) z
 
           pub turn_up : (q : ℕ) → get_or waiting c 0 ≡ q + 1 → Walk lim t terms₀ runs₀ best₀ class terms' runs' (set best c (a + 1)) waiting q
@@ -411,7 +409,7 @@ more-built best t k i d e h b j l = go (eq-or-lt_of_le {n = j} {m = i} (omega ar
 
 -- a class that is built already
 pub walk_kept : (lim : Limits) (t : Tables) (terms runs best : List ℕ) (c : ℕ) → Holds terms runs → Kept lim t (pool_of terms runs) best → c < length t.classes → 0 < get_or best c 0
-    → (b : ℕ) → b ≡ get_or best c 0 → Valid t → Builds lim t terms runs best c terms runs best (E.Term (b - 1))
+    → (b : ℕ) → b ≡ get_or best c 0 → Valid t → Builds lim t terms runs best c terms runs best (Some (b - 1))
 walk_kept lim t terms runs best c H K h z b e v =
     let q = K c h z in record {
       answer = rw (q, e) refl;

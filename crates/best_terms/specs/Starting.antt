@@ -1,5 +1,5 @@
 -- `evaluate_generalize_action`: "the best term of one class; or the marked place Variants of two best terms".
-use Rattle.std.specs.Prelude.{◌≡◌, List, map, ℕ, zero, suc, ◌+◌, ◌<◌, length, get_or, replicate}
+use Rattle.std.specs.Prelude.{◌≡◌, List, map, ℕ, zero, suc, ◌+◌, ◌<◌, length, get_or, replicate, Option, Some, None}
 use Rattle.std.proofs.Math.Path.{refl}
 use Rattle.std.proofs.Common.{sym, ap, ap₂, ◌∙◌, not-suc-le-zero, arith, ext_get_or}
 use Rattle.std.proofs.Math.Decide.{ℕ_discrete, dec_lt}
@@ -26,11 +26,9 @@ use Rattle.term_clearing.specs.Cleared.{Cleared}
 use Rattle.terms.specs.PoolLaws.{pool-length}
 use Rattle.best_terms.specs.BestLaws.{best-again}
 use Rattle.best_terms.specs.Building.{Builds, Keeps, keeps_then, full-told, term_told, kept-grows, grown-to}
-use Rattle.interning.specs.declared.Entered.{Entered}
-use Rattle.interning.specs.declared.Entered.TheVariants as E
 
 -- The starting term of a pair of classes: entered, or refusal 13 with every number zero.
-pub record Starts (lim : Limits) (t : Tables) (c : Two) (terms runs best terms' runs' best' : List ℕ) (r : Entered) : Type 0 where
+pub record Starts (lim : Limits) (t : Tables) (c : Two) (terms runs best terms' runs' best' : List ℕ) (r : Option ℕ) : Type 0 where
   pub answer : r ≡ entered_of (starting_term lim t (pool_of terms runs) c)
   pub grows : (a : Interned) → starting_term lim t (pool_of terms runs) c ≡ ok a → Grows terms runs terms' runs' a.pool
   pub best_is : (a : Interned) → starting_term lim t (pool_of terms runs) c ≡ ok a → best' ≡ bests_after lim t a.pool best c
@@ -38,7 +36,7 @@ pub record Starts (lim : Limits) (t : Tables) (c : Two) (terms runs best terms' 
   pub cleared : (n : ℕ) → starting_term lim t (pool_of terms runs) c ≡ refused n → Cleared terms runs best terms' runs' best'
 
 -- the same before a refusal clears the buffers
-pub record Makes (lim : Limits) (t : Tables) (c : Two) (terms runs best terms' runs' best' : List ℕ) (r : Entered) : Type 0 where
+pub record Makes (lim : Limits) (t : Tables) (c : Two) (terms runs best terms' runs' best' : List ℕ) (r : Option ℕ) : Type 0 where
   pub answer : r ≡ entered_of (starting_term lim t (pool_of terms runs) c)
   pub holds : Holds terms' runs'
   pub kept : Kept lim t (pool_of terms' runs') best'
@@ -57,22 +55,22 @@ module _ (lim : Limits) (t : Tables) (p : Pool) (l r : ℕ) where
   starting-two d = rw (starting_term, ne_eqb l r d) refl
 
 from-refused : {lim : Limits} {t : Tables} {c : Two} {terms runs best terms' runs' best' : List ℕ} {n : ℕ} → starting_term lim t (pool_of terms runs) c ≡ refused n → Holds terms' runs' → Kept lim t (pool_of terms' runs') best'
-    → Grows terms runs terms' runs' (pool_of terms' runs') → Keeps t best best' → Makes lim t c terms runs best terms' runs' best' E.Full
+    → Grows terms runs terms' runs' (pool_of terms' runs') → Keeps t best best' → Makes lim t c terms runs best terms' runs' best' None
 from-refused q h k g s = record { answer = rw q refl; holds = h; kept = k; pool = λ a z. absurd (refused-ok (sym q ∙ z)); grows = g; keeps = s; marks = λ a z. absurd (refused-ok (sym q ∙ z)) }
 
 module _ (lim : Limits) (t : Tables) (terms runs best : List ℕ) (l r : ℕ) (terms₁ runs₁ best₁ : List ℕ) where
   abbrev p : Pool
   p = pool_of terms runs
 
-  pub start-full : Builds lim t terms runs best l terms₁ runs₁ best₁ E.Full → Makes lim t (l, r) terms runs best terms₁ runs₁ best₁ E.Full
+  pub start-full : Builds lim t terms runs best l terms₁ runs₁ best₁ None → Makes lim t (l, r) terms runs best terms₁ runs₁ best₁ None
   start-full X = let (n, e) = full-told _ X.answer in from-refused {n = n} (go (ℕ_discrete l r) n e) X.holds X.kept X.grows X.keeps
     where
       go : Dec (l ≡ r) → (n : ℕ) → best_term lim t p l ≡ refused n → starting_term lim t p (l, r) ≡ refused n
       go (yes q) n e = starting-same lim t p l r q ∙ e
       go (no q) n e = starting-two lim t p l r q ∙ rw e refl
 
-  module _ (a : ℕ) (X : Builds lim t terms runs best l terms₁ runs₁ best₁ (E.Term a)) where
-    pub start-same : Valid t → l < length t.classes → l < length best → l ≡ r → Makes lim t (l, r) terms runs best terms₁ runs₁ best₁ (E.Term a)
+  module _ (a : ℕ) (X : Builds lim t terms runs best l terms₁ runs₁ best₁ (Some a)) where
+    pub start-same : Valid t → l < length t.classes → l < length best → l ≡ r → Makes lim t (l, r) terms runs best terms₁ runs₁ best₁ (Some a)
     start-same v hl hb e = record {
       answer = X.answer ∙ sym (ap entered_of (starting-same lim t p l r e));
       holds = X.holds;
@@ -87,14 +85,14 @@ module _ (lim : Limits) (t : Tables) (terms runs best : List ℕ) (l r : ℕ) (t
     one = let (x, e, f) = term_told _ a X.answer in (x, e, f, X.pool x e)
 
     module _ (d : l ≡ r → ⊥) (terms₂ runs₂ best₂ : List ℕ) where
-      pub start-full-second : Builds lim t terms₁ runs₁ best₁ r terms₂ runs₂ best₂ E.Full → Makes lim t (l, r) terms runs best terms₂ runs₂ best₂ E.Full
+      pub start-full-second : Builds lim t terms₁ runs₁ best₁ r terms₂ runs₂ best₂ None → Makes lim t (l, r) terms runs best terms₂ runs₂ best₂ None
       start-full-second Y =
           let (x, e, f, g) = one in
           let (n, k) = full-told _ Y.answer in
           let q : best_term lim t x.pool r ≡ refused n = ap (λ (z : Pool). best_term lim t z r) (sym g) ∙ k in
           from-refused {n = n} (starting-two lim t p l r d ∙ rw (e, q) refl) Y.holds Y.kept (grows_then X.grows Y.grows) (keeps_then X.keeps Y.keeps)
 
-      module _ (v : Valid t) (w : PoolValid p) (hl : l < length t.classes) (hr : r < length t.classes) (b : ℕ) (Y : Builds lim t terms₁ runs₁ best₁ r terms₂ runs₂ best₂ (E.Term b)) where
+      module _ (v : Valid t) (w : PoolValid p) (hl : l < length t.classes) (hr : r < length t.classes) (b : ℕ) (Y : Builds lim t terms₁ runs₁ best₁ r terms₂ runs₂ best₂ (Some b)) where
         two : (y : Interned) × (best_term lim t (pool_of terms₁ runs₁) r ≡ ok y) × (y.term ≡ b) × (pool_of terms₂ runs₂ ≡ y.pool)
         two = let (y, e, f) = term_told _ b Y.answer in (y, e, f, Y.pool y e)
 
@@ -107,7 +105,7 @@ module _ (lim : Limits) (t : Tables) (terms runs best : List ℕ) (l r : ℕ) (t
             let i : x.term < length (pool_of terms₁ runs₁) = omega (arith, A.within, ap length g) in
             (omega (arith, extends-within B.grown x.term i, ap length n, pool-length terms₂ runs₂), omega (arith, B.within, ap length n, pool-length terms₂ runs₂))
 
-        pub start-marked : (terms₃ runs₃ : List ℕ) (o : Entered) → Gives terms₂ runs₂ terms₃ runs₃ (intern lim (pool_of terms₂ runs₂) (variants_node a b)) o → Makes lim t (l, r) terms runs best terms₃ runs₃ best₂ o
+        pub start-marked : (terms₃ runs₃ : List ℕ) (o : Option ℕ) → Gives terms₂ runs₂ terms₃ runs₃ (intern lim (pool_of terms₂ runs₂) (variants_node a b)) o → Makes lim t (l, r) terms runs best terms₃ runs₃ best₂ o
         start-marked terms₃ runs₃ o G = record {
           answer = G.answer ∙ sym (ap entered_of is);
           holds = G.holds;
@@ -166,7 +164,7 @@ pub starts-cleared : (terms runs best terms₁ runs₁ best₁ : List ℕ) → l
 starts-cleared terms runs best terms₁ runs₁ best₁ lt lr lb terms₂ runs₂ best₂ z = (z.0 ∙ ap (λ (k : ℕ). replicate k 0) lt, z.1 ∙ ap (λ (k : ℕ). replicate k 0) lr, z.2 ∙ ap (λ (k : ℕ). replicate k 0) lb)
 
 module _ (lim : Limits) (t : Tables) (c : Two) (terms runs best terms₁ runs₁ best₁ : List ℕ) where
-  pub starts-made : (a : ℕ) → length best₁ ≡ length best → Makes lim t c terms runs best terms₁ runs₁ best₁ (E.Term a) → Starts lim t c terms runs best terms₁ runs₁ best₁ (E.Term a)
+  pub starts-made : (a : ℕ) → length best₁ ≡ length best → Makes lim t c terms runs best terms₁ runs₁ best₁ (Some a) → Starts lim t c terms runs best terms₁ runs₁ best₁ (Some a)
   starts-made a long X =
       let (y, e, f) = term_told _ a X.answer in record {
         answer = X.answer;
@@ -176,8 +174,8 @@ module _ (lim : Limits) (t : Tables) (c : Two) (terms runs best terms₁ runs₁
         cleared = λ n q. absurd (refused-ok (sym q ∙ e));
       }
 
-  pub starts-full : length terms₁ ≡ length terms → length runs₁ ≡ length runs → length best₁ ≡ length best → Makes lim t c terms runs best terms₁ runs₁ best₁ E.Full
-      → (terms₂ runs₂ best₂ : List ℕ) → Cleared terms₁ runs₁ best₁ terms₂ runs₂ best₂ → Starts lim t c terms runs best terms₂ runs₂ best₂ E.Full
+  pub starts-full : length terms₁ ≡ length terms → length runs₁ ≡ length runs → length best₁ ≡ length best → Makes lim t c terms runs best terms₁ runs₁ best₁ None
+      → (terms₂ runs₂ best₂ : List ℕ) → Cleared terms₁ runs₁ best₁ terms₂ runs₂ best₂ → Starts lim t c terms runs best terms₂ runs₂ best₂ None
   starts-full lt lr lb X terms₂ runs₂ best₂ z =
       let (n, e) = full-told _ X.answer in record {
         answer = X.answer;
@@ -205,6 +203,6 @@ unfolding bests_after
 bests-length lim t p best c = length-map (up_from 0 (length best)) (best_after lim t p best c) ∙ up-length 0 (length best)
 
 -- what the next starting term asks
-pub starts-next : {lim : Limits} {t : Tables} {c : Two} {terms runs best terms' runs' best' : List ℕ} {r : Entered} → Starts lim t c terms runs best terms' runs' best' r → (a : Interned) → starting_term lim t (pool_of terms runs) c ≡ ok a
+pub starts-next : {lim : Limits} {t : Tables} {c : Two} {terms runs best terms' runs' best' : List ℕ} {r : Option ℕ} → Starts lim t c terms runs best terms' runs' best' r → (a : Interned) → starting_term lim t (pool_of terms runs) c ≡ ok a
     → Holds terms' runs' × (length best' ≡ length best) × Kept lim t (pool_of terms' runs') best'
 starts-next {lim} {t} {c} {terms} {runs} {best} S a e = ((S.grows a e).holds, ap length (S.best_is a e) ∙ bests-length lim t a.pool best c, rw (S.grows a e).pool (S.kept a e))

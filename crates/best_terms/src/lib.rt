@@ -13,7 +13,6 @@ ghost use Rattle.best_terms.specs.Building.{Builds};
 ghost use Rattle.best_terms.specs.Starting.{Makes, Starts};
 
 use image::Image;
-use interning::Entered;
 use query::Limits;
 use term_clearing::clear;
 
@@ -26,7 +25,7 @@ fn build_best_term(
     runs: &mut [u64],
     best: &mut [u16],
     class: usize,
-) -> Entered
+) -> Option<usize>
     requires { Holds terms.old runs.old × Loaded s.now im × Valid (tables_of s.now) × (class < im.classes) × (length best.old ≡ 256) × Kept (limits_of lim) (tables_of s.now) (pool_of terms.old runs.old) best.old × (get_or best.old class 0 ≡ 0) × Rooms (limits_of lim) terms.old runs.old }
     ensures { Builds (limits_of lim) (tables_of s.now) terms.old runs.old best.old class terms.new runs.new best.new result }
 {
@@ -36,31 +35,19 @@ fn build_best_term(
         let m = classes::best_member(s, im, c);
         let k = members::first_child(s, im, m);
         let n = members::child_count(s, im, m);
-        let mut i = 0;
-        let t = 'inner: loop {
-            if i >= n {
-                let e = member_terms::member_term(lim, s, im, terms, runs, best, m);
-                match e {
-                    Entered::Full => {
-                        return Entered::Full;
-                    }
-                    Entered::Term(a) => {
-                        break 'inner a;
-                    }
-                }
-            }
+        for i in 0..n {
             let d = members::child_class(s, im, k + i);
             if stores::at_u16(best, d) == 0 {
                 stores::put_u16(&mut waiting, d, c + 1);
                 c = d;
                 continue 'outer;
             }
-            i += 1;
-        };
+        }
+        let t = member_terms::member_term(lim, s, im, terms, runs, best, m)?;
         stores::put_u16(best, c, t + 1);
         let q = stores::at_u16(&waiting, c);
         if q == 0 {
-            return Entered::Term(t);
+            return Some(t);
         }
         c = q - 1;
     }
@@ -75,7 +62,7 @@ fn best_term(
     runs: &mut [u64],
     best: &mut [u16],
     class: usize,
-) -> Entered
+) -> Option<usize>
     requires { Holds terms.old runs.old × Loaded s.now im × Valid (tables_of s.now) × (class < im.classes) × (length best.old ≡ 256) × Kept (limits_of lim) (tables_of s.now) (pool_of terms.old runs.old) best.old × Rooms (limits_of lim) terms.old runs.old }
     ensures { Builds (limits_of lim) (tables_of s.now) terms.old runs.old best.old class terms.new runs.new best.new result }
 {
@@ -83,7 +70,7 @@ fn best_term(
     if b == 0 {
         return build_best_term(lim, s, im, terms, runs, best, class);
     }
-    Entered::Term(b - 1)
+    Some(b - 1)
 }
 
 // The starting term of a pair of classes: the best term of one class, or the marked place of two best terms.
@@ -96,30 +83,16 @@ fn starting_term(
     best: &mut [u16],
     l: usize,
     r: usize,
-) -> Entered
+) -> Option<usize>
     requires { Holds terms.old runs.old × Loaded s.now im × Valid (tables_of s.now) × (l < im.classes) × (r < im.classes) × (length best.old ≡ 256) × Kept (limits_of lim) (tables_of s.now) (pool_of terms.old runs.old) best.old × Rooms (limits_of lim) terms.old runs.old }
     ensures { Makes (limits_of lim) (tables_of s.now) (l, r) terms.old runs.old best.old terms.new runs.new best.new result }
 {
-    let x = best_term(lim, s, im, terms, runs, best, l);
-    match x {
-        Entered::Full => {
-            return Entered::Full;
-        }
-        Entered::Term(a) => {
-            if l == r {
-                return Entered::Term(a);
-            }
-            let y = best_term(lim, s, im, terms, runs, best, r);
-            match y {
-                Entered::Full => {
-                    return Entered::Full;
-                }
-                Entered::Term(b) => {
-                    return marked::variants(lim, terms, runs, a, b);
-                }
-            }
-        }
+    let a = best_term(lim, s, im, terms, runs, best, l)?;
+    if l == r {
+        return Some(a);
     }
+    let b = best_term(lim, s, im, terms, runs, best, r)?;
+    marked::variants(lim, terms, runs, a, b)
 }
 
 // The starting term of a pair of classes; best keeps the best terms that it was made of. A refusal clears the buffers.
@@ -132,18 +105,13 @@ pub fn evaluate_generalize_action(
     best: &mut [u16],
     l: usize,
     r: usize,
-) -> Entered
+) -> Option<usize>
     requires { Holds terms.old runs.old × Loaded s.now im × Valid (tables_of s.now) × (l < im.classes) × (r < im.classes) × (length best.old ≡ 256) × Kept (limits_of lim) (tables_of s.now) (pool_of terms.old runs.old) best.old × Rooms (limits_of lim) terms.old runs.old }
     ensures { Starts (limits_of lim) (tables_of s.now) (l, r) terms.old runs.old best.old terms.new runs.new best.new result }
 {
     let e = starting_term(lim, s, im, terms, runs, best, l, r);
-    match e {
-        Entered::Full => {
-            clear(terms, runs, best);
-            return Entered::Full;
-        }
-        Entered::Term(a) => {
-            return Entered::Term(a);
-        }
+    if e.is_none() {
+        clear(terms, runs, best);
     }
+    e
 }

@@ -1,5 +1,5 @@
 -- What the parts of `lines_of_card` give together.
-use Rattle.std.specs.Prelude.{Result, Ok, Err, ◌≡◌, Bool, true, false, not, List, [], ◌++◌, ℕ, ◌*◌, ◌≤◌, ◌<◌, ltb, leb, eqb, length, take, drop}
+use Rattle.std.specs.Prelude.{Option, Some, None, Result, Ok, Err, ◌≡◌, Bool, true, false, not, List, [], ◌++◌, ℕ, ◌*◌, ◌≤◌, ◌<◌, ltb, leb, eqb, length, take, drop}
 use Rattle.std.proofs.Math.Path.{refl, sym, ap}
 use Rattle.std.proofs.Common.{◌∙◌, inl, inr, arith, length-append, ltb-true}
 use Rattle.std.proofs.Math.Seq.{take-append_seam}
@@ -20,8 +20,6 @@ use Rattle.terms.specs.PoolLaws.{pool-length, rooms_same}
 use Rattle.terms.specs.Chains.{Holds, Rooms}
 use Rattle.terms.specs.Emptying.{emptied, emptied-holds, emptied-length, emptied-pool}
 use Rattle.listing.specs.Lists.{Behind}
-use Rattle.listing.specs.declared.Written.{Written}
-use Rattle.listing.specs.declared.Written.TheVariants as W
 use Rattle.interning.specs.Interning.{pool_after}
 use Rattle.card_reader.specs.CardReading.{read_of, CardRead}
 use Rattle.card_reader.specs.declared.Unread.{Unread}
@@ -37,30 +35,30 @@ use Rattle.card_buffers.specs.BufferLaws.{not-true, not-false, cleared-same}
 abbrev pub listed_term : Pool → ℕ → ℕ → Res (List ℕ)
 listed_term p a room = rule 14 (leb (length (lines_of p a)) room) >>= λ _. ok (lines_of p a)
 
-abbrev pub answer_as : Written → Answer
-answer_as (W.Bytes n) = Text n
-answer_as W.Full = Refused 14
+abbrev pub answer_as : Option ℕ → Answer
+answer_as (Some n) = Text n
+answer_as None = Refused 14
 
-bytes-inj : {m n : ℕ} → W.Bytes m ≡ W.Bytes n → m ≡ n
+bytes-inj : {m n : ℕ} → Some m ≡ Some n → m ≡ n
 bytes-inj e = cc
 
-bytes-full : {n : ℕ} → W.Bytes n ≡ W.Full → ⊥
+bytes-full : {n : ℕ} → Some n ≡ None → ⊥
 bytes-full e = let z : ◌≡◌ {A = ℕ} 0 1 = cc in omega arith
 
-pub listed-answers : (terms runs : List ℕ) (root : ℕ) (marks out marks' out' : List ℕ) (w : Written) (a : Answer) → a ≡ answer_as w → Behind [] terms runs root marks out marks' out' w → Answers (listed_term (pool_of terms runs) root (length out)) out out' a
+pub listed-answers : (terms runs : List ℕ) (root : ℕ) (marks out marks' out' : List ℕ) (w : Option ℕ) (a : Answer) → a ≡ answer_as w → Behind [] terms runs root marks out marks' out' w → Answers (listed_term (pool_of terms runs) root (length out)) out out' a
 unfolding output_after
 listed-answers terms runs root marks out marks' out' w a e B = rw e (go (leb (length l) (length out)) refl w B.answer B.output)
   where
     l : List ℕ
     l = lines_of (pool_of terms runs) root
 
-    go : (b : Bool) → leb (length l) (length out) ≡ b → (w : Written) → w ≡ pick b (W.Bytes (length l)) W.Full → out' ≡ pick b (l ++ drop (length l) out) out → Answers (listed_term (pool_of terms runs) root (length out)) out out' (answer_as w)
-    go true q (W.Bytes n) f o =
+    go : (b : Bool) → leb (length l) (length out) ≡ b → (w : Option ℕ) → w ≡ pick b (Some (length l)) None → out' ≡ pick b (l ++ drop (length l) out) out → Answers (listed_term (pool_of terms runs) root (length out)) out out' (answer_as w)
+    go true q (Some n) f o =
         let t : take n out' ≡ l = rw (bytes-inj f, o) (take-append_seam l (drop (length l) out)) in
         record { answer = rw q (ap (λ (z : List ℕ). ok z) t); output = rw q o; inside = rw o (omega (arith, bytes-inj f, length-append l (drop (length l) out))) }
-    go true q W.Full f o = absurd (bytes-full (sym f))
-    go false q (W.Bytes n) f o = absurd (bytes-full f)
-    go false q W.Full f o = record { answer = rw q refl; output = rw q o; inside = tt }
+    go true q None f o = absurd (bytes-full (sym f))
+    go false q (Some n) f o = absurd (bytes-full f)
+    go false q None f o = record { answer = rw q refl; output = rw q o; inside = tt }
 
 -- ---- a text read into an empty pool
 -- none is too short for a text of so many bytes

@@ -13,7 +13,6 @@ ghost use Rattle.card_to_lines.specs.LineLaws.{answer_as, listed_term, fit_text,
 use card_buffers::{clear_all, short};
 use card_contract::Answer;
 use card_reader::Unread;
-use listing::Written;
 use spec::Caller;
 
 fn refuse(k: u8) -> Answer
@@ -23,12 +22,12 @@ fn refuse(k: u8) -> Answer
 }
 
 // what was written of lines, as the answer
-fn answer_of(w: Written) -> Answer
+fn answer_of(w: Option<usize>) -> Answer
     ensures { result ≡ answer_as w }
 {
     match w {
-        Written::Bytes(n) => Answer::Text(n),
-        Written::Full => Answer::Refused(14),
+        Some(n) => Answer::Text(n),
+        None => Answer::Refused(14),
     }
 }
 

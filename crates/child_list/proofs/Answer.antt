@@ -17,17 +17,18 @@ use Rattle.class_place.specs.Standing.{places, stands, count_there}
 use Rattle.class_place.specs.StandingLaws.{half-places}
 use Rattle.child_list.specs.Adding.{count_with, added_of, laid, list_after, terms_after, read_after, Adds, Fits}
 use Rattle.child_list.specs.AddLaws.{laid-terms, laid-rest, held-laid, hit-length, miss-length, hit-count, miss-count}
-use Rattle.child_list.specs.declared.Added.{Added}
-use Rattle.child_list.specs.declared.Added.TheVariants.{Held, Full, Overflow}
+use Rattle.std.proofs.Common.{Result, Ok, Err}
+use Rattle.child_list.specs.declared.NotAdded.{NotAdded}
+use Rattle.child_list.specs.declared.NotAdded.TheVariants.{Full, Overflow}
 
 -- ---- a refusal leaves the list as it was
-refused_as : (n c k : ℕ) (s : List ℕ) (r : Added) → r ≡ added_of n c k s → list_after r n c k s ≡ s → ((l : List Two) → held n s ≡ monomial l → held (terms_after r n) s ≡ monomial (read_after r c k l)) → Adds n c k s s r
+refused_as : (n c k : ℕ) (s : List ℕ) (r : Result ℕ NotAdded) → r ≡ added_of n c k s → list_after r n c k s ≡ s → ((l : List Two) → held n s ≡ monomial l → held (terms_after r n) s ≡ monomial (read_after r c k l)) → Adds n c k s s r
 refused_as n c k s r e f g = record { answer = e; list = rw (← e) (sym f); monomial-of = g }
 
 -- the n terms have no places
-pub adds-unlisted : (n c k : ℕ) (s : List ℕ) → length s / 2 < n → Adds n c k s s Full
+pub adds-unlisted : (n c k : ℕ) (s : List ℕ) → length s / 2 < n → Adds n c k s s (Err Full)
 unfolding added_of
-adds-unlisted n c k s h = refused_as n c k s Full (sym (rw (lt-ltb (places s) n (omega (arith, half-places s))) refl)) refl (λ l e. e)
+adds-unlisted n c k s h = refused_as n c k s (Err Full) (sym (rw (lt-ltb (places s) n (omega (arith, half-places s))) refl)) refl (λ l e. e)
 
 -- the n terms have places
 module _ (n c k : ℕ) (s : List ℕ) (h : n ≤ length s / 2) where
@@ -40,15 +41,15 @@ module _ (n c k : ℕ) (s : List ℕ) (h : n ≤ length s / 2) where
   len : length (held n s) ≡ n
   len = held-full n s listed
 
-  pub adds-full : (x : Bool) → x ≡ pick (stands c (held n s)) false (leb (places s) n) → x ≡ true → Adds n c k s s Full
+  pub adds-full : (x : Bool) → x ≡ pick (stands c (held n s)) false (leb (places s) n) → x ≡ true → Adds n c k s s (Err Full)
   unfolding added_of
   adds-full x e t = step (stands c (held n s)) refl (sym e ∙ t)
     where
-      step : (b : Bool) → stands c (held n s) ≡ b → pick b false (leb (places s) n) ≡ true → Adds n c k s s Full
+      step : (b : Bool) → stands c (held n s) ≡ b → pick b false (leb (places s) n) ≡ true → Adds n c k s s (Err Full)
       step true q f = absurd (clash (sym f))
       step false q f =
           let g : places s < length (insert_add c k (held n s)) = omega (arith, leb-true (places s) n f, miss-length c k (held n s) q, len) in
-          refused_as n c k s Full (sym (rw (few, lt-ltb (places s) (length (insert_add c k (held n s))) g) refl)) refl (λ l e. e)
+          refused_as n c k s (Err Full) (sym (rw (few, lt-ltb (places s) (length (insert_add c k (held n s))) g) refl)) refl (λ l e. e)
 
   -- there is a place for it
   module _ (x : Bool) (e : x ≡ pick (stands c (held n s)) false (leb (places s) n)) (t : x ≡ false) where
@@ -65,14 +66,14 @@ module _ (n c k : ℕ) (s : List ℕ) (h : n ≤ length s / 2) where
     placed : ltb (places s) (length (insert_add c k (held n s))) ≡ false
     placed = le-ltb (places s) (length (insert_add c k (held n s))) fits
 
-    pub adds-overflow : (y : Bool) → y ≡ pick (stands c (held n s)) (leb (2 ^ 64) (count_there c (held n s) + k)) false → y ≡ true → Adds n c k s s Overflow
+    pub adds-overflow : (y : Bool) → y ≡ pick (stands c (held n s)) (leb (2 ^ 64) (count_there c (held n s) + k)) false → y ≡ true → Adds n c k s s (Err Overflow)
     unfolding added_of
     adds-overflow y f u = step (stands c (held n s)) refl (sym f ∙ u)
       where
-        step : (b : Bool) → stands c (held n s) ≡ b → pick b (leb (2 ^ 64) (count_there c (held n s) + k)) false ≡ true → Adds n c k s s Overflow
+        step : (b : Bool) → stands c (held n s) ≡ b → pick b (leb (2 ^ 64) (count_there c (held n s) + k)) false ≡ true → Adds n c k s s (Err Overflow)
         step true q g =
             let w : 2 ^ 64 ≤ count_with c k (held n s) = omega (arith, leb-true (2 ^ 64) (count_there c (held n s) + k) g, hit-count c k (held n s) q) in
-            refused_as n c k s Overflow (sym (rw (few, placed, le-ltb (count_with c k (held n s)) (2 ^ 64) w) refl)) refl (λ l e. e)
+            refused_as n c k s (Err Overflow) (sym (rw (few, placed, le-ltb (count_with c k (held n s)) (2 ^ 64) w) refl)) refl (λ l e. e)
         step false q g = absurd (clash (sym g))
 
     -- and its count has 64 bits
@@ -90,14 +91,14 @@ module _ (n c k : ℕ) (s : List ℕ) (h : n ≤ length s / 2) where
       pub fits-at : (p : ℕ) → p ≡ position c (held n s) → p ≤ n → Fits n p c k s
       fits-at p g w = record { listed = listed; place = g; within = w; room = λ q. omega (arith, new-place q, two-each s); count = there-fits }
 
-      pub adds-held : (s' : List ℕ) (m : ℕ) → Holds (insert_add c k (held n s)) s s' m × (rest s' ≡ rest s) → Adds n c k s s' (Held m)
+      pub adds-held : (s' : List ℕ) (m : ℕ) → Holds (insert_add c k (held n s)) s s' m × (rest s' ≡ rest s) → Adds n c k s s' (Ok m)
       unfolding added_of
       adds-held s' m (g, w) =
           let M : Monomial = insert_add c k (held n s) in
-          let q : added_of n c k s ≡ Held (length M) = rw (few, placed, lt-ltb (count_with c k (held n s)) (2 ^ 64) counted) refl in
+          let q : added_of n c k s ≡ Ok (length M) = rw (few, placed, lt-ltb (count_with c k (held n s)) (2 ^ 64) counted) refl in
           let z : s' ≡ laid M s = same-buffer s' (laid M s) (g.whole ∙ sym (laid-terms M s fits)) (w ∙ sym (laid-rest M s fits)) in
           record {
-            answer = ap Held g.len ∙ sym q;
+            answer = ap Ok g.len ∙ sym q;
             list = rw q z;
             monomial-of = λ l o. rw (z, g.len) (held-laid M s fits ∙ ap (insert_add c k) o ∙ sym (monomial-more l (c, k)));
           }

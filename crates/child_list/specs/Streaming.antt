@@ -1,5 +1,5 @@
 -- (02, Paper 6) "The image desk streams a member's children": theorems about calls of `add_child`, one after another.
-use Rattle.std.specs.Prelude.{◌≡◌, refl, Bool, true, false, List, [], ◌∷◌, ◌++◌, ℕ, suc, ◌+◌, ◌*◌, ◌≤◌, ◌<◌, ◌^◌, ltb, leb, eqb, length, drop, get_or}
+use Rattle.std.specs.Prelude.{◌≡◌, refl, Bool, true, false, List, [], ◌∷◌, ◌++◌, ℕ, suc, ◌+◌, ◌*◌, ◌≤◌, ◌<◌, ◌^◌, ltb, leb, eqb, length, drop, get_or, Result, Ok, Err}
 use Rattle.std.proofs.Common.{sym, ap, ◌∙◌, arith, lt-ltb, le-ltb, ltb-true, ltb-false, eqb-true, ne_eqb, leb-true, length-append, length-drop}
 use Rattle.spec.specs.Bytes.{Two, pick, all, sum}
 use Rattle.spec.specs.Monomial.{Monomial, insert_add, add_all, monomial, total, narrow}
@@ -11,13 +11,13 @@ use Rattle.monomial_terms.specs.TermLaws.{two-each, grow}
 use Rattle.class_place.specs.Standing.{places}
 use Rattle.child_list.specs.Adding.{count_with, added_of, laid, list_after, terms_after, read_after, Adds}
 use Rattle.child_list.specs.AddLaws.{laid-terms}
-use Rattle.child_list.specs.declared.Added.{Added}
-use Rattle.child_list.specs.declared.Added.TheVariants.{Held, Full, Overflow}
+use Rattle.child_list.specs.declared.NotAdded.{NotAdded}
+use Rattle.child_list.specs.declared.NotAdded.TheVariants.{Full, Overflow}
 
 -- Calls one after another in one buffer, from an empty list on: the children that were added, how many terms the list holds, and the buffer.
 pub data Streamed : List Two → ℕ → List ℕ → Type 0 where
   begun : {s : List ℕ} → Streamed [] 0 s
-  read : {l : List Two} {n c k : ℕ} {s s' : List ℕ} {r : Added} → Streamed l n s → Adds n c k s s' r → Streamed (read_after r c k l) (terms_after r n) s'
+  read : {l : List Two} {n c k : ℕ} {s s' : List ℕ} {r : Result ℕ NotAdded} → Streamed l n s → Adds n c k s s' r → Streamed (read_after r c k l) (terms_after r n) s'
 
 -- "after each child, the list held is the monomial of the children read so far", whatever the buffer held, and after refusals too
 pub after-each : {l : List Two} {n : ℕ} {s : List ℕ} → Streamed l n s → held n s ≡ monomial l
@@ -58,7 +58,7 @@ count-with c k b (t ∷ m) (more g r) = step (ltb t.0 c) refl (eqb t.0 c) refl (
 
 -- Full exactly where the classes read so far, with the child's, have no places; Overflow where the counts of its class, with the child's, pass 64 bits.
 pub answer-by : (l : List Two) (n c k : ℕ) (s : List ℕ) → held n s ≡ monomial l → n ≤ places s
-    → added_of n c k s ≡ pick (ltb (places s) (length (monomial (l ++ ((c, k) ∷ []))))) Full (pick (ltb (count_in c l + k) (2 ^ 64)) (Held (length (monomial (l ++ ((c, k) ∷ []))))) Overflow)
+    → added_of n c k s ≡ pick (ltb (places s) (length (monomial (l ++ ((c, k) ∷ []))))) (Err Full) (pick (ltb (count_in c l + k) (2 ^ 64)) (Ok (length (monomial (l ++ ((c, k) ∷ []))))) (Err Overflow))
 unfolding added_of
 answer-by l n c k s e h =
     let m : insert_add c k (held n s) ≡ monomial (l ++ ((c, k) ∷ [])) = ap (insert_add c k) e ∙ sym (monomial-more l (c, k)) in
@@ -77,8 +77,8 @@ held-within n c k s h = step (ltb (places s) n) (ltb (places s) (length M)) refl
     M : Monomial
     M = insert_add c k (held n s)
 
-    answer : Bool → Bool → Bool → Added
-    answer a b d = pick a Full (pick b Full (pick d (Held (length M)) Overflow))
+    answer : Bool → Bool → Bool → Result ℕ NotAdded
+    answer a b d = pick a (Err Full) (pick b (Err Full) (pick d (Ok (length M)) (Err Overflow)))
 
     step : (a b : Bool) → ltb (places s) (length M) ≡ b → (d : Bool) → terms_after (answer a b d) n ≤ places (list_after (answer a b d) n c k s)
     step true b e d = h
@@ -106,7 +106,7 @@ count-within c (t ∷ l) = step (eqb t.0 c) (count-within c l)
     step false h = omega arith
 
 -- Where each child may have a place of its own and the counts' sum has 64 bits, every child is added.
-pub always-added : {l : List Two} {n : ℕ} {s : List ℕ} → Streamed l n s → (c k : ℕ) → length l < places s → total l + k < 2 ^ 64 → added_of n c k s ≡ Held (length (monomial (l ++ ((c, k) ∷ []))))
+pub always-added : {l : List Two} {n : ℕ} {s : List ℕ} → Streamed l n s → (c k : ℕ) → length l < places s → total l + k < 2 ^ 64 → added_of n c k s ≡ Ok (length (monomial (l ++ ((c, k) ∷ []))))
 always-added {l} {n} {s} d c k h g =
     let f : length (monomial (l ++ ((c, k) ∷ []))) ≤ places s = omega (arith, few-all [] (l ++ ((c, k) ∷ [])), length-append l ((c, k) ∷ [])) in
     let z : count_in c l + k < 2 ^ 64 = omega (arith, count-within c l) in
@@ -123,5 +123,5 @@ narrow-total (t ∷ l) e = step (leb t.1 4294967295) refl e (narrow-total l)
 
 -- "child count (2, at most 64)", "count (4, at least 1)": a member's children, each count at most 4,294,967,295, in a buffer of 128 numbers or more
 pub member-added : {l : List Two} {n : ℕ} {s : List ℕ} → Streamed l n s → (c k : ℕ) → 128 ≤ length s → length l < 64 → narrow l ≡ true → k ≤ 4294967295
-    → added_of n c k s ≡ Held (length (monomial (l ++ ((c, k) ∷ []))))
+    → added_of n c k s ≡ Ok (length (monomial (l ++ ((c, k) ∷ []))))
 member-added {l} {n} {s} d c k w h t u = always-added d c k (omega (arith, two-each s)) (omega (arith, narrow-total l t))

@@ -1,16 +1,16 @@
 -- Paper 6 by evaluation: the answer, the number of terms and the whole buffer after each child.
-use Rattle.std.specs.Prelude.{◌≡◌, refl, List, [], ◌∷◌, ℕ}
+use Rattle.std.specs.Prelude.{◌≡◌, refl, List, [], ◌∷◌, ℕ, Result, Ok, Err}
 use Rattle.spec.specs.Bytes.{Two}
 use Rattle.spec.specs.Monomial.{Monomial, add_all, monomial}
 use Rattle.child_list.specs.Adding.{added_of, laid, list_after, terms_after, read_after}
-use Rattle.child_list.specs.declared.Added.{Added}
-use Rattle.child_list.specs.declared.Added.TheVariants.{Held, Full, Overflow}
+use Rattle.child_list.specs.declared.NotAdded.{NotAdded}
+use Rattle.child_list.specs.declared.NotAdded.TheVariants.{Full, Overflow}
 
 -- ---- the answers as numbers
-abbrev said : Added → ℕ
-said (Held m) = 0
-said Full = 1
-said Overflow = 2
+abbrev said : Result ℕ NotAdded → ℕ
+said (Ok m) = 0
+said (Err Full) = 1
+said (Err Overflow) = 2
 
 -- children one after another, in a list of n terms
 abbrev pub stream : ℕ → List ℕ → List Two → List (List ℕ)
@@ -84,11 +84,11 @@ unfolding added_of laid
 everywhere = refl
 
 -- ---- the children read so far: the child last, and none that was refused
-read-added : read_after (Held 2) 4 2 ((4, 1) ∷ (2, 3) ∷ []) ≡ (4, 1) ∷ (2, 3) ∷ (4, 2) ∷ []
+read-added : read_after (Ok 2) 4 2 ((4, 1) ∷ (2, 3) ∷ []) ≡ (4, 1) ∷ (2, 3) ∷ (4, 2) ∷ []
 read-added = refl
 
-read-full : read_after Full 4 2 ((4, 1) ∷ (2, 3) ∷ []) ≡ (4, 1) ∷ (2, 3) ∷ []
+read-full : read_after (Err Full) 4 2 ((4, 1) ∷ (2, 3) ∷ []) ≡ (4, 1) ∷ (2, 3) ∷ []
 read-full = refl
 
-read-overflow : read_after Overflow 4 2 ((4, 1) ∷ (2, 3) ∷ []) ≡ (4, 1) ∷ (2, 3) ∷ []
+read-overflow : read_after (Err Overflow) 4 2 ((4, 1) ∷ (2, 3) ∷ []) ≡ (4, 1) ∷ (2, 3) ∷ []
 read-overflow = refl

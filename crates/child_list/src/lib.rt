@@ -59,29 +59,27 @@ pub fn add_class(mono: &mut [u64], n: usize, c: u64, k: u64) -> usize
 }
 
 // ---- for outside callers
-#[derive(Clone, Copy)]
-pub enum Added {
-    // how many terms the list holds now
-    Held(usize),
+#[derive(Clone, Copy, PartialEq, Eq, Debug)]
+pub enum NotAdded {
     // the child's class is new and every place is taken, or the buffer has no n terms
     Full,
     // the count of the child's class would pass 64 bits
     Overflow,
 }
 
-// A child of class c and count k in the list of n terms. After each child the list held is the monomial of the children read so far; a child that is refused leaves it as it was.
-pub fn add_child(mono: &mut [u64], n: usize, c: u64, k: u64) -> Added
+// A child of class c and count k in the list of n terms: how many terms the list holds then. After each child the list held is the monomial of the children read so far; a child that is refused leaves it as it was.
+pub fn add_child(mono: &mut [u64], n: usize, c: u64, k: u64) -> Result<usize, NotAdded>
     ensures { Adds n c k mono.old mono.new result }
 {
     if n > mono.len() / 2 {
-        return Added::Full;
+        return Err(NotAdded::Full);
     }
     let p = place(mono, n, c);
     if lacks_place(mono, n, p, c) {
-        return Added::Full;
+        return Err(NotAdded::Full);
     }
     if overflows(mono, n, p, c, k) {
-        return Added::Overflow;
+        return Err(NotAdded::Overflow);
     }
-    Added::Held(add_at(mono, n, p, c, k))
+    Ok(add_at(mono, n, p, c, k))
 }

@@ -1,5 +1,5 @@
 -- Entering pairs: one pair, by what the array says; then list after list. Assumes nothing.
-use Rattle.std.specs.Prelude.{◌≡◌, Bool, true, false, ℕ, ◌+◌, ◌*◌, ◌/◌, ◌%◌, ◌≤◌, ◌<◌, eqb, replicate}
+use Rattle.std.specs.Prelude.{◌≡◌, Bool, true, false, ℕ, ◌+◌, ◌*◌, ◌/◌, ◌%◌, ◌≤◌, ◌<◌, eqb, replicate, Option, Some, None}
 use Rattle.std.proofs.Math.Path.{refl, sym, ap}
 use Rattle.std.proofs.Common.{◌∙◌, arith}
 use Rattle.std.proofs.Math.Logic.{⊎_elim}
@@ -14,8 +14,6 @@ use Rattle.spec.specs.Meaning.{In}
 use Rattle.laws.specs.Lists.{in_left, in_right, in-append, in-cons, in-nil, is-in, in-any, get_in}
 use Rattle.arrays.specs.Arrays.{number_in, key_of, unkey, pairs_in}
 use Rattle.arrays.specs.ArrayLaws.{place-lt, unkey-key, unkeyed-length, unkeyed-at}
-use Rattle.entering.specs.declared.Grown.{Grown}
-use Rattle.entering.specs.declared.Grown.TheVariants.{To, Full}
 use Rattle.entering.specs.Entered.{with_pair, entered, cleared}
 use Rattle.entering.specs.Growing.{Small, AllSmall, Laid, Graph, Going, Grows, Enters}
 use Rattle.entering.specs.EnteredLaws.{with-length, entered-last, entered-pairs, Numbered, kept, given, numbered-at, place-one}
@@ -104,13 +102,13 @@ module _ (lim : Limits) {w n : ℕ} {graph : List ℕ} (g : Graph lim w n graph)
   length_pairs : length (pairs_in w graph n) ≡ n
   length_pairs = unkeyed-length graph (w * w) n
 
-  pub stays : true ≡ any (same_two (l, r)) (pairs_in w graph n) → Enters lim w n (l, r) graph graph (To n)
+  pub stays : true ≡ any (same_two (l, r)) (pairs_in w graph n) → Enters lim w n (l, r) graph graph (Some n)
   stays e = record {
     grows = record { says = record { leads = enter-none lim (pairs_in w graph n) ∙ sym (enter-known lim (pairs_in w graph n) (l, r) e); holds = g; small = none-small } };
     graph = rw (← e) refl;
   }
 
-  pub fills : false ≡ any (same_two (l, r)) (pairs_in w graph n) → lim.pairs ≤ n → Enters lim w n (l, r) graph graph Full
+  pub fills : false ≡ any (same_two (l, r)) (pairs_in w graph n) → lim.pairs ≤ n → Enters lim w n (l, r) graph graph None
   fills e h = record {
     grows = record { says = enter-full lim (pairs_in w graph n) (l, r) e (omega (arith, h, length_pairs)) };
     graph = rw (← e, le-ltb n lim.pairs h) refl;
@@ -159,7 +157,7 @@ module _ (lim : Limits) {w n : ℕ} {graph : List ℕ} (g : Graph lim w n graph)
       room = omega (arith, g.room, size);
     }
 
-    pub appends : {graph' : List ℕ} → false ≡ any (same_two (l, r)) (pairs_in w graph n) → graph' ≡ with_pair w n (l, r) graph → Enters lim w n (l, r) graph graph' (To (n + 1))
+    pub appends : {graph' : List ℕ} → false ≡ any (same_two (l, r)) (pairs_in w graph n) → graph' ≡ with_pair w n (l, r) graph → Enters lim w n (l, r) graph graph' (Some (n + 1))
     unfolding more
     appends e z = rw z (record {
       grows = record {
@@ -202,7 +200,7 @@ module _ {lim : Limits} {w : ℕ} {g : Res (List Two)} {rest : List Two} {n : �
     after x q = sym d.leads ∙ then ∙ ap (λ (y : Res (List Two)). y >>= λ qs. enter_all lim qs b) q
 
     -- it is entered, and the rest is left
-    pub going_on : {m : ℕ} {graph' : List ℕ} (x : Grown) → Grows lim w (enter_all lim (pairs_in w graph n) a) graph' x → x ≡ To m → Going lim w g b m graph'
+    pub going_on : {m : ℕ} {graph' : List ℕ} (x : Option ℕ) → Grows lim w (enter_all lim (pairs_in w graph n) a) graph' x → x ≡ Some m → Going lim w g b m graph'
     going_on {m} {graph'} x y z = go (rw z at y.says)
       where
         go : Going lim w (enter_all lim (pairs_in w graph n) a) [] m graph' → Going lim w g b m graph'
@@ -213,14 +211,14 @@ module _ {lim : Limits} {w : ℕ} {g : Res (List Two)} {rest : List Two} {n : �
         }
 
     -- it does not fit
-    pub going-full : {graph' graph'' : List ℕ} (x : Grown) → Grows lim w (enter_all lim (pairs_in w graph n) a) graph' x → x ≡ Full → Grows lim w g graph'' Full
+    pub going-full : {graph' graph'' : List ℕ} (x : Option ℕ) → Grows lim w (enter_all lim (pairs_in w graph n) a) graph' x → x ≡ None → Grows lim w g graph'' None
     going-full x y z = record { says = after (refused 12) (rw z at y.says) }
 
   -- nothing is left
-  pub going_end : rest ≡ [] → Grows lim w g graph (To n)
+  pub going_end : rest ≡ [] → Grows lim w g graph (Some n)
   going_end e = record { says = rw e at d }
 
   -- the rest as one list, whatever the answer
-  pub going-last : {graph' : List ℕ} (x : Grown) → Grows lim w (enter_all lim (pairs_in w graph n) rest) graph' x → Grows lim w g graph' x
-  going-last (To m) y = record { says = going_on rest [] (sym (append-nil rest)) (To m) y refl }
-  going-last Full y = going-full rest [] (sym (append-nil rest)) Full y refl
+  pub going-last : {graph' : List ℕ} (x : Option ℕ) → Grows lim w (enter_all lim (pairs_in w graph n) rest) graph' x → Grows lim w g graph' x
+  going-last (Some m) y = record { says = going_on rest [] (sym (append-nil rest)) (Some m) y refl }
+  going-last None y = going-full rest [] (sym (append-nil rest)) None y refl

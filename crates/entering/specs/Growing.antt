@@ -1,12 +1,10 @@
 -- The graph while it grows: the pairs that the array holds, and what entering a list of pairs leaves.
-use Rattle.std.specs.Prelude.{◌≡◌, List, [], ◌∷◌, ℕ, ◌+◌, ◌*◌, ◌≤◌, ◌<◌, length}
+use Rattle.std.specs.Prelude.{◌≡◌, List, [], ◌∷◌, ℕ, ◌+◌, ◌*◌, ◌≤◌, ◌<◌, length, Option, Some, None}
 use Rattle.spec.specs.Bytes.{Limits, Two, Res, refused}
 use Rattle.spec.specs.Graph.{enter_all}
 use Rattle.spec.specs.Meaning.{In}
 use Rattle.arrays.specs.Arrays.{pairs_in}
 use Rattle.entering.specs.Entered.{entered, cleared, new_pair}
-use Rattle.entering.specs.declared.Grown.{Grown}
-use Rattle.entering.specs.declared.Grown.TheVariants.{To, Full}
 
 -- both classes are among w
 abbrev pub Small : ℕ → Two → Type 0
@@ -37,14 +35,14 @@ pub record Going (lim : Limits) (w : ℕ) (g : Res (List Two)) (rest : List Two)
   pub small : AllSmall w rest
 
 -- What entering leaves, by its answer: nothing more is to be entered; or a pair beyond the limit would be, and the array is open.
-abbrev pub GrowsTo : Limits → ℕ → Res (List Two) → List ℕ → Grown → Type 0
-GrowsTo lim w g graph (To n) = Going lim w g [] n graph
-GrowsTo lim w g graph Full = g ≡ refused 12
+abbrev pub GrowsTo : Limits → ℕ → Res (List Two) → List ℕ → Option ℕ → Type 0
+GrowsTo lim w g graph (Some n) = Going lim w g [] n graph
+GrowsTo lim w g graph None = g ≡ refused 12
 
-pub record Grows (lim : Limits) (w : ℕ) (g : Res (List Two)) (graph : List ℕ) (x : Grown) : Type 0 where
+pub record Grows (lim : Limits) (w : ℕ) (g : Res (List Two)) (graph : List ℕ) (x : Option ℕ) : Type 0 where
   pub says : GrowsTo lim w g graph x
 
 -- What entering one pair leaves: the array is fixed whatever the answer.
-pub record Enters (lim : Limits) (w n : ℕ) (p : Two) (before after : List ℕ) (x : Grown) : Type 0 where
+pub record Enters (lim : Limits) (w n : ℕ) (p : Two) (before after : List ℕ) (x : Option ℕ) : Type 0 where
   pub grows : Grows lim w (enter_all lim (pairs_in w before n) (p ∷ [])) after x
   pub graph : after ≡ new_pair lim w n p before

@@ -13,13 +13,6 @@ use arrays::{key, keys, place};
 use query::Limits;
 use stores::{at_u16, put_u16};
 
-// How many pairs there are; or refusal 12.
-#[derive(Clone, Copy)]
-pub enum Grown {
-    To(usize),
-    Full,
-}
-
 // The pair (l, r) is one of the n.
 fn known(graph: &[u16], w: usize, n: usize, l: usize, r: usize) -> bool
     requires { Laid w n graph.now × Small w (l, r) }
@@ -41,17 +34,24 @@ fn append(graph: &mut [u16], w: usize, n: usize, l: usize, r: usize)
     put_u16(graph, keys(w) + n, key(l, r));
 }
 
-// "Its n pairs are counted once each."
-pub fn enter_pair(lim: Limits, w: usize, graph: &mut [u16], n: usize, l: usize, r: usize) -> Grown
+// "Its n pairs are counted once each": how many there are now; None: refusal 12.
+pub fn enter_pair(
+    lim: Limits,
+    w: usize,
+    graph: &mut [u16],
+    n: usize,
+    l: usize,
+    r: usize,
+) -> Option<usize>
     requires { Graph (limits_of lim) w n graph.old × Small w (l, r) }
     ensures { Enters (limits_of lim) w n (l, r) graph.old graph.new result }
 {
     if known(graph, w, n, l, r) {
-        return Grown::To(n);
+        return Some(n);
     }
     if n >= lim.pairs {
-        return Grown::Full;
+        return None;
     }
     append(graph, w, n, l, r);
-    Grown::To(n + 1)
+    Some(n + 1)
 }

@@ -1,13 +1,11 @@
 -- "Action." The structural actions that are left at a state of their enumeration: members in stored order, the left class's outermost, straight before crossed.
-use Rattle.std.specs.Prelude.{List, [], ◌∷◌, ◌++◌, ℕ, ◌+◌, drop}
+use Rattle.std.specs.Prelude.{List, [], ◌∷◌, ◌++◌, ℕ, ◌+◌, drop, Option, Some, None}
 use Rattle.std.proofs.Math.Seq.{slice}
 use Rattle.spec.specs.Bytes.{each}
 use Rattle.spec.specs.Image.{Tables, Member, the_class, members_of}
 use Rattle.spec.specs.Action.{Action, align_members}
 use Rattle.actions.specs.declared.State.{State}
 use Rattle.actions.specs.Place.{Stands, action_at, after_of}
-use Rattle.enumeration.specs.declared.Sought.{Sought}
-use Rattle.enumeration.specs.declared.Sought.TheVariants.{At, End}
 
 -- where the members of class c end
 abbrev pub end_of : Tables → ℕ → ℕ
@@ -32,10 +30,10 @@ unfolding rows_from
 list_from t l r w = rows_from t r w.past (slice w.right (end_of t r) t.members) (slice w.left (end_of t l) t.members)
 
 -- ---- what seeking finds: the first action that is left and a state behind which the others are, or that none is left
-abbrev pub found_in : Tables → ℕ → ℕ → Sought → List Action
-found_in t l r (At v) = action_at t v ∷ list_from t l r (after_of v)
-found_in t l r End = []
+abbrev pub found_in : Tables → ℕ → ℕ → Option State → List Action
+found_in t l r (Some v) = action_at t v ∷ list_from t l r (after_of v)
+found_in t l r None = []
 
-abbrev pub StandsFound : Tables → Sought → Type 0
-StandsFound t (At v) = Stands t v
-StandsFound t End = Unit
+abbrev pub StandsFound : Tables → Option State → Type 0
+StandsFound t (Some v) = Stands t v
+StandsFound t None = Unit

@@ -1,5 +1,5 @@
 -- What the walk finds: all structural actions, one after the other.
-use Rattle.std.specs.Prelude.{◌≡◌, Bool, true, false, eqb, ltb, length, get_or}
+use Rattle.std.specs.Prelude.{◌≡◌, Bool, true, false, eqb, ltb, length, get_or, Option, Some, None}
 use Rattle.std.proofs.Math.Path.{refl, sym, ap}
 use Rattle.std.proofs.Common.{◌∙◌, add-one, arith, ltb-true, ltb-false, drop_of_length-le, drop-cons}
 use mathlib.Core.List.{List, [], ◌∷◌, ◌++◌}
@@ -19,8 +19,6 @@ use Rattle.actions.specs.Place.{Stands, actions_at, action_at, after_of}
 use Rattle.enumeration.specs.Remaining.{end_of, row_from, rows_from, list_from, found_in, StandsFound}
 use Rattle.enumeration.specs.Seek.{start_of, next_right, seek_row, seek_right_of, next_left, or_else, seek_rows, seek_of}
 use Rattle.actions.specs.declared.State.{State}
-use Rattle.enumeration.specs.declared.Sought.{Sought}
-use Rattle.enumeration.specs.declared.Sought.TheVariants.{At, End}
 
 -- what `the_member` gives past the table
 abbrev none : Member
@@ -31,13 +29,13 @@ unfoldable row_at : Tables → ℕ → State → List Action
 unfolding row_from
 row_at t to w = row_from t (the_member t w.left) w.past (slice w.right to t.members)
 
-abbrev found_row : Tables → ℕ → Sought → List Action
-found_row t to (At v) = action_at t v ∷ row_at t to (after_of v)
-found_row t to End = []
+abbrev found_row : Tables → ℕ → Option State → List Action
+found_row t to (Some v) = action_at t v ∷ row_at t to (after_of v)
+found_row t to None = []
 
-abbrev SameLeft : ℕ → Sought → Type 0
-SameLeft i (At v) = v.left ≡ i
-SameLeft i End = Unit
+abbrev SameLeft : ℕ → Option State → Type 0
+SameLeft i (Some v) = v.left ≡ i
+SameLeft i None = Unit
 
 row-whole : (t : Tables) (a : Member) (l : List Member) → each (align_members t a) l ≡ row_from t a 0 l
 unfolding row_from each
@@ -60,7 +58,7 @@ module _ (t : Tables) (to : ℕ) (k : to ≤ length t.members) (w : State) where
       sym (row_cons w.past h ∙ ap (λ (x : List Action). x ++ row_from t (the_member t w.left) 0 (rest (w.right + 1))) (drop_of_length-le (actions_at t w) e))
 
   -- one is
-  row-found : w.right < to → w.past < length (actions_at t w) → row_at t to w ≡ found_row t to (At w)
+  row-found : w.right < to → w.past < length (actions_at t w) → row_at t to w ≡ found_row t to (Some w)
   unfolding row_at
   row-found h e =
       row_cons w.past h
@@ -68,7 +66,7 @@ module _ (t : Tables) (to : ℕ) (k : to ≤ length t.members) (w : State) where
       ∙ ap (λ (n : ℕ). action_at t w ∷ (drop n (actions_at t w) ++ row_from t (the_member t w.left) 0 (rest (w.right + 1)))) (sym (add-one w.past))
       ∙ ap (λ (x : List Action). action_at t w ∷ x) (sym (row_cons (w.past + 1) h))
 
-  row-end : to ≤ w.right → row_at t to w ≡ found_row t to End
+  row-end : to ≤ w.right → row_at t to w ≡ found_row t to None
   unfolding row_at row_from
   row-end h = rw (slice_over w.right to t.members k h) refl
 
@@ -90,14 +88,14 @@ unfolding align_members alignments
 align-few t a b = few-by a.op (classes (children_of t a)) (classes (children_of t b)) (eqb a.op b.op) (eqb (kind_of t a.op) SPair) (either (is_ac (kind_of t a.op)) (eqb (kind_of t a.op) Lit))
 
 -- x is what seeking finds of the left member at w
-record RowFound (t : Tables) (to : ℕ) (w : State) (x : Sought) : Type 0 where
+record RowFound (t : Tables) (to : ℕ) (w : State) (x : Option State) : Type 0 where
   list : row_at t to w ≡ found_row t to x
   stands : StandsFound t x
   same : SameLeft w.left x
 
 module _ (t : Tables) (to : ℕ) (k : to ≤ length t.members) where
   row_step : (w : State) (n : ℕ) (b : Bool) → ltb w.past (length (actions_at t w)) ≡ b → w.right < to → w.left < length t.members → RowFound t to (next_right w) (seek_row t n (next_right w))
-      → RowFound t to w (elim b [ true ↦ At w | false ↦ seek_row t n (next_right w) ])
+      → RowFound t to w (elim b [ true ↦ Some w | false ↦ seek_row t n (next_right w) ])
   row_step w n true q h g f =
       let m : w.past < length (actions_at t w) = ltb-true _ _ q in
       record {
@@ -138,17 +136,17 @@ module _ (t : Tables) (l r : ℕ) (kl : end_of t l ≤ length t.members) (kr : e
       rw (slice-cons w.left (end_of t l) t.members none h kl, add-one) (ap (λ (x : List Action). row_at t (end_of t r) w ++ x) (rows_next (suc w.left)))
 
   -- none is left of the left member
-  list-more : (w : State) → w.left < end_of t l → row_at t (end_of t r) w ≡ found_row t (end_of t r) End → list_from t l r (next (w.left + 1)) ≡ list_from t l r w
+  list-more : (w : State) → w.left < end_of t l → row_at t (end_of t r) w ≡ found_row t (end_of t r) None → list_from t l r (next (w.left + 1)) ≡ list_from t l r w
   list-more w h e = sym (rows-cons w h ∙ ap (λ (x : List Action). x ++ list_from t l r (next (w.left + 1))) e)
 
   -- one is
-  list-found : (w v : State) → w.left < end_of t l → row_at t (end_of t r) w ≡ found_row t (end_of t r) (At v) → v.left ≡ w.left → list_from t l r w ≡ found_in t l r (At v)
+  list-found : (w v : State) → w.left < end_of t l → row_at t (end_of t r) w ≡ found_row t (end_of t r) (Some v) → v.left ≡ w.left → list_from t l r w ≡ found_in t l r (Some v)
   list-found w v h e g =
       rows-cons w h
       ∙ ap (λ (x : List Action). x ++ list_from t l r (next (w.left + 1))) e
       ∙ ap (λ (x : List Action). action_at t v ∷ x) (rw (← g) (sym (rows-cons (after_of v) (rw g h))))
 
-  list-end : (w : State) → end_of t l ≤ w.left → list_from t l r w ≡ found_in t l r End
+  list-end : (w : State) → end_of t l ≤ w.left → list_from t l r w ≡ found_in t l r None
   unfolding list_from rows_from
   list-end w h = rw (slice_over w.left (end_of t l) t.members kl h) refl
 
@@ -158,12 +156,12 @@ module _ (t : Tables) (l r : ℕ) (kl : end_of t l ≤ length t.members) (kr : e
   start_is false = sym (rows_next (the_class t l).first) ∙ ap (λ (x : List Member). each (λ x. each (align_members t x) (members_of t r)) x) (part_slice t.members (the_class t l).first (the_class t l).count kl)
 
   -- ---- every left member from w on
-  abbrev Found : State → Sought → Type 0
+  abbrev Found : State → Option State → Type 0
   Found w x = (list_from t l r w ≡ found_in t l r x) × StandsFound t x
 
-  rows_step : (w : State) (x y : Sought) → w.left < end_of t l → RowFound t (end_of t r) w x → Found (next_left t r w) y → Found w (or_else x y)
-  rows_step w (At v) y h f g = (list-found w v h f.list f.same, f.stands)
-  rows_step w End y h f g = (sym (list-more w h f.list) ∙ g.0, g.1)
+  rows_step : (w : State) (x y : Option State) → w.left < end_of t l → RowFound t (end_of t r) w x → Found (next_left t r w) y → Found w (or_else x y)
+  rows_step w (Some v) y h f g = (list-found w v h f.list f.same, f.stands)
+  rows_step w None y h f g = (sym (list-more w h f.list) ∙ g.0, g.1)
 
   rows-found : (n : ℕ) (w : State) → end_of t l - w.left ≡ n → Found w (seek_rows t r n w)
   unfolding seek_rows
@@ -183,7 +181,7 @@ module _ {s : List ℕ} {im : Image} (L : Loaded s im) (ok : Valid (tables_of s)
   unfolding structural
   start-list e = ap (list_from T l r) e ∙ start_is T l r (end-within l hl) (end-within r hr) (eqb l r)
 
-  module _ (w : State) {x : Sought} (e : x ≡ seek_of T l r w) where
+  module _ (w : State) {x : Option State} (e : x ≡ seek_of T l r w) where
     found : Found T l r (end-within l hl) (end-within r hr) w x
     found = rw e (rows-found T l r (end-within l hl) (end-within r hr) (end_of T l - w.left) w refl)
 
@@ -195,8 +193,8 @@ module _ {s : List ℕ} {im : Image} (L : Loaded s im) (ok : Valid (tables_of s)
     seek-stands = found.1
 
     -- the state found
-    pub found-stands : (v : State) → x ≡ At v → Stands T v
+    pub found-stands : (v : State) → x ≡ Some v → Stands T v
     found-stands v f = rw f at seek-stands
 
-    pub found-fewer : (v : State) → x ≡ At v → length (list_from T l r (after_of v)) < length (list_from T l r w)
+    pub found-fewer : (v : State) → x ≡ Some v → length (list_from T l r (after_of v)) < length (list_from T l r w)
     found-fewer v f = omega (arith, ap (λ (z : List Action). length z) (seek-list ∙ ap (found_in T l r) f))

@@ -12,13 +12,6 @@ use alignment::aligned;
 use classes::{first_member, members_of};
 use image::Image;
 
-// The next action, or none.
-#[derive(Clone, Copy)]
-pub enum Sought {
-    At(State),
-    End,
-}
-
 // "A class paired with itself has no actions."
 pub fn itself(l: usize, r: usize) -> bool
     ensures { result ≡ eqb l r }
@@ -36,40 +29,38 @@ pub fn start(s: &[u8], im: Image, l: usize, r: usize) -> State
     if itself(l, r) {
         return State {
             left: span.to,
-            right: right,
+            right,
             past: 0,
         };
     }
     State {
         left: span.from,
-        right: right,
+        right,
         past: 0,
     }
 }
 
 // The next action of the left member at w with a right member before `to`.
-fn seek_right(s: &[u8], im: Image, to: usize, w: State) -> Sought
+fn seek_right(s: &[u8], im: Image, to: usize, w: State) -> Option<State>
     requires { Loaded s.now im × Valid (tables_of s.now) × (w.left < im.members) × (to ≤ im.members) }
     ensures { result ≡ seek_right_of (tables_of s.now) to w }
 {
-    let mut j = w.right;
-    let mut n = w.past;
-    while j < to {
-        if n < aligned(s, im, w.left, j) {
-            return Sought::At(State {
+    let mut past = w.past;
+    for right in w.right..to {
+        if past < aligned(s, im, w.left, right) {
+            return Some(State {
                 left: w.left,
-                right: j,
-                past: n,
+                right,
+                past,
             });
         }
-        j += 1;
-        n = 0;
+        past = 0;
     }
-    Sought::End
+    None
 }
 
 // The next action at or behind w.
-pub fn seek(s: &[u8], im: Image, l: usize, r: usize, w: State) -> Sought
+pub fn seek(s: &[u8], im: Image, l: usize, r: usize, w: State) -> Option<State>
     requires { Loaded s.now im × Valid (tables_of s.now) × (l < im.classes) × (r < im.classes) }
     ensures { result ≡ seek_of (tables_of s.now) l r w }
 {
@@ -77,18 +68,14 @@ pub fn seek(s: &[u8], im: Image, l: usize, r: usize, w: State) -> Sought
     let right = members_of(s, im, r);
     let mut v = w;
     while v.left < to {
-        match seek_right(s, im, right.to, v) {
-            Sought::At(x) => {
-                return Sought::At(x);
-            }
-            Sought::End => {
-                v = State {
-                    left: v.left + 1,
-                    right: right.from,
-                    past: 0,
-                };
-            }
+        if let Some(x) = seek_right(s, im, right.to, v) {
+            return Some(x);
         }
+        v = State {
+            left: v.left + 1,
+            right: right.from,
+            past: 0,
+        };
     }
-    Sought::End
+    None
 }

@@ -1,5 +1,5 @@
 -- What is left to be entered at each turn: pairs of an action, actions, columns, rows, transports. Assumes nothing.
-use Rattle.std.specs.Prelude.{◌≡◌, ℕ, suc, ◌+◌, ◌≤◌, ◌<◌, length, get_or, drop}
+use Rattle.std.specs.Prelude.{◌≡◌, ℕ, suc, ◌+◌, ◌≤◌, ◌<◌, length, get_or, drop, Option, Some, None}
 use Rattle.std.proofs.Math.Path.{refl, ap}
 use Rattle.std.proofs.Common.{sym, ◌∙◌, add-one, arith, drop_of_length-le, drop-cons, get_or-take}
 use mathlib.Core.List.{List, [], ◌∷◌, ◌++◌, map, append_assoc}
@@ -14,8 +14,6 @@ use Rattle.lgg.specs.Within.{joins-within}
 use Rattle.image.specs.Loaded.{Loaded}
 use Rattle.image.specs.declared.Image.{Image}
 use Rattle.actions.specs.declared.State.{State}
-use Rattle.enumeration.specs.declared.Sought.{Sought}
-use Rattle.enumeration.specs.declared.Sought.TheVariants as S
 use Rattle.actions.specs.Place as P
 use Rattle.enumeration.specs.Remaining as R
 use Rattle.enumeration.specs.Seek.{seek_of}
@@ -27,11 +25,7 @@ use Rattle.ac_repr.specs.Walk.{Within, Stepped, walks, all_walks, left_of, after
 use Rattle.ac_monomials.specs.Actions.{Answered, actions_at}
 use Rattle.ac_monomials.specs.Sides.{action-one, action-none}
 use Rattle.ac_monomials.specs.Transports.{actions_left, left-first, left-next, left_end}
-use Rattle.padding.specs.declared.Padded.{Padded}
-use Rattle.padding.specs.declared.Padded.TheVariants.{Pair, Nothing}
 use Rattle.ac_repr.specs.declared.Walk.{Walk}
-use Rattle.ac_repr.specs.declared.Step.{Step}
-use Rattle.ac_repr.specs.declared.Step.TheVariants.{At, End}
 use Rattle.entering.specs.Growing.{Small, AllSmall}
 
 -- ---- lists, one after the other
@@ -51,15 +45,15 @@ pair_end ps k h = drop_of_length-le ps h
 abbrev pub pairs_of : List Action → List Two
 pairs_of l = each (λ a. a.pairs) l
 
-module _ {s : List ℕ} {im : Image} (L : Loaded s im) (ok : Valid (tables_of s)) {l r : ℕ} (hl : l < im.classes) (hr : r < im.classes) (v : State) {x : Sought} (e : x ≡ seek_of (tables_of s) l r v) where
-  found : {y : Sought} → x ≡ y → R.list_from (tables_of s) l r v ≡ R.found_in (tables_of s) l r y
+module _ {s : List ℕ} {im : Image} (L : Loaded s im) (ok : Valid (tables_of s)) {l r : ℕ} (hl : l < im.classes) (hr : r < im.classes) (v : State) {x : Option State} (e : x ≡ seek_of (tables_of s) l r v) where
+  found : {y : Option State} → x ≡ y → R.list_from (tables_of s) l r v ≡ R.found_in (tables_of s) l r y
   found q = seek-list L ok hl hr v e ∙ ap (R.found_in (tables_of s) l r) q
 
-  pub actions-next : (w : State) → x ≡ S.At w → pairs_of (R.list_from (tables_of s) l r v) ≡ (P.action_at (tables_of s) w).pairs ++ pairs_of (R.list_from (tables_of s) l r (P.after_of w))
+  pub actions-next : (w : State) → x ≡ Some w → pairs_of (R.list_from (tables_of s) l r v) ≡ (P.action_at (tables_of s) w).pairs ++ pairs_of (R.list_from (tables_of s) l r (P.after_of w))
   unfolding each
   actions-next w q = ap pairs_of (found q)
 
-  pub actions-end : x ≡ S.End → pairs_of (R.list_from (tables_of s) l r v) ≡ []
+  pub actions-end : x ≡ None → pairs_of (R.list_from (tables_of s) l r v) ≡ []
   unfolding each
   actions-end q = ap pairs_of (found q)
 
@@ -103,46 +97,46 @@ module _ (rows : ℕ) (left : List ℕ) (cols : ℕ) (right : List ℕ) (e : len
 abbrev pub cells_of : List TransportAction → List Two
 cells_of l = each (λ a. cell_pairs a.sides) l
 
-module _ (t : Tables) (l r : ℕ) (w : Walk) {s u s' u' : List ℕ} (x : Padded) (d : Answered t l r w s u s' u' x) where
-  pub transport-none : x ≡ Nothing → cells_of (actions_at t l r w) ≡ []
+module _ (t : Tables) (l r : ℕ) (w : Walk) {s u s' u' : List ℕ} (x : Option (ℕ × ℕ)) (d : Answered t l r w s u s' u' x) where
+  pub transport-none : x ≡ None → cells_of (actions_at t l r w) ≡ []
   unfolding each
   transport-none q = ap cells_of (action-none t l r w s u s' u' (rw q at d))
 
-  pub transport-one : (n m : ℕ) → x ≡ Pair n m → cells_of (actions_at t l r w) ≡ cell_pairs (pair_of (held n s') (held m u')) ++ []
+  pub transport-one : (n m : ℕ) → x ≡ Some (n, m) → cells_of (actions_at t l r w) ≡ cell_pairs (pair_of (held n s') (held m u')) ++ []
   unfolding each
   transport-one n m q = ap cells_of (action-one t l r w s u s' u' n m (rw q at d))
 
-  pub transport-few : (n m : ℕ) → x ≡ Pair n m → (n ≤ TERMS) × (m ≤ TERMS)
-  transport-few n m q = let f : Few (Pair n m) = rw q at d.few in f
+  pub transport-few : (n m : ℕ) → x ≡ Some (n, m) → (n ≤ TERMS) × (m ≤ TERMS)
+  transport-few n m q = let f : Few (Some (n, m)) = rw q at d.few in f
 
 module _ (t : Tables) (l r : ℕ) where
-  pub transports-start : (x : Step) → Valid t → l < length t.classes → r < length t.classes → Stepped t l r (walks t l r) (all_walks t l r) x → cells_of (transports t l r) ≡ cells_of (actions_left t l r x)
+  pub transports-start : (x : Option Walk) → Valid t → l < length t.classes → r < length t.classes → Stepped t l r (walks t l r) (all_walks t l r) x → cells_of (transports t l r) ≡ cells_of (actions_left t l r x)
   transports-start x v a b d = ap cells_of (left-first t l r x v a b d)
 
-  pub transports-next : (x : Step) (w : Walk) (y : Step) → x ≡ At w → Stepped t l r (walks t l r) (walks t l r (after_of w)) y → cells_of (actions_left t l r x) ≡ cells_of (actions_at t l r w) ++ cells_of (actions_left t l r y)
-  transports-next x w y q d = ap (λ (z : Step). cells_of (actions_left t l r z)) q ∙ ap cells_of (left-next t l r w y d) ∙ each_append (λ a. cell_pairs a.sides) (actions_at t l r w) (actions_left t l r y)
+  pub transports-next : (x : Option Walk) (w : Walk) (y : Option Walk) → x ≡ Some w → Stepped t l r (walks t l r) (walks t l r (after_of w)) y → cells_of (actions_left t l r x) ≡ cells_of (actions_at t l r w) ++ cells_of (actions_left t l r y)
+  transports-next x w y q d = ap (λ (z : Option Walk). cells_of (actions_left t l r z)) q ∙ ap cells_of (left-next t l r w y d) ∙ each_append (λ a. cell_pairs a.sides) (actions_at t l r w) (actions_left t l r y)
 
   -- before the step after it is known
-  pub transports-first : (x : Step) (w : Walk) → x ≡ At w → cells_of (actions_left t l r x) ≡ cells_of (actions_at t l r w) ++ cells_of (each (actions_at t l r) (walks t l r (after_of w)))
+  pub transports-first : (x : Option Walk) (w : Walk) → x ≡ Some w → cells_of (actions_left t l r x) ≡ cells_of (actions_at t l r w) ++ cells_of (each (actions_at t l r) (walks t l r (after_of w)))
   unfolding actions_left each
-  transports-first x w q = ap (λ (z : Step). cells_of (actions_left t l r z)) q ∙ each_append (λ a. cell_pairs a.sides) (actions_at t l r w) (each (actions_at t l r) (walks t l r (after_of w)))
+  transports-first x w q = ap (λ (z : Option Walk). cells_of (actions_left t l r z)) q ∙ each_append (λ a. cell_pairs a.sides) (actions_at t l r w) (each (actions_at t l r) (walks t l r (after_of w)))
 
-  pub transports-later : (w : Walk) (y : Step) → Stepped t l r (walks t l r) (walks t l r (after_of w)) y → cells_of (each (actions_at t l r) (walks t l r (after_of w))) ≡ cells_of (actions_left t l r y)
+  pub transports-later : (w : Walk) (y : Option Walk) → Stepped t l r (walks t l r) (walks t l r (after_of w)) y → cells_of (each (actions_at t l r) (walks t l r (after_of w))) ≡ cells_of (actions_left t l r y)
   unfolding actions_left
   transports-later w y d = ap (λ (m : List Walk). cells_of (each (actions_at t l r) m)) d.left
 
-  pub transports-end : (x : Step) → x ≡ End → cells_of (actions_left t l r x) ≡ []
+  pub transports-end : (x : Option Walk) → x ≡ None → cells_of (actions_left t l r x) ≡ []
   unfolding each
-  transports-end x q = ap (λ (z : Step). cells_of (actions_left t l r z)) q ∙ ap cells_of (left_end t l r)
+  transports-end x q = ap (λ (z : Option Walk). cells_of (actions_left t l r z)) q ∙ ap cells_of (left_end t l r)
 
   -- how many pairs of places are left
-  abbrev pub walks_left : Step → ℕ
+  abbrev pub walks_left : Option Walk → ℕ
   walks_left x = length (left_of (walks t l r) x)
 
-  pub walks-fewer : (x : Step) (w : Walk) (y : Step) → x ≡ At w → Stepped t l r (walks t l r) (walks t l r (after_of w)) y → walks_left y < walks_left x
+  pub walks-fewer : (x : Option Walk) (w : Walk) (y : Option Walk) → x ≡ Some w → Stepped t l r (walks t l r) (walks t l r (after_of w)) y → walks_left y < walks_left x
   walks-fewer x w y q d = omega (arith, ap walks_left q, ap (λ (m : List Walk). length m) d.left)
 
-  pub within-here : (x : Step) (w : Walk) → Within t l r x → x ≡ At w → Within t l r (At w)
+  pub within-here : (x : Option Walk) (w : Walk) → Within t l r x → x ≡ Some w → Within t l r (Some w)
   within-here x w d q = rw q at d
 
 -- ---- all pairs are of classes of the image

@@ -20,17 +20,16 @@ ghost use Rattle.graph.specs.Building.{Builds};
 ghost use Rattle.graph.specs.Ending.{AllPairs, Ends, skipped_from};
 
 use ac_monomials::monomials;
-use ac_repr::{Step, Walk, first, next};
+use ac_repr::{Walk, first, next};
 use actions::{State, count, left_class, right_class};
 use arrays::{left_at, right_at};
 use budget::Budget;
 use clearing::clear_u16;
 use entering::{Grown, enter_pair};
-use enumeration::{Sought, seek, start};
+use enumeration::{seek, start};
 use image::Image;
 use monomial_terms::class_at;
 use numbers::size_u64;
-use padding::Padded;
 use query::Limits;
 use skipped::{is_large, skipped_at};
 
@@ -82,10 +81,10 @@ fn enter_actions(
     let mut v = start(s, im, l, r);
     loop {
         match seek(s, im, l, r, v) {
-            Sought::End => {
+            None => {
                 return Grown::To(n);
             }
-            Sought::At(w) => {
+            Some(w) => {
                 match enter_action(lim, s, im, w, graph, n) {
                     Grown::Full => {
                         return Grown::Full;
@@ -175,10 +174,8 @@ fn enter_transport(
     let mut left = [0u64; monomial_terms::NUMBERS];
     let mut right = [0u64; monomial_terms::NUMBERS];
     match monomials(s, im, l, r, w, &mut left, &mut right) {
-        Padded::Nothing => Grown::To(n),
-        Padded::Pair(rows, cols) => enter_cells(
-            lim, im.classes, &left, rows, &right, cols, graph, n,
-        ),
+        None => Grown::To(n),
+        Some((rows, cols)) => enter_cells(lim, im.classes, &left, rows, &right, cols, graph, n),
     }
 }
 
@@ -199,10 +196,10 @@ fn enter_transports(
     let mut x = first(s, im, l, r);
     loop {
         match x {
-            Step::End => {
+            None => {
                 return Grown::To(n);
             }
-            Step::At(w) => {
+            Some(w) => {
                 match enter_transport(lim, s, im, l, r, w, graph, n) {
                     Grown::Full => {
                         return Grown::Full;

@@ -1,5 +1,5 @@
 -- The first line and the lines behind it are the listing: its length, and how it is written.
-use Rattle.std.specs.Prelude.{◌≡◌, refl, true, false, List, ◌++◌, ℕ, ◌+◌, ◌≤◌, ◌<◌, leb, length}
+use Rattle.std.specs.Prelude.{◌≡◌, refl, true, false, List, ◌++◌, ℕ, ◌+◌, ◌≤◌, ◌<◌, leb, length, Some, None}
 use Rattle.std.proofs.Common.{ap, ap₂, arith, length-append, le-leb}
 use Rattle.std.proofs.lemmas.Bool.{lt-leb}
 use Rattle.spec.specs.Listing.{report_line, listing_of}
@@ -14,7 +14,6 @@ use Rattle.numbering.specs.Numbering.{numbers_of, Listed}
 use Rattle.widths.specs.Lines.{lines_in}
 use Rattle.widths.specs.LineLaws.{lines_are}
 use Rattle.listing.specs.Lists.{listing_in, Lists}
-use Rattle.listing.specs.declared.Written.TheVariants as W
 
 -- the first line
 abbrev pub first_of : Report → List ℕ
@@ -29,7 +28,7 @@ module _ (terms runs : List ℕ) (root : ℕ) (f : Report) (marks out w : List �
     size-is : a + r ≡ length (listing_in f terms runs root)
     size-is = omega (arith, ap length listing-is, length-append (first_of f) (lines_in terms runs w 0 n))
 
-    pub lists-full : length out < a + r → Lists terms runs root f marks out w out W.Full
+    pub lists-full : length out < a + r → Lists terms runs root f marks out w out None
     lists-full h =
         let l = listing_in f terms runs root in
         let z : leb (length l) (length out) ≡ false = lt-leb (length l) (length out) (omega (arith, size-is)) in
@@ -46,10 +45,10 @@ module _ (terms runs : List ℕ) (root : ℕ) (f : Report) (marks out w : List �
         pub lines-room : a₁ + length (lines_in terms runs w 0 n) ≤ length o₁
         lines-room = room-second (first_of f) (lines_in terms runs w 0 n) out 0 room W₁
 
-        pub lists-bytes : {o₂ : List ℕ} {a₂ : ℕ} → Wrote (lines_in terms runs w 0 n) o₁ a₁ o₂ a₂ → Lists terms runs root f marks out w o₂ (W.Bytes (a + r))
+        pub lists-bytes : {o₂ : List ℕ} {a₂ : ℕ} → Wrote (lines_in terms runs w 0 n) o₁ a₁ o₂ a₂ → Lists terms runs root f marks out w o₂ (Some (a + r))
         lists-bytes {o₂ = o₂} {a₂ = a₂} W₂ =
             let l = listing_in f terms runs root in
             let z : leb (length l) (length out) ≡ true = le-leb (length l) (length out) (omega (arith, size-is)) in
             let both : Wrote l out 0 o₂ a₂ = rw listing-is (wrote-both (first_of f) (lines_in terms runs w 0 n) out 0 room W₁ W₂) in
             let k : 0 + length l ≡ length l = omega arith in
-            record { numbers = q; answer = rw z (ap (λ (m : ℕ). W.Bytes m) size-is); output = rw z (rw k at both.bytes) }
+            record { numbers = q; answer = rw z (ap (λ (m : ℕ). Some m) size-is); output = rw z (rw k at both.bytes) }

@@ -8,14 +8,7 @@ ghost use Rattle.listing.specs.Lists.{Behind, Lists};
 
 use first_line::{LONGEST, Report};
 
-// the listing's length; or that it exceeds the output (refusal 14)
-#[derive(Clone, Copy)]
-pub enum Written {
-    Bytes(usize),
-    Full,
-}
-
-// The lines of a term of the pool that the buffers hold, behind a head of at most so many bytes as a first line has: written, or refused with the output as it was.
+// The lines of a term of the pool that the buffers hold, behind a head of at most so many bytes as a first line has: written, and how many bytes they are; None: they exceed the output (refusal 14), which is as it was.
 pub fn list_behind(
     head: &[u8],
     terms: &[u32],
@@ -23,21 +16,21 @@ pub fn list_behind(
     marks: &mut [u16],
     out: &mut [u8],
     root: usize,
-) -> Written
+) -> Option<usize>
     requires { Holds terms.now runs.now × (root < count_in terms.now) × (2 * count_in terms.now ≤ length marks.old) × (length head.now ≤ LONGEST) }
     ensures { Behind head.now terms.now runs.now root marks.old out.old marks.new out.new result }
 {
     let n = numbering::number_all(terms, runs, marks, root);
     let size = head.len() + widths::lines_width(terms, runs, marks, n);
     if size > out.len() {
-        return Written::Full;
+        return None;
     }
     let at = decimals::text(out, 0, head);
     lines::write_lines(out, at, terms, runs, marks, n);
-    Written::Bytes(size)
+    Some(size)
 }
 
-// The listing of a run whose pool the buffers hold: written, or refused with the output as it was.
+// The listing of a run whose pool the buffers hold: written, and how many bytes it is; None: it exceeds the output (refusal 14), which is as it was.
 pub fn list(
     terms: &[u32],
     runs: &[u64],
@@ -45,7 +38,7 @@ pub fn list(
     out: &mut [u8],
     root: usize,
     f: Report,
-) -> Written
+) -> Option<usize>
     requires { Holds terms.now runs.now × (root < count_in terms.now) × (2 * count_in terms.now ≤ length marks.old) }
     ensures { Lists terms.now runs.now root f marks.old out.old marks.new out.new result }
 {

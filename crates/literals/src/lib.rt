@@ -28,14 +28,12 @@ fn first_doubled(s: &[u8], im: Image, last: &[u16; 4093]) -> usize
     requires { Loaded s.now im × Spans (tables_of s.now) × Marks (tables_of s.now) last.now }
     ensures { result ≡ lowest_doubled (tables_of s.now) }
 {
-    let mut c = 0;
-    while c < im.classes {
+    for c in 0..im.classes {
         if class_doubled(s, im, last, c) {
             return c;
         }
-        c += 1;
     }
-    c
+    im.classes
 }
 
 // the lowest class that holds a literal that also stands in another, or the number of classes

@@ -8,11 +8,16 @@ ghost use Rattle.terms.specs.Buffers.{count_in, pool_of};
 ghost use Rattle.terms.specs.Chains.{Holds, Rooms};
 ghost use Rattle.op_terms.specs.Members.{Gives};
 
-use interning::Entered;
 use query::Limits;
 
 // The marked place of two terms.
-pub fn variants(lim: Limits, terms: &mut [u32], runs: &mut [u64], a: usize, b: usize) -> Entered
+pub fn variants(
+    lim: Limits,
+    terms: &mut [u32],
+    runs: &mut [u64],
+    a: usize,
+    b: usize,
+) -> Option<usize>
     requires { Holds terms.old runs.old × (a < count_in terms.old) × (b < count_in terms.old) × Rooms (limits_of lim) terms.old runs.old }
     ensures { Gives terms.old runs.old terms.new runs.new (intern (limits_of lim) (pool_of terms.old runs.old) (variants_node a b)) result }
 {

@@ -11,14 +11,13 @@ ghost use Rattle.terms.specs.Chains.{Holds, Rooms};
 ghost use Rattle.op_terms.specs.Members.{Gives, member_node, MemberReady};
 
 use image::Image;
-use interning::Entered;
 use op_terms::op_term;
 use query::Limits;
 
 // the kind of a literal
 const LIT: usize = 9;
 
-fn lit_term(lim: Limits, terms: &mut [u32], runs: &mut [u64], op: usize, v: u64) -> Entered
+fn lit_term(lim: Limits, terms: &mut [u32], runs: &mut [u64], op: usize, v: u64) -> Option<usize>
     requires { Holds terms.old runs.old × (op < 64) × (v < 4294967296) × Rooms (limits_of lim) terms.old runs.old }
     ensures { Gives terms.old runs.old terms.new runs.new (intern (limits_of lim) (pool_of terms.old runs.old) (lit_node op v)) result }
 {
@@ -43,7 +42,7 @@ pub fn member_term(
     runs: &mut [u64],
     best: &[u16],
     m: usize,
-) -> Entered
+) -> Option<usize>
     requires { Holds terms.old runs.old × Loaded s.now im × (m < im.members) × ((the_member (tables_of s.now) m).op < im.operations) × (im.operations ≤ 64) × MemberReady (tables_of s.now) best.now (count_in terms.old) m × Rooms (limits_of lim) terms.old runs.old }
     ensures { Gives terms.old runs.old terms.new runs.new (intern (limits_of lim) (pool_of terms.old runs.old) (member_node (tables_of s.now) best.now (the_member (tables_of s.now) m))) result }
 {

@@ -2,7 +2,7 @@
 use mathlib.Core.Path.{◌≡◌, refl, ap, ◌∙◌}
 use mathlib.Core.Bool.{true, false}
 use mathlib.Core.List.{List, ◌∷◌}
-use Prim.Native.Nat.{ℕ, suc, ◌+◌, ◌*◌, ◌≤◌, ◌<◌}
+use Prim.Native.Nat.{ℕ, suc, ◌+◌, ◌*◌, ◌/◌, ◌≤◌, ◌<◌, min}
 use native.Mathlib.Omega.{arith}
 use native.Mathlib.Numerals.{add-one}
 use borrow.Author.Tests.{lt-ltb, le-ltb}
@@ -14,7 +14,7 @@ use Rattle.monomial_terms.specs.Terms.{terms, held}
 use Rattle.monomial_terms.specs.TermLaws.{two-each}
 use Rattle.narrowing.specs.Narrowing.{narrowed_of}
 use Rattle.narrowing.specs.NarrowLaws.{too_many}
-use Rattle.narrowing.specs.declared.Narrowed.TheVariants.{Fits, FailsAt}
+use Rattle.std.proofs.Common.{Some, None}
 
 -- no entry before i is too large
 abbrev pub Upto : List ℕ → ℕ → ℕ → Type 0
@@ -35,7 +35,7 @@ module _ (s : List ℕ) (n i y : ℕ) (f : 2 * i + 1 < length s) (h : i < n) (e 
       let p : place too_many (drop i (held n s)) ≡ suc (place too_many (drop (suc i) (held n s))) = rw (rest, place, z) refl in
       rw add-one (omega (arith, inv, p))
 
-  pub fails-here : COUNT < y → FailsAt i ≡ narrowed_of (fails_at (held n s))
+  pub fails-here : COUNT < y → Some i ≡ narrowed_of (fails_at (held n s))
   unfolding place fails_at
   fails-here g =
       let z : too_many (get_or (terms s) i (0, 0)) ≡ true = lt-ltb COUNT _ (rw e at g) in
@@ -45,15 +45,12 @@ module _ (s : List ℕ) (n i y : ℕ) (f : 2 * i + 1 < length s) (h : i < n) (e 
 
 -- past the last entry
 module _ (s : List ℕ) (n i : ℕ) (inv : Upto s n i) where
-  fits-past : length (held n s) ≤ i → Fits ≡ narrowed_of (fails_at (held n s))
+  fits-past : length (held n s) ≤ i → None ≡ narrowed_of (fails_at (held n s))
   unfolding place fails_at
   fits-past h =
       let p : place too_many (drop i (held n s)) ≡ 0 = rw (drop_of_length-le (held n s) {i = i} h) refl in
       let q : place too_many (held n s) ≡ i = omega (arith, inv, p) in
       rw (q, le-ltb i (length (held n s)) h) refl
 
-  pub fits-buffer : length s ≤ 2 * i + 1 → Fits ≡ narrowed_of (fails_at (held n s))
-  fits-buffer h = fits-past (rw (length-take n (terms s)) (omega (arith, two-each s)))
-
-  pub fits_all : n ≤ i → Fits ≡ narrowed_of (fails_at (held n s))
-  fits_all h = fits-past (rw (length-take n (terms s)) (omega arith))
+  pub fits_all : min n (length s / 2) ≤ i → None ≡ narrowed_of (fails_at (held n s))
+  fits_all h = fits-past (rw (length-take n (terms s)) (omega (arith, two-each s)))

@@ -8,25 +8,14 @@ ghost use Rattle.narrowing.specs.Narrowing.{narrowed_of};
 
 use monomial_terms::count_at;
 
-#[derive(Clone, Copy)]
-pub enum Narrowed {
-    Fits,
-    // the first entry, from 0, whose count is above 4,294,967,295
-    FailsAt(usize),
-}
-
-// The monomial of n terms, or of as many as the buffer has.
-pub fn narrow(mono: &[u64], n: usize) -> Narrowed
+// The first entry, from 0, whose count is above 4,294,967,295, of the n terms, or of as many as the buffer has. None: every count fits.
+pub fn narrow(mono: &[u64], n: usize) -> Option<usize>
     ensures { result ≡ narrowed_of (fails_at (held n mono.now)) }
 {
-    let many = mono.len() / 2;
-    for i in 0..n {
-        if i >= many {
-            return Narrowed::Fits;
-        }
+    for i in 0..n.min(mono.len() / 2) {
         if count_at(mono, i) > id::multiplicity::MAX {
-            return Narrowed::FailsAt(i);
+            return Some(i);
         }
     }
-    Narrowed::Fits
+    None
 }

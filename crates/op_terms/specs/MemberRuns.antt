@@ -1,5 +1,5 @@
 -- The runs of a member's best term in a list.
-use Rattle.std.specs.Prelude.{◌≡◌, ◌⊎◌, List, [], ◌∷◌, map, ℕ, zero, suc, ◌+◌, ◌*◌, ◌-◌, ◌/◌, ◌%◌, ◌^◌, ◌≤◌, ◌<◌, length, get_or, set, drop}
+use Rattle.std.specs.Prelude.{◌≡◌, ◌⊎◌, List, [], ◌∷◌, map, ℕ, zero, suc, ◌+◌, ◌*◌, ◌-◌, ◌/◌, ◌%◌, ◌^◌, ◌≤◌, ◌<◌, length, get_or, set, drop, Option}
 use Rattle.std.proofs.Math.Path.{refl}
 use Rattle.std.proofs.Common.{ap, ap₂, ◌∙◌, inl, inr, not-suc-le-zero, eq-or-lt_of_le, mul-le-mul_right, arith, eq-eqb, ne_eqb, length-take, length-drop, get_or-take, get_or-drop}
 use Rattle.std.proofs.Math.ListN.{length-set}
@@ -18,7 +18,6 @@ use Rattle.op_terms.specs.Members.{Gives, kept_run, kept_number, member_node, Me
 use Rattle.terms.specs.PartLaws.{part-front}
 use Rattle.joining.specs.JoinLaws.{joined-runs, join-sum, op-node}
 use Rattle.interning.specs.GrowLaws.{grows-intern}
-use Rattle.interning.specs.declared.Entered.{Entered}
 
 pub fill-turn : (P : ℕ → ℕ → Type 0) (list : List ℕ) (i x : ℕ) → i < length list → ((j : ℕ) → j < i → P j (get_or list j 0)) → P i x → (j : ℕ) → j < i + 1 → P j (get_or (set list i x) j 0)
 fill-turn P list i x h f q j k = go (eq-or-lt_of_le {n = j} {m = i} (omega arith))
@@ -39,7 +38,7 @@ pub sum-none : (l : List ℕ) → sum (part l 0 0) < 2 ^ 64
 unfolding part sum
 sum-none l = omega arith
 
-pub gives_of : (lim : Limits) {terms runs list : List ℕ} {n h v : ℕ} {terms' runs' : List ℕ} {r : Entered} (x : Node) → node_of h v (part list 0 n) ≡ x → n ≤ length list → Interning lim terms runs list n h v terms' runs' r → Gives terms runs terms' runs' (intern lim (pool_of terms runs) x) r
+pub gives_of : (lim : Limits) {terms runs list : List ℕ} {n h v : ℕ} {terms' runs' : List ℕ} {r : Option ℕ} (x : Node) → node_of h v (part list 0 n) ≡ x → n ≤ length list → Interning lim terms runs list n h v terms' runs' r → Gives terms runs terms' runs' (intern lim (pool_of terms runs) x) r
 gives_of lim x e k I = rw (← e) (record { answer = I.answer; pool = I.pool; holds = I.holds; grows = grows-intern lim k I })
 
 -- ---- a member's children as runs over kept terms

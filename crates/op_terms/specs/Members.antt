@@ -1,5 +1,5 @@
 -- A member's term over the kept best terms of its children's classes: kept by their number plus 1, 0 where a class is still unbuilt.
-use Rattle.std.specs.Prelude.{◌≡◌, List, map, ℕ, ◌+◌, ◌*◌, ◌-◌, ◌≤◌, ◌<◌, eqb, length, get_or}
+use Rattle.std.specs.Prelude.{◌≡◌, List, map, ℕ, ◌+◌, ◌*◌, ◌-◌, ◌≤◌, ◌<◌, eqb, length, get_or, Option}
 use Rattle.spec.specs.Bytes.{Two, pick, Res}
 use Rattle.spec.specs.Image.{Tables, Member, Lit, kind_of, children_of, the_member}
 use Rattle.spec.specs.Pool.{Node, lit_node, op_node, Interned}
@@ -8,10 +8,9 @@ use Rattle.terms.specs.Buffers.{pool_of}
 use Rattle.terms.specs.Chains.{Holds}
 use Rattle.interning.specs.Interning.{entered_of, pool_after}
 use Rattle.interning.specs.Growing.{Grows}
-use Rattle.interning.specs.declared.Entered.{Entered}
 
 -- the answer and the buffers where the definitions give m
-pub record Gives (terms runs terms' runs' : List ℕ) (m : Res Interned) (r : Entered) : Type 0 where
+pub record Gives (terms runs terms' runs' : List ℕ) (m : Res Interned) (r : Option ℕ) : Type 0 where
   pub answer : r ≡ entered_of m
   pub pool : pool_of terms' runs' ≡ pool_after (pool_of terms runs) m
   pub holds : Holds terms' runs'

@@ -11,7 +11,6 @@ ghost use Rattle.terms.specs.Chains.{Holds, Rooms};
 ghost use Rattle.op_terms.specs.Members.{Gives, kept_run, kept_number, MemberReady};
 
 use image::Image;
-use interning::Entered;
 use query::Limits;
 
 // child k of the image as a run over the kept term of its class
@@ -43,7 +42,7 @@ pub fn op_term(
     best: &[u16],
     m: usize,
     op: usize,
-) -> Entered
+) -> Option<usize>
     requires { Holds terms.old runs.old × Loaded s.now im × (m < im.members) × (op < 64) × MemberReady (tables_of s.now) best.now (count_in terms.old) m × Rooms (limits_of lim) terms.old runs.old }
     ensures { Gives terms.old runs.old terms.new runs.new (intern (limits_of lim) (pool_of terms.old runs.old) (op_node op (map (kept_run best.now) (children_of (tables_of s.now) (the_member (tables_of s.now) m))))) result }
 {

@@ -1,5 +1,5 @@
 -- The answer from a listing that was written or exceeds the output, and from a refusal.
-use Rattle.std.specs.Prelude.{◌≡◌, Bool, ℕ, ◌≤◌}
+use Rattle.std.specs.Prelude.{◌≡◌, Bool, ℕ, ◌≤◌, Option, Some, None}
 use Rattle.std.proofs.Math.Path.{refl, sym, ap}
 use Rattle.std.proofs.Common.{◌∙◌, arith}
 use Rattle.std.proofs.Math.Bool.{true, false}
@@ -16,17 +16,15 @@ use Rattle.terms.specs.Buffers.{pool_of}
 use Rattle.first_line.specs.Fields.{outcome_of}
 use Rattle.listing.specs.Lists as L
 use Rattle.first_line.specs.declared.Report.{Report}
-use Rattle.listing.specs.declared.Written.{Written}
-use Rattle.listing.specs.declared.Written.TheVariants as W
 use Rattle.outcome.specs.Answers.{outcome_in, listed_of, Answers}
 use Rattle.outcome.specs.declared.Outcome.{Outcome}
 use Rattle.outcome.specs.declared.Answer.{Answer}
 use Rattle.outcome.specs.declared.Answer.TheVariants as A
 
-bytes-inj : {m n : ℕ} → W.Bytes m ≡ W.Bytes n → m ≡ n
+bytes-inj : {m n : ℕ} → Some m ≡ Some n → m ≡ n
 bytes-inj e = cc
 
-bytes-full : {n : ℕ} → W.Bytes n ≡ W.Full → ⊥
+bytes-full : {n : ℕ} → Some n ≡ None → ⊥
 bytes-full e = let z : ◌≡◌ {A = ℕ} 0 1 = cc in omega arith
 
 refused-listing : {k n : ℕ} → A.Refused k ≡ A.Listing n → ⊥
@@ -41,11 +39,11 @@ module _ (k : ℕ) (u : run.Outcome) (out out' : List ℕ) where
   abbrev l : List ℕ
   l = listing_of k u
 
-  pub answer-bytes : (n : ℕ) → W.Bytes n ≡ L.answer_of l out → out' ≡ L.output_of l out → Answers k (ok u) out out' (A.Listing n)
+  pub answer-bytes : (n : ℕ) → Some n ≡ L.answer_of l out → out' ≡ L.output_of l out → Answers k (ok u) out out' (A.Listing n)
   unfolding output_after
   answer-bytes n e o = go (leb (length l) (length out)) refl e o
     where
-      go : (b : Bool) → leb (length l) (length out) ≡ b → W.Bytes n ≡ pick b (W.Bytes (length l)) W.Full → out' ≡ pick b (l ++ drop (length l) out) out → Answers k (ok u) out out' (A.Listing n)
+      go : (b : Bool) → leb (length l) (length out) ≡ b → Some n ≡ pick b (Some (length l)) None → out' ≡ pick b (l ++ drop (length l) out) out → Answers k (ok u) out out' (A.Listing n)
       go true q e o =
           let s = listed_by k u (length out) true q in
           let t : take n out' ≡ l = rw (bytes-inj e, o) (take-append_seam l (drop (length l) out)) in
@@ -53,11 +51,11 @@ module _ (k : ℕ) (u : run.Outcome) (out out' : List ℕ) where
           record { answer = ap (λ (z : List ℕ). ok z) t ∙ sym s; output = rw s o; fits = λ m z. let i : n ≡ m = cc in omega (arith, h, i, bytes-inj e) }
       go false q e o = absurd (bytes-full e)
 
-  pub answer-full : W.Full ≡ L.answer_of l out → out' ≡ L.output_of l out → Answers k (ok u) out out' (A.Refused 14)
+  pub answer-full : None ≡ L.answer_of l out → out' ≡ L.output_of l out → Answers k (ok u) out out' (A.Refused 14)
   unfolding output_after
   answer-full e o = go (leb (length l) (length out)) refl e o
     where
-      go : (b : Bool) → leb (length l) (length out) ≡ b → W.Full ≡ pick b (W.Bytes (length l)) W.Full → out' ≡ pick b (l ++ drop (length l) out) out → Answers k (ok u) out out' (A.Refused 14)
+      go : (b : Bool) → leb (length l) (length out) ≡ b → None ≡ pick b (Some (length l)) None → out' ≡ pick b (l ++ drop (length l) out) out → Answers k (ok u) out out' (A.Refused 14)
       go true q e o = absurd (bytes-full (sym e))
       go false q e o = let s = listed_by k u (length out) false q in record { answer = sym s; output = rw s o; fits = λ m z. absurd (refused-listing z) }
 
@@ -66,11 +64,11 @@ module _ (o : Outcome) (f : Report) (terms runs : List ℕ) (complete : f.comple
   reported : outcome_of f (pool_of terms runs) o.root ≡ outcome_in o terms runs
   reported = λ i. record { complete = complete i; nodes = pairs i; rounds = rounds i; quality = (size i, mass i); pool = (outcome_in o terms runs).pool; root = o.root; checks = checks i }
 
-  module _ (marks out marks' out' : List ℕ) (w : Written) (X : L.Lists terms runs o.root f marks out marks' out' w) (k : ℕ) (skipped : f.skipped ≡ k) where
-    pub listed-bytes : (n : ℕ) → w ≡ W.Bytes n → Answers k (ok (outcome_in o terms runs)) out out' (A.Listing n)
+  module _ (marks out marks' out' : List ℕ) (w : Option ℕ) (X : L.Lists terms runs o.root f marks out marks' out' w) (k : ℕ) (skipped : f.skipped ≡ k) where
+    pub listed-bytes : (n : ℕ) → w ≡ Some n → Answers k (ok (outcome_in o terms runs)) out out' (A.Listing n)
     listed-bytes n e = rw (← reported, ← skipped) (answer-bytes f.skipped (outcome_of f (pool_of terms runs) o.root) out out' n (sym e ∙ X.answer) X.output)
 
-    pub listed-full : w ≡ W.Full → Answers k (ok (outcome_in o terms runs)) out out' (A.Refused 14)
+    pub listed-full : w ≡ None → Answers k (ok (outcome_in o terms runs)) out out' (A.Refused 14)
     listed-full e = rw (← reported, ← skipped) (answer-full f.skipped (outcome_of f (pool_of terms runs) o.root) out out' (sym e ∙ X.answer) X.output)
 
 pub answer-refused : (k n : ℕ) (out : List ℕ) → Answers k (refused n) out out (A.Refused n)

@@ -9,7 +9,6 @@ ghost use Rattle.outcome.specs.Answers.{outcome_in, ran_in, Listable, Answers};
 ghost use Rattle.work_clearing.specs.Cleared.{Cleared};
 
 use first_line::Report;
-use listing::Written;
 use numbers::{long_size, long_u32};
 use work_clearing::clear_all;
 
@@ -57,18 +56,14 @@ fn list_outcome(
         rounds: long_u32(o.rounds),
         size: long_u32(o.size),
         mass: long_u32(o.mass),
-        skipped: skipped,
+        skipped,
         checks: long_u32(o.checks),
     };
     let root = o.root;
     let w = listing::list(terms, runs, marks, out, root, f);
     match w {
-        Written::Full => {
-            return Answer::Refused(14);
-        }
-        Written::Bytes(n) => {
-            return Answer::Listing(n);
-        }
+        Some(n) => Answer::Listing(n),
+        None => Answer::Refused(14),
     }
 }
 
@@ -85,12 +80,8 @@ fn list_ran(
     ensures { Answers skipped (ran_in x terms.now runs.now) out.old out.new result }
 {
     match x {
-        Ran::Stopped(k) => {
-            return Answer::Refused(k);
-        }
-        Ran::Done(o) => {
-            return list_outcome(o, skipped, terms, runs, marks, out);
-        }
+        Ran::Stopped(k) => Answer::Refused(k),
+        Ran::Done(o) => list_outcome(o, skipped, terms, runs, marks, out),
     }
 }
 

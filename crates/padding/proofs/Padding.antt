@@ -14,8 +14,7 @@ use Rattle.laws.specs.Tests.{both_true}
 use Rattle.monomial_terms.specs.Terms.{terms, held, front, Holds, Roomy}
 use Rattle.padding.specs.Pad.{level_by, levelled, unmatched, both_narrow, padded_of, answer_of, Pads, Paddable}
 use Rattle.monomial.specs.Places.{TOTAL}
-use Rattle.padding.specs.declared.Padded.{Padded}
-use Rattle.padding.specs.declared.Padded.TheVariants.{Pair, Nothing}
+use Rattle.std.proofs.Common.{Option, Some, None}
 use Rattle.monomial_terms.specs.TermLaws.{held-length, held-is, held_same, grow}
 
 -- ---- level: the smaller one gets what it lacks
@@ -75,7 +74,7 @@ module _ (id n m a b : ℕ) (s u s' u' : List ℕ) (k l : ℕ) (p : Paddable n m
   narrow-are x h = rw (held-is _ s s' k rows, held-is _ u u' l cols) at h
 
   pub pads-pair : (x y : Bool) → x ≡ unmatched id a b → x ≡ false → y ≡ both_narrow (held k s') (held l u') → y ≡ true
-      → Pads (padded_of id (held n s) (held m u)) id (held n s) (held m u) s u s' u' (Pair k l)
+      → Pads (padded_of id (held n s) (held m u)) id (held n s) (held m u) s u s' u' (Some (k, l))
   unfolding padded_of
   pads-pair x y h i j w =
       let q : unmatched id (total (held n s)) (total (held m u)) ≡ false = rw (← e, ← f) (sym h ∙ i) in
@@ -83,7 +82,7 @@ module _ (id n m a b : ℕ) (s u s' u' : List ℕ) (k l : ℕ) (p : Paddable n m
       record { answer = rw (q, r, rows.len, cols.len) refl; rows = rows.whole; cols = cols.whole; few = (few-rows, few-cols) }
 
   pub pads-wide : (x y : Bool) → x ≡ unmatched id a b → x ≡ false → y ≡ both_narrow (held k s') (held l u') → y ≡ false
-      → Pads (padded_of id (held n s) (held m u)) id (held n s) (held m u) s u s' u' Nothing
+      → Pads (padded_of id (held n s) (held m u)) id (held n s) (held m u) s u s' u' None
   unfolding padded_of
   pads-wide x y h i j w =
       let q : unmatched id (total (held n s)) (total (held m u)) ≡ false = rw (← e, ← f) (sym h ∙ i) in
@@ -108,7 +107,7 @@ module _ (id n m : ℕ) (s u : List ℕ) (p : Paddable n m s u) where
   same l k v e h i = rw e (held_same k v h (omega arith)).whole
 
   pub pads-unmatched : (x : Bool) (a b : ℕ) → a ≡ total (held n s) → b ≡ total (held m u) → x ≡ unmatched id a b → x ≡ true
-      → Pads (padded_of id (held n s) (held m u)) id (held n s) (held m u) s u s u Nothing
+      → Pads (padded_of id (held n s) (held m u)) id (held n s) (held m u) s u s u None
   unfolding padded_of
   pads-unmatched x a b e f h i =
       let q : unmatched id (total (held n s)) (total (held m u)) ≡ true = rw (← e, ← f) (sym h ∙ i) in
@@ -143,7 +142,7 @@ itself-total (t ∷ v ∷ m) c h = step (eqb t.0 c) refl (eqb t.1 1) refl
 
 module _ (id l r n m : ℕ) (s u : List ℕ) (p : Paddable n m s u) where
   pub pads-itself : (x : Bool) → x ≡ both_itself l r (held n s) (held m u) → x ≡ true
-      → Pads (answer_of l r id (held n s) (held m u)) id (held n s) (held m u) s u s u Nothing
+      → Pads (answer_of l r id (held n s) (held m u)) id (held n s) (held m u) s u s u None
   unfolding answer_of
   pads-itself x h i =
       let q : both_itself l r (held n s) (held m u) ≡ true = sym h ∙ i in
@@ -157,7 +156,7 @@ module _ (id l r n m : ℕ) (s u : List ℕ) (p : Paddable n m s u) where
         few = tt;
       }
 
-  pub pads-other : (x : Bool) (s' u' : List ℕ) (y : Padded) → x ≡ both_itself l r (held n s) (held m u) → x ≡ false
+  pub pads-other : (x : Bool) (s' u' : List ℕ) (y : Option (ℕ × ℕ)) → x ≡ both_itself l r (held n s) (held m u) → x ≡ false
       → Pads (padded_of id (held n s) (held m u)) id (held n s) (held m u) s u s' u' y
       → Pads (answer_of l r id (held n s) (held m u)) id (held n s) (held m u) s u s' u' y
   unfolding answer_of

@@ -9,7 +9,11 @@ use lib.Dec.{eqb}
 use lib.ListN.{length, drop, get_or, drop_of_length-le}
 use lib.Seq.{drop-cons, get_or-take}
 use Rattle.spec.specs.Bytes.{Two, both, sum, same_two, same_twos}
-use Rattle.spec.specs.Monomial.{Monomial, total, itself}
+use Rattle.std.proofs.Common.{Option, Some, None, is_some, not}
+use Rattle.spec.specs.Monomial.{Monomial, total, itself, narrow, fails_at}
+use Rattle.laws.specs.Tests.{clash}
+use Rattle.narrowing.specs.Narrowing.{narrowed_of}
+use Rattle.narrowing.specs.NarrowLaws.{fits-narrow, fails-narrow}
 use Rattle.monomial_terms.specs.Terms.{terms, held}
 use Rattle.monomial_terms.specs.TermLaws.{held-length}
 
@@ -70,11 +74,9 @@ module _ (s : List ℕ) (n c : ℕ) (l : length s ≡ 130) (b : n ≤ 65) where
   pub itself-count : (x y : ℕ) → n ≡ 1 → x ≡ (get_or (terms s) 0 (0, 0)).0 → x ≡ c → y ≡ (get_or (terms s) 0 (0, 0)).1 → same_twos (held n s) (itself c) ≡ eqb y 1
   itself-count x y h e f g = one h ∙ rw (← e, ← g, eq-eqb x c f) refl
 
--- both tests, in order
-pub both_first : (p q a b : Bool) → p ≡ true → p ≡ a → q ≡ b → q ≡ both a b
-both_first p q true b h e f = f
-both_first p q false b h e f = absurd (let z : ◌≡◌ {A = ℕ} 0 1 = cc in omega arith)
-
-pub both-not : (p a b : Bool) → p ≡ false → p ≡ a → false ≡ both a b
-both-not p true b h e = absurd (let z : ◌≡◌ {A = ℕ} 0 1 = cc in omega arith)
-both-not p false b h e = refl
+-- no count is too large: what `narrow` says
+pub fits_is : (x : Option ℕ) (b : Bool) (m : Monomial) → x ≡ narrowed_of (fails_at m) → is_some x ≡ not b → b ≡ narrow m
+fits_is None true m e h = sym (fits-narrow m e)
+fits_is None false m e h = absurd (clash (sym h))
+fits_is (Some i) true m e h = absurd (clash h)
+fits_is (Some i) false m e h = sym (fails-narrow m i e)

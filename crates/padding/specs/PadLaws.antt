@@ -1,5 +1,5 @@
 -- Padding after both monomials have been written, for callers of `of_place` and `pad_pair`.
-use Rattle.std.specs.Prelude.{◌≡◌, Bool, true, false, List, ℕ, ◌-◌, ◌≤◌, ltb, eqb, length}
+use Rattle.std.specs.Prelude.{◌≡◌, Bool, true, false, List, ℕ, ◌-◌, ◌≤◌, ltb, eqb, length, Option}
 use Rattle.std.proofs.Common.{ap, ◌∙◌, arith}
 use Rattle.spec.specs.Bytes.{Two, pick}
 use Rattle.spec.specs.Image.{NO-IDENTITY}
@@ -8,7 +8,6 @@ use Rattle.monomial_terms.specs.Terms.{terms, held, front}
 use Rattle.monomial_terms.specs.TermLaws.{held-is, front-front, grow}
 use Rattle.monomial.specs.Places.{Made}
 use Rattle.padding.specs.Pad.{levelled, answer_of, Pads, Paddable}
-use Rattle.padding.specs.declared.Padded.{Padded}
 
 pub levelled-long : (id : ℕ) (A B : Monomial) → length A ≤ length (levelled id A B)
 unfolding levelled
@@ -30,7 +29,7 @@ paddable A B s u s₁ u₁ n m l k a b = record {
   small_right = rw (held-is B u u₁ m b.holds) b.small;
 }
 
-pub pads-made : (l r id e : ℕ) (A B : Monomial) (s u s₁ u₁ s' u' : List ℕ) (n m : ℕ) (x : Padded) → id ≡ e → Made A s s₁ n → Made B u u₁ m
+pub pads-made : (l r id e : ℕ) (A B : Monomial) (s u s₁ u₁ s' u' : List ℕ) (n m : ℕ) (x : Option (ℕ × ℕ)) → id ≡ e → Made A s s₁ n → Made B u u₁ m
     → Pads (answer_of l r id (held n s₁) (held m u₁)) id (held n s₁) (held m u₁) s₁ u₁ s' u' x → Pads (answer_of l r e A B) e A B s u s' u' x
 pads-made l r id e A B s u s₁ u₁ s' u' n m x q a b d =
     let c : Pads (answer_of l r e A B) e A B s₁ u₁ s' u' x = rw (held-is A s s₁ n a.holds, held-is B u u₁ m b.holds, q) at d in

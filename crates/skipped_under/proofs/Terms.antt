@@ -19,7 +19,7 @@ use Rattle.monomial_terms.specs.TermLaws.{held-full, held-is, grow}
 use Rattle.monomial.specs.Places.{Made}
 use Rattle.narrowing.specs.Narrowing.{narrowed_of}
 use Rattle.narrowing.specs.NarrowLaws.{fits-narrow, fails-narrow}
-use Rattle.narrowing.specs.declared.Narrowed.TheVariants.{Fits, FailsAt}
+use Rattle.std.proofs.Common.{Some, None}
 use Rattle.padding.specs.Pad.{level_by}
 use Rattle.skipped_under.specs.Told.{put_facts}
 
@@ -112,14 +112,14 @@ module _ (s : List ℕ) (n c i : ℕ) (l : 2 * n ≤ length s) (inv : count_at c
 
 -- ---- the greatest total
 module _ (m : Monomial) (e : ℕ) where
-  pub count_fits : (k x : ℕ) → Fits ≡ narrowed_of (fails_at m) → x ≡ e → k ≡ count_at x m → k ≤ COUNT
+  pub count_fits : (k x : ℕ) → None ≡ narrowed_of (fails_at m) → x ≡ e → k ≡ count_at x m → k ≤ COUNT
   count_fits k x h q z = rw z (count-narrow x m (fits-narrow m h))
 
-  pub most-fits : (k x a : ℕ) → Fits ≡ narrowed_of (fails_at m) → x ≡ e → k ≡ count_at x m → a ≡ total m → a + (COUNT - k) ≡ most e m
+  pub most-fits : (k x a : ℕ) → None ≡ narrowed_of (fails_at m) → x ≡ e → k ≡ count_at x m → a ≡ total m → a + (COUNT - k) ≡ most e m
   unfolding most
   most-fits k x a h q z g = rw (fits-narrow m h, z, q, g) refl
 
-  pub most-fails : (i : ℕ) → FailsAt i ≡ narrowed_of (fails_at m) → 0 ≡ most e m
+  pub most-fails : (i : ℕ) → Some i ≡ narrowed_of (fails_at m) → 0 ≡ most e m
   unfolding most
   most-fails i h = rw (fails-narrow m i h) refl
 

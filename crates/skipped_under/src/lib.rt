@@ -18,7 +18,7 @@ use ac_repr::next_place;
 use image::Image;
 use monomial::of_place;
 use monomial_terms::{class_at, count_at};
-use narrowing::{Narrowed, narrow};
+use narrowing::narrow;
 use numbers::{long_size, size_u64};
 use padding::{level, total};
 use skipped_pairs::{FACTS, PLACES, count_pairs, place_at};
@@ -31,10 +31,7 @@ fn same_term(left: &[u64], right: &[u64], i: usize) -> bool
     requires { (2 * i + 1 < length left.now) × (2 * i + 1 < length right.now) }
     ensures { result ≡ same_two (get_or (terms left.now) i (0, 0)) (get_or (terms right.now) i (0, 0)) }
 {
-    if class_at(left, i) != class_at(right, i) {
-        return false;
-    }
-    count_at(left, i) == count_at(right, i)
+    class_at(left, i) == class_at(right, i) && count_at(left, i) == count_at(right, i)
 }
 
 fn same(left: &[u64], n: usize, right: &[u64], m: usize) -> bool
@@ -59,9 +56,10 @@ fn term_count(mono: &[u64], i: usize, c: u64) -> u64
     ensures { result ≡ pick (eqb (get_or (terms mono.now) i (0, 0)).0 c) (get_or (terms mono.now) i (0, 0)).1 0 }
 {
     if class_at(mono, i) == c {
-        return count_at(mono, i);
+        count_at(mono, i)
+    } else {
+        0
     }
-    0
 }
 
 // The count of class c.
@@ -83,8 +81,8 @@ fn most_of(mono: &[u64], n: usize, id: usize, all: u64) -> u64
     ensures { result ≡ most id (held n mono.now) }
 {
     match narrow(mono, n) {
-        Narrowed::Fits => all + (id::multiplicity::MAX - count_of(mono, n, long_size(id))),
-        Narrowed::FailsAt(_) => 0,
+        None => all + (id::multiplicity::MAX - count_of(mono, n, long_size(id))),
+        Some(_) => 0,
     }
 }
 
@@ -155,14 +153,12 @@ fn kin_of(s: &[u8], im: Image, c: usize, id: usize, f: &[u64], i: usize) -> usiz
 {
     let mut left = [0u64; monomial_terms::NUMBERS];
     let n = fill(s, im, c, size_u64(place_at(f, i)), id, &mut left);
-    let mut k = 0;
-    while k < i {
+    for k in 0..i {
         if is_kin(s, im, c, size_u64(place_at(f, k)), id, &left, n) {
             return k;
         }
-        k += 1;
     }
-    k
+    i
 }
 
 fn put_kin(f: &mut [u64], i: usize, k: u64)

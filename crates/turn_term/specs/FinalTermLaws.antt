@@ -1,5 +1,5 @@
 -- A turn's choice made into its term: the runs in the list are the choice's, and they are what the pool takes.
-use Rattle.std.specs.Prelude.{◌≡◌, Bool, get_or, take, drop}
+use Rattle.std.specs.Prelude.{◌≡◌, Bool, get_or, take, drop, Option, Some}
 use Rattle.std.proofs.Math.Path.{refl}
 use Rattle.std.proofs.Common.{sym, ap, ◌∙◌, length-append, take-append-drop}
 use Rattle.std.proofs.Math.Logic.{inl, inr}
@@ -28,8 +28,6 @@ use Rattle.terms.specs.Chains.{Holds}
 use Rattle.action_term.specs.Results.{action_list, ActionResult}
 use Rattle.terms.specs.PartLaws.{part-front}
 use Rattle.interning.specs.GrowLaws.{grows_none}
-use Rattle.interning.specs.declared.Entered.{Entered}
-use Rattle.interning.specs.declared.Entered.TheVariants as E
 use Rattle.arrays.specs.Arrays.{Known, TermsBelow, quality_in, term_in}
 use Rattle.arrays.specs.ArrayLaws.{place-lt, known-low}
 use Rattle.action_runs.specs.Runs.{packed, runs_over}
@@ -100,7 +98,7 @@ pub over-front : (list r : List ℕ) (m : ℕ) → take m list ≡ r → m ≡ l
 over-front list r m e h = sym (take-append-drop m list) ∙ (λ i. e i ++ drop (h i) list)
 
 module _ (lim : Limits) (t : Tables) (of : Two → ℕ) (terms runs : List ℕ) (hold : Holds terms runs) (old : ℕ) (c : Choice) (list : List ℕ) where
-  pub ended-stay : c ≡ stay → (r : ℕ) → r ≡ old → Ended lim t of terms runs old c list terms runs list (E.Term r)
+  pub ended-stay : c ≡ stay → (r : ℕ) → r ≡ old → Ended lim t of terms runs old c list terms runs list (Some r)
   unfolding system.choice_term
   ended-stay e r f = rw (e, f) (record { answer = refl; pool = refl; holds = hold; grows = grows_none terms runs hold; list_is = refl })
 
@@ -131,7 +129,7 @@ module _ (lim : Limits) (t : Tables) (of : Two → ℕ) (terms runs : List ℕ) 
     pub act-given : ((i : ℕ) → get_or a.counts i 0 ≤ COUNT) → length a.places ≤ 4225 → (n ≤ length list₁) × RunsBelow (count_in terms) (map unpack (part list₁ 0 n)) × (sum (part list₁ 0 n) < 2 ^ 64)
     act-given h f = (act-fits, act-below, act-light h f)
 
-    pub ended-act : (terms' runs' list' : List ℕ) (r : Entered) → ActionResult lim terms runs list₁ n a.op (is_commutative (kind_of t a.op)) terms' runs' list' r → Ended lim t of terms runs old c list terms' runs' list' r
+    pub ended-act : (terms' runs' list' : List ℕ) (r : Option ℕ) → ActionResult lim terms runs list₁ n a.op (is_commutative (kind_of t a.op)) terms' runs' list' r → Ended lim t of terms runs old c list terms' runs' list' r
     unfolding system.choice_term action_term
     ended-act terms' runs' list' r A =
         rw e

@@ -17,7 +17,6 @@ ghost use Rattle.turn_term.specs.FinalTerm.{Ended};
 ghost use Rattle.turn_term.specs.Agreeing.{Chosen};
 
 use image::Image;
-use interning::Entered;
 use numbers::{short_size, size_u32};
 use quality::How;
 use query::Limits;
@@ -32,7 +31,7 @@ fn intern_action(
     list: &mut [u64],
     terms: &mut [u32],
     runs: &mut [u64],
-) -> Entered
+) -> Option<usize>
     requires { Loaded s.now im × (o < im.operations) × (o < 64) × Holds terms.old runs.old × ((m ≤ length list.old) × RunsBelow (count_in terms.old) (map unpack (part list.old 0 m)) × (sum (part list.old 0 m) < 2 ^ 64)) × Rooms (limits_of lim) terms.old runs.old }
     ensures { ActionResult (limits_of lim) terms.old runs.old list.old m o (is_commutative (kind_of (tables_of s.now) o)) terms.new runs.new list.new result }
 {
@@ -53,14 +52,14 @@ pub fn turn_term(
     list: &mut [u64],
     terms: &mut [u32],
     runs: &mut [u64],
-) -> Entered
+) -> Option<usize>
     requires { Loaded s.now im × Valid (tables_of s.now) × (l < im.classes) × (r < im.classes) × Known im.classes graph.now pairs.now × TermsBelow im.classes graph.now pairs.now (count_in terms.old) × (64 ≤ length list.old) × Holds terms.old runs.old × Rooms (limits_of lim) terms.old runs.old
         × Chosen lim.pairs (tables_of s.now) (term_in im.classes graph.now pairs.now) list.old how (round.turn_of (tables_of s.now) (quality_in im.classes graph.now pairs.now) (l, r)).choice }
     ensures { Ended (limits_of lim) (tables_of s.now) (term_in im.classes graph.now pairs.now) terms.old runs.old (term_in im.classes graph.now pairs.now (l, r))
         (round.turn_of (tables_of s.now) (quality_in im.classes graph.now pairs.now) (l, r)).choice list.old terms.new runs.new list.new result }
 {
     match how {
-        How::Stay => Entered::Term(size_u32(arrays::term_of(graph, pairs, im.classes, l, r))),
+        How::Stay => Some(size_u32(arrays::term_of(graph, pairs, im.classes, l, r))),
         How::Aligned(v) => {
             let m = action_runs::list_action(s, im, v, graph, pairs, list);
             intern_action(lim, s, im, actions::op(s, im, v), m, list, terms, runs)

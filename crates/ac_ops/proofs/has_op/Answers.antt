@@ -1,12 +1,8 @@
-use Rattle.ac_ops.specs.AcOps.{of_op, any-stop, any-more, any-end, span-within, span-members, span-rises, span-any}
-use Rattle.spec.specs.Bytes.{any}
-use lib.Seq.{slice}
-use Rattle.spec.specs.Image.{tables_of, members_of}
-use borrow.Author.Rules.{rules}
-use Prim.Native.Nat.{◌≤◌, ◌-◌}
+use Rattle.ac_ops.specs.AcOps.{any-stop, any-more, any-end, span-within, span-members, span-rises, span-any}
+use Rattle.spec.specs.Image.{tables_of}
 use native.Mathlib.Omega.{arith}
 use native.Mathlib.Numerals.{add-one}
-use mathlib.Core.Path.{◌≡◌, sym, ◌∙◌}
+use mathlib.Core.Path.{sym, ◌∙◌}
 use Rattle.ac_ops.proofs.has_op.Goals as goal
 
 pub members_of-span-requires : goal.members_of-span-requires

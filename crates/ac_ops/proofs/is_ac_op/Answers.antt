@@ -1,7 +1,5 @@
 use Rattle.ac_ops.specs.AcOps.{op-other, op-left, op-right}
-use borrow.Author.Tests.{not-true, not-false}
 use Rattle.spec.specs.Image.{tables_of}
-use borrow.Author.Rules.{rules}
 use Rattle.ac_ops.proofs.is_ac_op.Goals as goal
 
 pub kind-requires : goal.kind-requires

@@ -1,9 +1,8 @@
-use Rattle.laws.specs.Firsts.{turn-stop, turn_more, turn_end, first_from}
+use Rattle.laws.specs.Firsts.{turn-stop, turn_more, turn_end, first-end}
 use Rattle.ac_ops.specs.AcOps.{ac_op}
 use Rattle.spec.specs.Image.{tables_of}
-use borrow.Author.Rules.{rules}
-use Prim.Native.Nat.{◌-◌}
-use mathlib.Core.Path.{◌≡◌, refl}
+use native.Mathlib.Omega.{arith}
+use mathlib.Core.Path.{refl}
 use Rattle.ac_ops.proofs.next_op.Goals as goal
 
 pub loop-i-init : goal.loop-i-init
@@ -22,4 +21,5 @@ loop-i-preserved c =
 
 pub returns : goal.returns
 returns c =
-    turn_end (ac_op (tables_of c.args.s.now) c.args.l c.args.r) c.args.o c.args.im.operations c.loop-i.i c.loop-i.invariant c.loop-i-test.false
+    let p = ac_op (tables_of c.args.s.now) c.args.l c.args.r in
+    grind (arith, turn_end p c.args.o c.args.im.operations c.loop-i.i c.loop-i.invariant c.loop-i-test.false, first-end p c.args.o c.args.im.operations)

@@ -1,10 +1,6 @@
-use Rattle.ac_repr.proofs.Steps.{Ahead, ahead, ops-at, ops-next, ops-end}
-use Rattle.image.specs.Loaded.{operations-many}
+use Rattle.ac_repr.proofs.Steps.{Ahead}
 use Rattle.spec.specs.Image.{tables_of}
-use borrow.Author.Rules.{rules}
-use Prim.Native.Nat.{◌-◌, ◌+◌}
-use native.Mathlib.Omega.{arith}
-use mathlib.Core.Path.{sym}
+use Prim.Native.Nat.{◌-◌}
 use Rattle.ac_repr.proofs.from_op.Given as goal
 
 abbrev pub invariant-loop-i : goal.invariant-loop-i

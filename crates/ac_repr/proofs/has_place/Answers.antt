@@ -1,6 +1,5 @@
 use Rattle.ac_repr.proofs.Places.{place-op, place-past, place_end}
 use Rattle.spec.specs.Image.{tables_of}
-use borrow.Author.Rules.{rules}
 use Rattle.ac_repr.proofs.has_place.Goals as goal
 
 pub returns-then-x-end : goal.returns-then-x-end

@@ -1,10 +1,10 @@
-use Rattle.laws.specs.Firsts.{turn-stop, turn_more, turn_end, first_from}
+use Rattle.laws.specs.Firsts.{turn-stop, turn_more}
 use Rattle.ac_repr.specs.Walk.{has_place}
 use Rattle.spec.specs.Image.{tables_of}
-use borrow.Author.Rules.{rules}
-use Prim.Native.Nat.{suc, ◌-◌}
+use Rattle.ac_repr.proofs.Places.{place_last}
+use Prim.Native.Nat.{suc, ◌+◌, ◌≤◌}
 use native.Mathlib.Omega.{arith}
-use mathlib.Core.Path.{◌≡◌, refl}
+use mathlib.Core.Path.{refl}
 use Rattle.ac_repr.proofs.next_place.Goals as goal
 
 pub loop-i-init : goal.loop-i-init
@@ -20,4 +20,5 @@ loop-i-preserved c =
 
 pub returns : goal.returns
 returns c =
-    turn_end (has_place (tables_of c.args.s.now) c.args.end c.args.op) c.args.x (suc c.args.end) c.loop-i.i c.loop-i.invariant (omega arith)
+    let h : c.args.x ≤ c.args.end + 1 → c.loop-i.i ≤ c.args.end + 1 = c.loop-i.auto.i-end in
+    place_last (has_place (tables_of c.args.s.now) c.args.end c.args.op) c.args.x (suc c.args.end) c.loop-i.i c.max.result (omega arith) (λ k. omega (arith, h (omega arith))) (omega arith) c.loop-i.invariant

@@ -2,17 +2,14 @@ use Rattle.query.specs.Settings.{limits_of}
 use Rattle.spec.specs.Image.{tables_of, best_size}
 use Rattle.image.specs.Loaded.{the_child}
 use Rattle.best_terms.specs.Building.{Walk, zeros}
-use Prim.Native.Nat.{ℕ, ◌≤◌, ◌<◌, ◌-◌, ◌+◌, ◌*◌}
+use Prim.Native.Nat.{ℕ, ◌<◌, ◌+◌, ◌*◌}
 use mathlib.Core.Path.{◌≡◌}
 use lib.ListN.{length, get_or}
 use Rattle.best_terms.proofs.build_best_term.Given as goal
 
-abbrev pub invariant-inner : goal.invariant-inner
-invariant-inner l =
-    (l.i ≤ l.n) × (l.terms ≡ l.initial.terms) × (l.runs ≡ l.initial.runs) × (l.waiting ≡ l.initial.waiting) × (l.c ≡ l.initial.c) × ((j : ℕ) → j < l.i → 0 < get_or l.best (the_child (tables_of l.s) (l.k + j)).0 0)
-
-abbrev pub decreases-inner : goal.decreases-inner
-decreases-inner l = l.n - l.i
+abbrev pub invariant-loop-i : goal.invariant-loop-i
+invariant-loop-i l =
+    (l.waiting ≡ l.initial.waiting) × (l.c ≡ l.initial.c) × ((j : ℕ) → j < l.i → 0 < get_or l.best (the_child (tables_of l.s) (l.k + j)).0 0)
 
 abbrev pub invariant-outer : goal.invariant-outer
 invariant-outer l =

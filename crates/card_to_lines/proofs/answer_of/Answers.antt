@@ -3,6 +3,6 @@ use mathlib.Core.Path.{ap, sym}
 use Rattle.card_to_lines.proofs.answer_of.Goals as goal
 
 -- src/lib.rt:27:1
-pub returns-in-Bytes : goal.returns-in-Bytes
-returns-in-Bytes c =
-    sym (ap answer_as c.in-Bytes.is)
+pub returns-in-Some : goal.returns-in-Some
+returns-in-Some c =
+    sym (ap answer_as c.in-Some.is)

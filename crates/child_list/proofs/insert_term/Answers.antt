@@ -20,6 +20,14 @@ loop-j-preserved c =
           c.class_at-t.result c.count_at-u.result h c.loop-j.invariant.3 c.class_at-t.ensures c.count_at-u.ensures c.put_term.ensures.0,
     )
 
+pub returns-2 : goal.returns-2
+returns-2 c =
+    let h : 2 * (c.args.p + c.loop-j.j) + 1 < length c.args.mono.now = omega arith in
+    let r = rippled-more c.args.mono.now c.loop-j.mono c.put_term.new.mono c.args.p c.loop-j.j (c.args.c, c.args.k) (c.loop-j.x, c.loop-j.y)
+    c.class_at-t.result c.count_at-u.result h c.loop-j.invariant.3 c.class_at-t.ensures c.count_at-u.ensures c.put_term.ensures.0 in
+    let e : c.loop-j.j ≡ c.args.n = omega arith in
+    (rw (← e) r.whole, c.put_term.ensures.1 ∙ c.loop-j.invariant.2)
+
 pub returns : goal.returns
 returns c =
     let e : c.args.n + 1 ≡ c.loop-j.j = omega arith in

@@ -15,14 +15,14 @@ seek_right-requires c = (
   span-end c.args.s.now c.args.im c.requires.0 c.requires.1 c.args.r c.members_of-right.result c.requires.3 c.members_of-right.ensures.0,
 )
 
-pub returns-in-At : goal.returns-in-At
-returns-in-At c =
-    let e = c.in-At.is in
-    sym (seek-here (tables_of c.args.s.now) c.args.l c.args.r c.members_of-to.ensures.0 c.members_of-right.ensures.0 c.loop-v.v c.in-At.x c.seek_right.ensures e c.loop-v-test.true) ∙ c.loop-v.invariant
+pub returns-in-Some : goal.returns-in-Some
+returns-in-Some c =
+    let e = c.in-Some.is in
+    sym (seek-here (tables_of c.args.s.now) c.args.l c.args.r c.members_of-to.ensures.0 c.members_of-right.ensures.0 c.loop-v.v c.in-Some.x c.seek_right.ensures e c.loop-v-test.true) ∙ c.loop-v.invariant
 
 pub loop-v-preserved : goal.loop-v-preserved
 loop-v-preserved c =
-    sym (seek-next (tables_of c.args.s.now) c.args.l c.args.r c.members_of-to.ensures.0 c.members_of-right.ensures.0 c.loop-v.v c.seek_right.ensures c.in-End.is c.loop-v-test.true) ∙ c.loop-v.invariant
+    sym (seek-next (tables_of c.args.s.now) c.args.l c.args.r c.members_of-to.ensures.0 c.members_of-right.ensures.0 c.loop-v.v c.seek_right.ensures c.in_default.is c.loop-v-test.true) ∙ c.loop-v.invariant
 
 pub returns : goal.returns
 returns c =

@@ -20,37 +20,37 @@ loop-w-init c =
     let d = going_start (pairs_of (structural t l r)) c.requires.4 (structural-small t c.requires.1 l r (omega (arith, c.requires.2, many)) (omega (arith, c.requires.3, many)) c.args.im.classes many) in
     (going-same d (pairs_of (list_from t l r c.start-v.result)) (ap pairs_of (sym (start-list c.requires.0 c.requires.1 c.requires.2 c.requires.3 c.start-v.ensures))), refl)
 
-pub returns-in-End : goal.returns-in-End
-returns-in-End c =
-    going_end c.loop-w.invariant.0 (actions-end c.requires.0 c.requires.1 c.requires.2 c.requires.3 c.loop-w.v c.seek.ensures c.in-End.is)
+pub returns-in-None : goal.returns-in-None
+returns-in-None c =
+    going_end c.loop-w.invariant.0 (actions-end c.requires.0 c.requires.1 c.requires.2 c.requires.3 c.loop-w.v c.seek.ensures c.in-None.is)
 
 pub enter_action-requires : goal.enter_action-requires
 enter_action-requires c =
     let t = tables_of c.args.s.now in
     let d = c.loop-w.invariant.0 in
     let v = c.loop-w.v in
-    let w = c.in-At.w in
-    (c.requires.0, c.requires.1, found-stands c.requires.0 c.requires.1 c.requires.2 c.requires.3 v c.seek.ensures w c.in-At.is, d.holds, going-small d (action_at t w).pairs (pairs_of (list_from t c.args.l c.args.r (after_of w))) (actions-next c.requires.0 c.requires.1 c.requires.2 c.requires.3 v c.seek.ensures w c.in-At.is))
+    let w = c.in-Some.w in
+    (c.requires.0, c.requires.1, found-stands c.requires.0 c.requires.1 c.requires.2 c.requires.3 v c.seek.ensures w c.in-Some.is, d.holds, going-small d (action_at t w).pairs (pairs_of (list_from t c.args.l c.args.r (after_of w))) (actions-next c.requires.0 c.requires.1 c.requires.2 c.requires.3 v c.seek.ensures w c.in-Some.is))
 
 pub returns-in-Full : goal.returns-in-Full
 returns-in-Full c =
     let t = tables_of c.args.s.now in
-    let w = c.in-At.w in
-    going-full c.loop-w.invariant.0 (action_at t w).pairs (pairs_of (list_from t c.args.l c.args.r (after_of w))) (actions-next c.requires.0 c.requires.1 c.requires.2 c.requires.3 c.loop-w.v c.seek.ensures w c.in-At.is) c.enter_action.result c.enter_action.ensures c.in-Full.is
+    let w = c.in-Some.w in
+    going-full c.loop-w.invariant.0 (action_at t w).pairs (pairs_of (list_from t c.args.l c.args.r (after_of w))) (actions-next c.requires.0 c.requires.1 c.requires.2 c.requires.3 c.loop-w.v c.seek.ensures w c.in-Some.is) c.enter_action.result c.enter_action.ensures c.in-Full.is
 
 pub after-v-requires : goal.after-v-requires
 after-v-requires c =
-    (found-stands c.requires.0 c.requires.1 c.requires.2 c.requires.3 c.loop-w.v c.seek.ensures c.in-At.w c.in-At.is).few
+    (found-stands c.requires.0 c.requires.1 c.requires.2 c.requires.3 c.loop-w.v c.seek.ensures c.in-Some.w c.in-Some.is).few
 
 pub loop-w-smaller : goal.loop-w-smaller
 loop-w-smaller c =
-    rw c.after-v.ensures (found-fewer c.requires.0 c.requires.1 c.requires.2 c.requires.3 c.loop-w.v c.seek.ensures c.in-At.w c.in-At.is)
+    rw c.after-v.ensures (found-fewer c.requires.0 c.requires.1 c.requires.2 c.requires.3 c.loop-w.v c.seek.ensures c.in-Some.w c.in-Some.is)
 
 pub loop-w-preserved : goal.loop-w-preserved
 loop-w-preserved c =
     let t = tables_of c.args.s.now in
     let l = c.args.l in
     let r = c.args.r in
-    let w = c.in-At.w in
-    let d = going_on c.loop-w.invariant.0 (action_at t w).pairs (pairs_of (list_from t l r (after_of w))) (actions-next c.requires.0 c.requires.1 c.requires.2 c.requires.3 c.loop-w.v c.seek.ensures w c.in-At.is) c.enter_action.result c.enter_action.ensures c.in-To.is in
+    let w = c.in-Some.w in
+    let d = going_on c.loop-w.invariant.0 (action_at t w).pairs (pairs_of (list_from t l r (after_of w))) (actions-next c.requires.0 c.requires.1 c.requires.2 c.requires.3 c.loop-w.v c.seek.ensures w c.in-Some.is) c.enter_action.result c.enter_action.ensures c.in-To.is in
     (going-same d (pairs_of (list_from t l r c.after-v.result)) (ap (λ (x : State). pairs_of (list_from t l r x)) (sym c.after-v.ensures)), omega (arith, c.loop-w.invariant.1, c.enter_action.auto))

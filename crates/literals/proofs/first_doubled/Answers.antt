@@ -3,7 +3,7 @@ use Rattle.laws.specs.Firsts.{turn-stop, turn_more, turn_end}
 use Rattle.image.specs.Loaded.{classes-many}
 use Rattle.spec.specs.Image.{tables_of}
 use native.Mathlib.Omega.{arith}
-use mathlib.Core.Path.{refl, ◌∙◌}
+use mathlib.Core.Path.{◌≡◌, refl, ◌∙◌}
 use lib.ListN.{length}
 use Rattle.literals.proofs.first_doubled.Goals as goal
 
@@ -24,5 +24,6 @@ loop-c-preserved c =
 pub returns : goal.returns
 returns c =
     let t = tables_of c.args.s.now in
-    turn_end (doubled_later t) 0 (length t.classes) c.loop-c.c c.loop-c.invariant (omega (arith, c.loop-c-test.false, classes-many c.args.s.now c.args.im c.requires.0))
+    let e : c.args.im.classes ≡ c.loop-c.c = omega arith in
+    e ∙ turn_end (doubled_later t) 0 (length t.classes) c.loop-c.c c.loop-c.invariant (omega (arith, c.loop-c-test.false, classes-many c.args.s.now c.args.im c.requires.0))
     ∙ first-later t

@@ -1,6 +1,5 @@
 use Rattle.monomial.proofs.Children.{roomy-less}
 use native.Mathlib.Omega.{arith}
-use borrow.Author.Rules.{rules}
 use Rattle.monomial.proofs.add_kth.Goals as goal
 
 pub add_class-requires : goal.add_class-requires

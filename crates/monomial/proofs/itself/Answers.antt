@@ -1,5 +1,4 @@
 use Rattle.monomial.proofs.Children.{none-roomy, itself-made}
-use borrow.Author.Rules.{rules}
 use Rattle.monomial.proofs.itself.Goals as goal
 
 pub add_class-requires : goal.add_class-requires

@@ -1,7 +1,5 @@
-use Rattle.monomial.proofs.Children.{Upto, upto-none, upto-room, upto_turn, upto_all, member-few, member-made, span-within}
+use Rattle.monomial.proofs.Children.{upto-none, upto-room, upto_turn, upto_all, member-few, member-made, span-within}
 use Rattle.spec.specs.Image.{tables_of}
-use borrow.Author.Rules.{rules}
-use Prim.Native.Nat.{◌-◌}
 use native.Mathlib.Omega.{arith}
 use Rattle.monomial.proofs.of_member.Goals as goal
 

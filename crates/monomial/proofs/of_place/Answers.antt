@@ -1,6 +1,5 @@
 use Rattle.monomial.proofs.Children.{place-member, place-itself, member-number}
 use Rattle.spec.specs.Image.{tables_of}
-use borrow.Author.Rules.{rules}
 use Rattle.monomial.proofs.of_place.Goals as goal
 
 pub of_member-requires : goal.of_member-requires

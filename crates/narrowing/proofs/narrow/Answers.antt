@@ -1,14 +1,9 @@
-use Rattle.narrowing.proofs.Scan.{upto-more, fails-here, fits-buffer, fits_all}
+use Rattle.narrowing.proofs.Scan.{upto-more, fails-here, fits_all}
 use native.Mathlib.Omega.{arith}
 use Rattle.narrowing.proofs.narrow.Goals as goal
 
 pub loop-i-init : goal.loop-i-init
 loop-i-init c = omega arith
-
-pub returns-then-i-many : goal.returns-then-i-many
-returns-then-i-many c =
-    let a = c.args in
-    fits-buffer a.mono.now a.n c.loop-i.i c.loop-i.invariant (omega arith)
 
 pub count_at-requires : goal.count_at-requires
 count_at-requires c = omega arith

@@ -1,5 +1,4 @@
 use Rattle.padding.proofs.Padding.{pads-unmatched, pads-pair, pads-wide}
-use borrow.Author.Rules.{rules}
 use Rattle.padding.proofs.pad.Goals as goal
 
 pub returns-then-unmatched : goal.returns-then-unmatched

@@ -1,5 +1,4 @@
 use Rattle.padding.proofs.Padding.{pads-itself, pads-other}
-use borrow.Author.Rules.{rules}
 use Rattle.padding.proofs.pad_pair.Goals as goal
 
 pub returns-then-both_itself : goal.returns-then-both_itself

@@ -1,12 +1,6 @@
 use Rattle.padding.proofs.Scans.{total-more, total-end}
-use Rattle.spec.specs.Monomial.{total}
-use Rattle.monomial_terms.specs.Terms.{held}
-use borrow.Author.Rules.{rules}
-use Prim.Native.Nat.{◌≤◌, ◌-◌, ◌+◌}
 use native.Mathlib.Omega.{arith}
 use native.Mathlib.Numerals.{add-one}
-use mathlib.Core.Path.{◌≡◌}
-use lib.ListN.{drop}
 use Rattle.padding.proofs.total.Goals as goal
 
 pub loop-i-init : goal.loop-i-init

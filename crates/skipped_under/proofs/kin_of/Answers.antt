@@ -6,7 +6,7 @@ use Rattle.skipped_pairs.specs.Held.{place_in}
 use Rattle.spec.specs.Image.{tables_of}
 use Rattle.monomial.specs.Places.{monomial_at}
 use native.Mathlib.Omega.{arith}
-use mathlib.Core.Path.{refl, ◌∙◌}
+use mathlib.Core.Path.{◌≡◌, refl, sym, ◌∙◌}
 use Rattle.skipped_under.proofs.kin_of.Goals as goal
 
 pub loop-k-init : goal.loop-k-init
@@ -26,4 +26,5 @@ loop-k-preserved c =
 
 pub returns : goal.returns
 returns c =
-    turn_end (λ k. same_twos (filled c.args.id (monomial_at (tables_of c.args.s.now) c.args.c (place_in c.args.f.now c.args.i))) (filled c.args.id (monomial_at (tables_of c.args.s.now) c.args.c (place_in c.args.f.now k)))) 0 c.args.i c.loop-k.k c.loop-k.invariant.1 (omega arith)
+    let e : c.loop-k.k ≡ c.args.i = omega arith in
+    sym e ∙ turn_end (λ k. same_twos (filled c.args.id (monomial_at (tables_of c.args.s.now) c.args.c (place_in c.args.f.now c.args.i))) (filled c.args.id (monomial_at (tables_of c.args.s.now) c.args.c (place_in c.args.f.now k)))) 0 c.args.i c.loop-k.k c.loop-k.invariant.1 (omega arith)

@@ -1,9 +1,5 @@
 use Rattle.skipped_under.proofs.Terms.{Alike}
-use Prim.Native.Nat.{◌-◌}
 use Rattle.skipped_under.proofs.same.Given as goal
 
 abbrev pub invariant-loop-i : goal.invariant-loop-i
 invariant-loop-i l = Alike l.left l.n l.right l.m l.i
-
-abbrev pub decreases-loop-i : goal.decreases-loop-i
-decreases-loop-i l = l.n - l.i
