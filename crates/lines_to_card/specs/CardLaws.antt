@@ -1,5 +1,5 @@
 -- What the parts of `card_of_lines` give together.
-use Rattle.std.specs.Prelude.{◌≡◌, Bool, true, false, not, List, ℕ, ◌-◌, ◌≤◌, ◌<◌, length}
+use Rattle.std.specs.Prelude.{Result, Ok, Err, ◌≡◌, Bool, true, false, not, List, ℕ, ◌-◌, ◌≤◌, ◌<◌, length}
 use Rattle.std.proofs.Math.Path.{refl, sym, ap}
 use Rattle.std.proofs.Common.{◌∙◌, arith}
 use Rattle.spec.specs.Bytes as bytes
@@ -13,8 +13,8 @@ use Rattle.terms.specs.Buffers.{pool_of, count_in}
 use Rattle.terms.specs.PoolLaws.{pool-length}
 use Rattle.terms.specs.Chains.{Holds, Rooms}
 use Rattle.term_lines.specs.Loading.{loaded_of, Loads}
-use Rattle.term_lines.specs.declared.Loaded.{Loaded}
-use Rattle.term_lines.specs.declared.Loaded.TheVariants as L
+use Rattle.term_lines.specs.declared.Fault.{Fault}
+use Rattle.term_lines.specs.declared.Fault.TheVariants as F
 use Rattle.card_contract.specs.Calls.{fits_lines, card_call, Answers, Cards, Cleared}
 use Rattle.card_contract.specs.declared.Answer.{Answer}
 use Rattle.card_contract.specs.declared.Answer.TheVariants.{Refused}
@@ -30,13 +30,13 @@ module _ (lim : bytes.Limits) (is : lim ≡ document_limits) (t s list terms run
   unfolding card_of_lines output_after
   refused-lines k e out r f = let z : read_lines document_limits s ≡ refused k = rw is at e in rw f (record { answer = rw z refl; output = rw z refl; inside = tt })
 
-  pub lines-broken : (x : Loaded) → x ≡ L.Broken → Loads lim s list terms runs list' terms' runs' x → (out : List ℕ) (r : Answer) → r ≡ Refused 17 → Answers (card_of_lines document_limits t s (length out)) out out r
+  pub lines-broken : (x : Result Unit Fault) → x ≡ Err F.Broken → Loads lim s list terms runs list' terms' runs' x → (out : List ℕ) (r : Answer) → r ≡ Refused 17 → Answers (card_of_lines document_limits t s (length out)) out out r
   lines-broken x e A = refused-lines 17 (sym (ap (loaded_of (pool_of terms' runs')) (sym e) ∙ A.answer))
 
-  pub lines-full : (x : Loaded) → x ≡ L.Full → Loads lim s list terms runs list' terms' runs' x → (out : List ℕ) (r : Answer) → r ≡ Refused 13 → Answers (card_of_lines document_limits t s (length out)) out out r
+  pub lines-full : (x : Result Unit Fault) → x ≡ Err F.Full → Loads lim s list terms runs list' terms' runs' x → (out : List ℕ) (r : Answer) → r ≡ Refused 13 → Answers (card_of_lines document_limits t s (length out)) out out r
   lines-full x e A = refused-lines 13 (sym (ap (loaded_of (pool_of terms' runs')) (sym e) ∙ A.answer))
 
-  module _ (x : Loaded) (told : x ≡ L.Pool) (A : Loads lim s list terms runs list' terms' runs' x) where
+  module _ (x : Result Unit Fault) (told : x ≡ Ok tt) (A : Loads lim s list terms runs list' terms' runs' x) where
     read : read_lines document_limits s ≡ ok (pool_of terms' runs')
     read = let z : read_lines lim s ≡ ok (pool_of terms' runs') = sym (ap (loaded_of (pool_of terms' runs')) (sym told) ∙ A.answer) in rw is at z
 

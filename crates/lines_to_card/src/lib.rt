@@ -11,7 +11,7 @@ ghost use Rattle.card_buffers.specs.BufferLaws.{Roomy};
 use card_buffers::{clear_all, short};
 use card_contract::Answer;
 use spec::Caller;
-use term_lines::Loaded;
+use term_lines::Fault;
 
 // How many runs a line may have: the numbers of `frames`.
 const RUNS: usize = 65536;
@@ -36,11 +36,10 @@ fn card_of(
     ensures { Answers (card_of_lines document_limits table.now lines.now (length out.old)) out.old out.new result }
 {
     let lim = query::limits_for(Caller::Desk);
-    let x = term_lines::read_lines(lim, lines, frames, terms, runs);
-    match x {
-        Loaded::Pool => last_card::write_last(table, terms, runs, marks, out),
-        Loaded::Broken => refuse(17),
-        Loaded::Full => refuse(13),
+    match term_lines::read_lines(lim, lines, frames, terms, runs) {
+        Ok(()) => last_card::write_last(table, terms, runs, marks, out),
+        Err(Fault::Broken) => refuse(17),
+        Err(Fault::Full) => refuse(13),
     }
 }
 

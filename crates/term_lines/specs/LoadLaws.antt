@@ -2,7 +2,7 @@
 use Rattle.std.proofs.Math.Path.{◌≡◌, refl, sym, ap}
 use Rattle.std.proofs.Common.{◌∙◌, drop_of_length-le, drop-cons}
 use Rattle.std.proofs.Math.Bool.{Bool, true, false}
-use Rattle.std.specs.Prelude.{List, [], ◌∷◌, ◌++◌, leb, eqb, replicate, Some, None}
+use Rattle.std.specs.Prelude.{Result, Ok, Err, List, [], ◌∷◌, ◌++◌, leb, eqb, replicate, Some, None}
 use Prim.Native.Nat.{ℕ, zero, suc, ◌+◌, ◌-◌, ◌^◌, ◌≤◌, ◌<◌}
 use native.Mathlib.Omega.{arith}
 use Rattle.std.proofs.Math.Dec.{ltb}
@@ -22,11 +22,9 @@ use Rattle.interning.specs.Growing.{Grows}
 use Rattle.interning.specs.GrowLaws.{grows_none, grows_then, grows-intern}
 use Rattle.term_lines.specs.Reading.{CutsLine}
 use Rattle.term_lines.specs.ValidLaws.{bound, ruled, same, line-sound, runs-light}
-use Rattle.term_lines.specs.declared.Line.TheVariants as N
 use Rattle.term_lines.specs.Loading.{add_line, AddsLine, lines_taken, AddsLines, Loads}
-use Rattle.term_lines.specs.declared.Loaded.{Loaded}
-use Rattle.term_lines.specs.declared.Added.TheVariants as A
-use Rattle.term_lines.specs.declared.Loaded.TheVariants as L
+use Rattle.term_lines.specs.declared.Fault.{Fault}
+use Rattle.term_lines.specs.declared.Fault.TheVariants as F
 
 -- ---- what interning answers
 module _ (lim : Limits) (p : Pool) (n : Node) where
@@ -89,19 +87,19 @@ module _ (lim : Limits) (s : List ℕ) (at k : ℕ) (terms runs list : List ℕ)
   number : k ≡ length p
   number = m ∙ sym (pool-length terms runs)
 
-  pub add-broken : CutsLine (cut_line k (drop at s)) s at list N.Broken → AddsLine lim s at terms runs terms runs A.Broken
+  pub add-broken : CutsLine (cut_line k (drop at s)) s at list (Err F.Broken) → AddsLine lim s at terms runs terms runs (Err F.Broken)
   unfolding add_line
   add-broken C =
       let a : refused 17 ≡ add_line lim p (drop at s) = rw (← number, ← C.answer) refl in
       record { answer = a; behind = tt; grows = rw (← a) (grows_none terms runs H) }
 
-  pub add-full : CutsLine (cut_line k (drop at s)) s at list N.Full → AddsLine lim s at terms runs terms runs A.Full
+  pub add-full : CutsLine (cut_line k (drop at s)) s at list (Err F.Full) → AddsLine lim s at terms runs terms runs (Err F.Full)
   unfolding add_line
   add-full C =
       let a : refused 13 ≡ add_line lim p (drop at s) = rw (← number, ← C.answer) refl in
       record { answer = a; behind = tt; grows = rw (← a) (grows_none terms runs H) }
 
-  module _ {h v n e : ℕ} (C : CutsLine (cut_line k (drop at s)) s at list (N.Node h v n e)) where
+  module _ {h v n e : ℕ} (C : CutsLine (cut_line k (drop at s)) s at list (Ok (h, v, n, e))) where
     abbrev node : Node
     node = node_of h v (part list 0 n)
 
@@ -112,7 +110,7 @@ module _ (lim : Limits) (s : List ℕ) (at k : ℕ) (terms runs list : List ℕ)
     node-light = let (a, b) = line-sound k (drop at s) _ (sym C.answer) in runs-light k (part list 0 n) a.below b
 
     module _ {terms' runs' : List ℕ} (long : RUNS ≤ length list) where
-      pub add-no-room : Interning lim terms runs list n h v terms' runs' None → AddsLine lim s at terms runs terms' runs' A.Full
+      pub add-no-room : Interning lim terms runs list n h v terms' runs' None → AddsLine lim s at terms runs terms' runs' (Err F.Full)
       unfolding add_line
       add-no-room I =
           let (o, q) = full-told (intern lim p node) I.answer in
@@ -121,7 +119,7 @@ module _ (lim : Limits) (s : List ℕ) (at k : ℕ) (terms runs list : List ℕ)
           record { answer = a; behind = tt; grows = rw (← a) (rw z at (grows-intern lim (omega (arith, C.behind.2)) I)) }
 
       module _ {t : ℕ} (I : Interning lim terms runs list n h v terms' runs' (Some t)) where
-        pub add-again : (t ≡ k → ⊥) → AddsLine lim s at terms runs terms' runs' A.Broken
+        pub add-again : (t ≡ k → ⊥) → AddsLine lim s at terms runs terms' runs' (Err F.Broken)
         unfolding add_line
         add-again d =
             let (x, q, w) = term_told t (intern lim p node) I.answer in
@@ -129,7 +127,7 @@ module _ (lim : Limits) (s : List ℕ) (at k : ℕ) (terms runs list : List ℕ)
             let o : x.pool ≡ p = intern-old lim p node x q (λ z. d (sym w ∙ z ∙ sym number)) in
             record { answer = a; behind = tt; grows = rw (← a) (rw (q, o) at (grows-intern lim (omega (arith, C.behind.2)) I)) }
 
-        pub add-new : t ≡ k → AddsLine lim s at terms runs terms' runs' (A.Next e)
+        pub add-new : t ≡ k → AddsLine lim s at terms runs terms' runs' (Ok e)
         unfolding add_line
         add-new d =
             let (x, q, w) = term_told t (intern lim p node) I.answer in
@@ -221,7 +219,7 @@ module _ (lim : Limits) (s list₀ terms₀ runs₀ list terms runs : List ℕ) 
         sym (taken_step lim (length s - (count_in terms + 1)) (pool_of terms runs) (drop at s) r more-text q) ∙ (rw e at S.taken)
 
     module _ {terms' runs' : List ℕ} where
-      pub loading-turn : {list' : List ℕ} {e : ℕ} → AddsLine lim s at terms runs terms' runs' (A.Next e) → length list' ≡ length list → length terms' ≡ length terms → length runs' ≡ length runs → Loading lim s list₀ terms₀ runs₀ list' terms' runs' e
+      pub loading-turn : {list' : List ℕ} {e : ℕ} → AddsLine lim s at terms runs terms' runs' (Ok e) → length list' ≡ length list → length terms' ≡ length terms → length runs' ≡ length runs → Loading lim s list₀ terms₀ runs₀ list' terms' runs' e
       unfolding fuel
       loading-turn {e = e} X a b c =
           let n : count_in terms' ≡ count_in terms + 1 = sym (pool-length terms' runs') ∙ add-next lim (pool_of terms runs) (drop at s) (pool_of terms' runs', drop e s) (sym X.answer) ∙ ap (λ (z : ℕ). z + 1) (pool-length terms runs) in
@@ -237,14 +235,14 @@ module _ (lim : Limits) (s list₀ terms₀ runs₀ list terms runs : List ℕ) 
             grows = grows_then S.grows (rw (← X.answer) at X.grows);
           }
 
-      pub loading-broken : AddsLine lim s at terms runs terms' runs' A.Broken → AddsLines lim s terms₀ runs₀ terms' runs' L.Broken
+      pub loading-broken : AddsLine lim s at terms runs terms' runs' (Err F.Broken) → AddsLines lim s terms₀ runs₀ terms' runs' (Err F.Broken)
       unfolding read_lines
       loading-broken X = record {
         answer = rw (← (rw (← X.answer) at stepped)) refl;
         grows = rw (← kept (refused 17) X.answer) (grows_then S.grows (rw (← X.answer) at X.grows));
       }
 
-      pub loading-full : AddsLine lim s at terms runs terms' runs' A.Full → AddsLines lim s terms₀ runs₀ terms' runs' L.Full
+      pub loading-full : AddsLine lim s at terms runs terms' runs' (Err F.Full) → AddsLines lim s terms₀ runs₀ terms' runs' (Err F.Full)
       unfolding read_lines
       loading-full X = record {
         answer = rw (← (rw (← X.answer) at stepped)) refl;
@@ -258,14 +256,14 @@ module _ (lim : Limits) (s list₀ terms₀ runs₀ list terms runs : List ℕ) 
     all-taken : pool_of terms runs ≡ lines_taken lim (length s) [] s
     all-taken = sym (taken_none lim (length s - count_in terms) (pool_of terms runs)) ∙ (rw (drop_of_length-le s h) at S.taken)
 
-    pub loading-none : count_in terms ≡ 0 → AddsLines lim s terms₀ runs₀ terms runs L.Broken
+    pub loading-none : count_in terms ≡ 0 → AddsLines lim s terms₀ runs₀ terms runs (Err F.Broken)
     unfolding read_lines
     loading-none z = record {
       answer = rw (← whole, le-ltb 0 (length (pool_of terms runs)) (omega (arith, pool-length terms runs))) refl;
       grows = rw (← all-taken) S.grows;
     }
 
-    pub loading-end : (count_in terms ≡ 0 → ⊥) → AddsLines lim s terms₀ runs₀ terms runs L.Pool
+    pub loading-end : (count_in terms ≡ 0 → ⊥) → AddsLines lim s terms₀ runs₀ terms runs (Ok tt)
     unfolding read_lines
     loading-end d = record {
       answer = rw (← whole, lt-ltb 0 (length (pool_of terms runs)) (omega (arith, pool-length terms runs))) refl;
@@ -278,5 +276,5 @@ emptied-ready {terms = terms} {runs = runs} R e =
     let h : LEAST ≤ length terms = omega (arith, R.long) in
     rw e (emptied-holds terms runs h, rooms_same (emptied-length terms runs h) refl R, sym (pool-length (emptied terms) runs) ∙ ap length (emptied-pool terms runs))
 
-pub loads : {lim : Limits} {s list terms runs terms₁ list' terms' runs' : List ℕ} {r : Loaded} (n : ℕ) → terms₁ ≡ emptied terms → AddsLines lim s terms₁ runs terms' runs' r → list' ≡ replicate n 0 → n ≡ length list → Loads lim s list terms runs list' terms' runs' r
+pub loads : {lim : Limits} {s list terms runs terms₁ list' terms' runs' : List ℕ} {r : Result Unit Fault} (n : ℕ) → terms₁ ≡ emptied terms → AddsLines lim s terms₁ runs terms' runs' r → list' ≡ replicate n 0 → n ≡ length list → Loads lim s list terms runs list' terms' runs' r
 loads n e X c k = record { answer = X.answer; grows = rw e at X.grows; clear = rw k at c }

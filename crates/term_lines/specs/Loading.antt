@@ -1,5 +1,5 @@
 -- Lines one after the other, and what the functions answer and leave: the rest of the text stands at the place that they answer, the pool in the buffers.
-use Rattle.std.specs.Prelude.{◌≡◌, true, false, List, [], ℕ, zero, suc, ◌≤◌, ◌<◌, eqb, length, drop, replicate}
+use Rattle.std.specs.Prelude.{Result, Ok, Err, ◌≡◌, true, false, List, [], ℕ, zero, suc, ◌≤◌, ◌<◌, eqb, length, drop, replicate}
 use Rattle.spec.specs.Bytes.{Limits, Res, ok, refused, rule, ◌>>=◌}
 use Rattle.spec.specs.Pool.{Pool, intern}
 use Rattle.formula.specs.Lexer.{is_nil}
@@ -7,10 +7,8 @@ use Rattle.formula.specs.Lines.{Cut, cut_line, read_lines}
 use Rattle.terms.specs.Buffers.{pool_of}
 use Rattle.terms.specs.Emptying.{emptied}
 use Rattle.interning.specs.Growing.{Grows}
-use Rattle.term_lines.specs.declared.Added.{Added}
-use Rattle.term_lines.specs.declared.Added.TheVariants as A
-use Rattle.term_lines.specs.declared.Loaded.{Loaded}
-use Rattle.term_lines.specs.declared.Loaded.TheVariants as L
+use Rattle.term_lines.specs.declared.Fault.{Fault}
+use Rattle.term_lines.specs.declared.Fault.TheVariants as F
 
 -- ---- one line more
 unfoldable pub add_line : Limits → Pool → List ℕ → Cut Pool
@@ -25,18 +23,18 @@ abbrev pub pool_then : Pool → Cut Pool → Pool
 pool_then p (ok x) = x.0
 pool_then p (refused n) = p
 
-abbrev pub added_of : List ℕ → Pool → Added → Cut Pool
-added_of s p (A.Next e) = ok (p, drop e s)
-added_of s p A.Broken = refused 17
-added_of s p A.Full = refused 13
+abbrev pub added_of : List ℕ → Pool → Result ℕ Fault → Cut Pool
+added_of s p (Ok e) = ok (p, drop e s)
+added_of s p (Err F.Broken) = refused 17
+added_of s p (Err F.Full) = refused 13
 
 -- the place is a place of the text behind `at`
-abbrev pub AddedBehind : List ℕ → ℕ → Added → Type 0
-AddedBehind s at (A.Next e) = (at < e) × (e ≤ length s)
-AddedBehind s at A.Broken = Unit
-AddedBehind s at A.Full = Unit
+abbrev pub AddedBehind : List ℕ → ℕ → Result ℕ Fault → Type 0
+AddedBehind s at (Ok e) = (at < e) × (e ≤ length s)
+AddedBehind s at (Err F.Broken) = Unit
+AddedBehind s at (Err F.Full) = Unit
 
-pub record AddsLine (lim : Limits) (s : List ℕ) (at : ℕ) (terms runs terms' runs' : List ℕ) (r : Added) : Type 0 where
+pub record AddsLine (lim : Limits) (s : List ℕ) (at : ℕ) (terms runs terms' runs' : List ℕ) (r : Result ℕ Fault) : Type 0 where
   pub answer : added_of s (pool_of terms' runs') r ≡ add_line lim (pool_of terms runs) (drop at s)
   pub behind : AddedBehind s at r
   pub grows : Grows terms runs terms' runs' (pool_then (pool_of terms runs) (add_line lim (pool_of terms runs) (drop at s)))
@@ -51,17 +49,17 @@ lines_taken lim (suc f) p s =
       | false ↦ elim (add_line lim p s) [ ok x ↦ lines_taken lim f x.0 x.1 | refused n ↦ p ]
     ]
 
-abbrev pub loaded_of : Pool → Loaded → Res Pool
-loaded_of p L.Pool = ok p
-loaded_of p L.Broken = refused 17
-loaded_of p L.Full = refused 13
+abbrev pub loaded_of : Pool → Result Unit Fault → Res Pool
+loaded_of p (Ok tt) = ok p
+loaded_of p (Err F.Broken) = refused 17
+loaded_of p (Err F.Full) = refused 13
 
-pub record AddsLines (lim : Limits) (s terms runs terms' runs' : List ℕ) (r : Loaded) : Type 0 where
+pub record AddsLines (lim : Limits) (s terms runs terms' runs' : List ℕ) (r : Result Unit Fault) : Type 0 where
   pub answer : loaded_of (pool_of terms' runs') r ≡ read_lines lim s
   pub grows : Grows terms runs terms' runs' (lines_taken lim (length s) [] s)
 
 -- the buffers hold the lines that were taken, entered one after the other; the work buffer is cleared
-pub record Loads (lim : Limits) (s list terms runs list' terms' runs' : List ℕ) (r : Loaded) : Type 0 where
+pub record Loads (lim : Limits) (s list terms runs list' terms' runs' : List ℕ) (r : Result Unit Fault) : Type 0 where
   pub answer : loaded_of (pool_of terms' runs') r ≡ read_lines lim s
   pub grows : Grows (emptied terms) runs terms' runs' (lines_taken lim (length s) [] s)
   pub clear : list' ≡ replicate (length list) 0

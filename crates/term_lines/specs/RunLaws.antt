@@ -1,5 +1,5 @@
 -- A run: the ways out. Runs one after the other, staged in a buffer.
-use Rattle.std.specs.Prelude.{◌≡◌, true, List, [], ◌∷◌, ◌++◌, map, ltb, eqb, get_or, set, drop}
+use Rattle.std.specs.Prelude.{Some, None, Ok, Err, ◌≡◌, true, List, [], ◌∷◌, ◌++◌, map, ltb, eqb, get_or, set, drop}
 use Rattle.std.proofs.Math.Path.{refl}
 use Rattle.std.proofs.Common.{sym, ap, ap₂, ◌∙◌, append-nil, append_assoc, add-one, length-drop, drop-drop, get_or-set_same, get_or-set_other}
 use Rattle.std.proofs.Math.Bool.{false}
@@ -16,53 +16,51 @@ use Rattle.terms.specs.Buffers.{part, unpack}
 use Rattle.terms.specs.PartLaws.{part-cong, part-snoc}
 use Rattle.text_cut.specs.Cutting.{CutsWord, CutsNumber}
 use Rattle.text_cut.specs.CutLaws.{word_fits}
-use Rattle.text_cut.specs.declared.Place.TheVariants as P
-use Rattle.text_cut.specs.declared.Number.TheVariants as N
 use Rattle.term_lines.specs.Reading.{cut_child, cut_count, CutsChild, CutsCount, CutsRuns}
-use Rattle.term_lines.specs.declared.Runs.TheVariants as R
+use Rattle.term_lines.specs.declared.Fault.TheVariants as F
 
 -- ---- a child: the ways out
 module _ (k last : ℕ) (s : List ℕ) (at : ℕ) where
-  pub child-no-space : CutsWord (text " ") s at P.Nothing → CutsChild k last s at N.Nothing
+  pub child-no-space : CutsWord (text " ") s at None → CutsChild k last s at None
   unfolding cut_child
   child-no-space W = record { answer = rw (← W.answer) refl; behind = tt }
 
-  module _ {a : ℕ} (W : CutsWord (text " ") s at (P.At a)) where
-    pub child-no-number : CutsNumber 16383 s a N.Nothing → CutsChild k last s at N.Nothing
+  module _ {a : ℕ} (W : CutsWord (text " ") s at (Some a)) where
+    pub child-no-number : CutsNumber 16383 s a None → CutsChild k last s at None
     unfolding cut_child
     child-no-number C = record { answer = rw (← W.answer, ← C.answer) refl; behind = tt }
 
-    module _ {c e : ℕ} (C : CutsNumber 16383 s a (N.Is c e)) where
-      pub child-later : k ≤ c → CutsChild k last s at N.Nothing
+    module _ {c e : ℕ} (C : CutsNumber 16383 s a (Some (c, e))) where
+      pub child-later : k ≤ c → CutsChild k last s at None
       unfolding cut_child
       child-later h = record { answer = rw (← W.answer, ← C.answer, le-ltb c k h) refl; behind = tt }
 
       module _ (h : c < k) where
-        pub child-again : c ≡ last → CutsChild k last s at N.Nothing
+        pub child-again : c ≡ last → CutsChild k last s at None
         unfolding cut_child
         child-again d = record { answer = rw (← W.answer, ← C.answer, lt-ltb c k h, eq-eqb c last d) refl; behind = tt }
 
-        pub child-there : (c ≡ last → ⊥) → CutsChild k last s at (N.Is c e)
+        pub child-there : (c ≡ last → ⊥) → CutsChild k last s at (Some (c, e))
         unfolding cut_child text
         child-there d = record { answer = rw (← W.answer, ← C.answer, lt-ltb c k h, ne_eqb c last d) refl; behind = (omega (arith, W.behind.0, C.behind.0), C.behind.1, C.behind.2) }
 
 -- ---- a count: the ways out
 module _ (left : ℕ) (s : List ℕ) (at : ℕ) where
-  pub count-no-colon : CutsWord (text ":") s at P.Nothing → CutsCount left s at N.Nothing
+  pub count-no-colon : CutsWord (text ":") s at None → CutsCount left s at None
   unfolding cut_count
   count-no-colon W = record { answer = rw (← W.answer) refl; behind = tt }
 
-  module _ {a : ℕ} (W : CutsWord (text ":") s at (P.At a)) where
-    pub count-no-number : CutsNumber left s a N.Nothing → CutsCount left s at N.Nothing
+  module _ {a : ℕ} (W : CutsWord (text ":") s at (Some a)) where
+    pub count-no-number : CutsNumber left s a None → CutsCount left s at None
     unfolding cut_count
     count-no-number C = record { answer = rw (← W.answer, ← C.answer) refl; behind = tt }
 
-    module _ {n e : ℕ} (C : CutsNumber left s a (N.Is n e)) where
-      pub count_none : n ≡ 0 → CutsCount left s at N.Nothing
+    module _ {n e : ℕ} (C : CutsNumber left s a (Some (n, e))) where
+      pub count_none : n ≡ 0 → CutsCount left s at None
       unfolding cut_count
       count_none h = record { answer = rw (← W.answer, ← C.answer, le-ltb 0 n (omega arith)) refl; behind = tt }
 
-      pub count-there : 0 < n → CutsCount left s at (N.Is n e)
+      pub count-there : 0 < n → CutsCount left s at (Some (n, e))
       unfolding cut_count text
       count-there h = record { answer = rw (← W.answer, ← C.answer, lt-ltb 0 n h) refl; behind = (omega (arith, W.behind.0, C.behind.0), C.behind.1, C.behind.2) }
 
@@ -157,7 +155,7 @@ module _ (s : List ℕ) (at₀ k : ℕ) (list₀ list : List ℕ) (at n last lef
   unfolding fuel
   begun = let e : suc (length s - at₀) - n ≡ suc (length s - at₀ - n) = omega (arith, S.inside, S.passed) in rw e at S.rest
 
-  pub staging-end : (t : ℕ) → true ≡ starts_with (10 ∷ []) (drop at s) → t ≡ CHILDREN - left → CutsRuns k s at₀ list (R.Are n t (at + 1))
+  pub staging-end : (t : ℕ) → true ≡ starts_with (10 ∷ []) (drop at s) → t ≡ CHILDREN - left → CutsRuns k s at₀ list (Ok (n, t, at + 1))
   staging-end t e q =
       let l : at + 1 ≤ length s = word_fits (10 ∷ []) s at e S.inside in
       record {
@@ -169,15 +167,15 @@ module _ (s : List ℕ) (at₀ k : ℕ) (list₀ list : List ℕ) (at n last lef
     stepped : prepend (staged list n) (cut_child k last (drop at s) >>= (λ c. cut_count left c.1 >>= (λ m. after fuel k last left (RUNS - n) (drop at s) c m))) ≡ runs_at k (drop at₀ s)
     stepped = rw (step fuel k last left (RUNS - n) (drop at s) no) at begun
 
-    pub staging-no-child : CutsChild k last s at N.Nothing → CutsRuns k s at₀ list R.Broken
+    pub staging-no-child : CutsChild k last s at None → CutsRuns k s at₀ list (Err F.Broken)
     staging-no-child C = record { answer = rw (← C.answer) at stepped; behind = tt }
 
-    module _ {c a : ℕ} (C : CutsChild k last s at (N.Is c a)) where
-      pub staging-no-count : CutsCount left s a N.Nothing → CutsRuns k s at₀ list R.Broken
+    module _ {c a : ℕ} (C : CutsChild k last s at (Some (c, a))) where
+      pub staging-no-count : CutsCount left s a None → CutsRuns k s at₀ list (Err F.Broken)
       staging-no-count M = record { answer = rw (← C.answer, ← M.answer) at stepped; behind = tt }
 
-      module _ {m e : ℕ} (M : CutsCount left s a (N.Is m e)) where
-        pub staging-full : n ≡ RUNS → CutsRuns k s at₀ list R.Full
+      module _ {m e : ℕ} (M : CutsCount left s a (Some (m, e))) where
+        pub staging-full : n ≡ RUNS → CutsRuns k s at₀ list (Err F.Full)
         staging-full h = record { answer = rw (← C.answer, ← M.answer, le-ltb 0 (RUNS - n) (omega arith)) at stepped; behind = tt }
 
         pub staging-turn : {list' : List ℕ} {x : ℕ} → n < RUNS → RUNS ≤ length list₀ → x ≡ m * 16384 + c → list' ≡ set list n x → Staging s at₀ k list₀ list' e (n + 1) c (left - m)

@@ -11,67 +11,55 @@ ghost use Rattle.term_lines.specs.Reading.{lit_at, op_at, variants_at, CutsChild
 ghost use Rattle.term_lines.specs.Loading.{AddsLine, AddsLines, Loads};
 
 use query::Limits;
-use text_cut::{Number, Place};
 
 // ---- a line
 // the children of a line, counts written out
 const CHILDREN: usize = 279172874175;
 
-// how many runs, their counts together, and the place behind them; 17; 13
-#[derive(Clone, Copy)]
-enum Runs {
-    Are(usize, usize, usize),
+// why lines aren't read: 17; 13
+#[derive(Clone, Copy, PartialEq, Eq, Debug)]
+pub enum Fault {
     Broken,
     Full,
 }
 
-// head and operation, value, how many runs, and the place behind the line; 17; 13
-#[derive(Clone, Copy)]
-enum Line {
-    Node(u32, u32, usize, usize),
-    Broken,
-    Full,
-}
+// how many runs, their counts together, and the place behind them
+type Runs = (usize, usize, usize);
+
+// head and operation, value, how many runs, and the place behind the line
+type Line = (u32, u32, usize, usize);
 
 // " child": below k, not the one before
-fn cut_child(text: &[u8], at: usize, k: usize, last: usize) -> Number
+fn cut_child(text: &[u8], at: usize, k: usize, last: usize) -> Option<(usize, usize)>
     requires { at ≤ length text.now }
     ensures { CutsChild k last text.now at result }
 {
-    let Place::At(a) = text_cut::cut_word(text, at, b" ") else {
-        return Number::Nothing;
-    };
-    let Number::Is(child, e) = text_cut::cut_number(text, a, 16383) else {
-        return Number::Nothing;
-    };
+    let a = text_cut::cut_word(text, at, b" ")?;
+    let (child, e) = text_cut::cut_number(text, a, 16383)?;
     if child >= k {
-        return Number::Nothing;
+        return None;
     }
     if child == last {
-        return Number::Nothing;
+        return None;
     }
-    Number::Is(child, e)
+    Some((child, e))
 }
 
 // ":count": from 1 to `left`
-fn cut_count(text: &[u8], at: usize, left: usize) -> Number
+fn cut_count(text: &[u8], at: usize, left: usize) -> Option<(usize, usize)>
     requires { (at ≤ length text.now) × (left ≤ CHILDREN) }
     ensures { CutsCount left text.now at result }
 {
-    let Place::At(a) = text_cut::cut_word(text, at, b":") else {
-        return Number::Nothing;
-    };
-    let Number::Is(n, e) = text_cut::cut_number(text, a, left) else {
-        return Number::Nothing;
-    };
+    let a = text_cut::cut_word(text, at, b":")?;
+    let (n, e) = text_cut::cut_number(text, a, left)?;
     if n == 0 {
-        return Number::Nothing;
+        return None;
     }
-    Number::Is(n, e)
+    Some((n, e))
 }
 
 // the runs up to the line feed, at the front of `list`
-fn cut_runs(text: &[u8], at0: usize, k: usize, list: &mut [u64]) -> Runs
+fn cut_runs(text: &[u8], at0: usize, k: usize, list: &mut [u64]) -> Result<Runs, Fault>
     requires { (at0 ≤ length text.now) × (RUNS ≤ length list.old) }
     ensures { CutsRuns k text.now at0 list.new result }
 {
@@ -81,16 +69,12 @@ fn cut_runs(text: &[u8], at0: usize, k: usize, list: &mut [u64]) -> Runs
     let mut left = CHILDREN;
     loop {
         if text_cut::starts_with(text, at, b"\n") {
-            return Runs::Are(n, CHILDREN - left, at + 1);
+            return Ok((n, CHILDREN - left, at + 1));
         }
-        let Number::Is(child, a) = cut_child(text, at, k, last) else {
-            return Runs::Broken;
-        };
-        let Number::Is(count, e) = cut_count(text, a, left) else {
-            return Runs::Broken;
-        };
+        let (child, a) = cut_child(text, at, k, last).ok_or(Fault::Broken)?;
+        let (count, e) = cut_count(text, a, left).ok_or(Fault::Broken)?;
         if n == 65536 {
-            return Runs::Full;
+            return Err(Fault::Full);
         }
         stores::put_u64(list, n, numbers::long_size(count * 16384 + child));
         last = child;
@@ -101,61 +85,41 @@ fn cut_runs(text: &[u8], at0: usize, k: usize, list: &mut [u64]) -> Runs
 }
 
 // a literal's operation and value, up to the line feed
-fn cut_lit(text: &[u8], at: usize) -> Line
+fn cut_lit(text: &[u8], at: usize) -> Result<Line, Fault>
     requires { at ≤ length text.now }
     ensures { (list : List ℕ) → CutsLine (lit_at (drop at text.now)) text.now at list result }
 {
-    let Number::Is(o, a) = text_cut::cut_number(text, at, 63) else {
-        return Line::Broken;
-    };
-    let Place::At(b) = text_cut::cut_word(text, a, b" ") else {
-        return Line::Broken;
-    };
-    let Number::Is(v, c) = text_cut::cut_number(text, b, 4294967295) else {
-        return Line::Broken;
-    };
-    let Place::At(e) = text_cut::cut_word(text, c, b"\n") else {
-        return Line::Broken;
-    };
-    Line::Node(numbers::short_size(64 + o), numbers::short_size(v), 0, e)
+    let (o, a) = text_cut::cut_number(text, at, 63).ok_or(Fault::Broken)?;
+    let b = text_cut::cut_word(text, a, b" ").ok_or(Fault::Broken)?;
+    let (v, c) = text_cut::cut_number(text, b, 4294967295).ok_or(Fault::Broken)?;
+    let e = text_cut::cut_word(text, c, b"\n").ok_or(Fault::Broken)?;
+    Ok((numbers::short_size(64 + o), numbers::short_size(v), 0, e))
 }
 
 // an operation and its runs
-fn cut_op(text: &[u8], at: usize, k: usize, list: &mut [u64]) -> Line
+fn cut_op(text: &[u8], at: usize, k: usize, list: &mut [u64]) -> Result<Line, Fault>
     requires { (at ≤ length text.now) × (RUNS ≤ length list.old) }
     ensures { CutsLine (op_at k (drop at text.now)) text.now at list.new result }
 {
-    let Number::Is(o, a) = text_cut::cut_number(text, at, 63) else {
-        return Line::Broken;
-    };
-    match cut_runs(text, a, k, list) {
-        Runs::Are(n, _, e) => Line::Node(numbers::short_size(o), 0, n, e),
-        Runs::Broken => Line::Broken,
-        Runs::Full => Line::Full,
-    }
+    let (o, a) = text_cut::cut_number(text, at, 63).ok_or(Fault::Broken)?;
+    let (n, _, e) = cut_runs(text, a, k, list)?;
+    Ok((numbers::short_size(o), 0, n, e))
 }
 
 // a marked place: the runs of its two branches
-fn cut_variants(text: &[u8], at: usize, k: usize, list: &mut [u64]) -> Line
+fn cut_variants(text: &[u8], at: usize, k: usize, list: &mut [u64]) -> Result<Line, Fault>
     requires { (at ≤ length text.now) × (RUNS ≤ length list.old) }
     ensures { CutsLine (variants_at k (drop at text.now)) text.now at list.new result }
 {
-    let Place::At(a) = text_cut::cut_word(text, at, b" variants") else {
-        return Line::Broken;
-    };
-    match cut_runs(text, a, k, list) {
-        Runs::Are(n, t, e) => {
-            if t != 2 {
-                return Line::Broken;
-            }
-            Line::Node(128, 0, n, e)
-        }
-        Runs::Broken => Line::Broken,
-        Runs::Full => Line::Full,
+    let a = text_cut::cut_word(text, at, b" variants").ok_or(Fault::Broken)?;
+    let (n, t, e) = cut_runs(text, a, k, list)?;
+    if t != 2 {
+        return Err(Fault::Broken);
     }
+    Ok((128, 0, n, e))
 }
 
-fn cut_node(text: &[u8], at: usize, k: usize, list: &mut [u64]) -> Line
+fn cut_node(text: &[u8], at: usize, k: usize, list: &mut [u64]) -> Result<Line, Fault>
     requires { (at ≤ length text.now) × (RUNS ≤ length list.old) }
     ensures { CutsLine (cut_node k (drop at text.now)) text.now at list.new result }
 {
@@ -169,34 +133,16 @@ fn cut_node(text: &[u8], at: usize, k: usize, list: &mut [u64]) -> Line
 }
 
 // line k: its number, its node
-fn cut_line(text: &[u8], at: usize, k: usize, list: &mut [u64]) -> Line
+fn cut_line(text: &[u8], at: usize, k: usize, list: &mut [u64]) -> Result<Line, Fault>
     requires { (at ≤ length text.now) × (RUNS ≤ length list.old) }
     ensures { CutsLine (cut_line k (drop at text.now)) text.now at list.new result }
 {
-    let Place::At(a) = text_cut::cut_decimal(text, at, k) else {
-        return Line::Broken;
-    };
+    let a = text_cut::cut_decimal(text, at, k).ok_or(Fault::Broken)?;
     cut_node(text, a, k, list)
 }
 
 // ---- lines
-// the place behind a line whose term was entered; 17; 13
-#[derive(Clone, Copy)]
-enum Added {
-    Next(usize),
-    Broken,
-    Full,
-}
-
-// the pool of the lines; 17; 13
-#[derive(Clone, Copy)]
-pub enum Loaded {
-    Pool,
-    Broken,
-    Full,
-}
-
-// the line at a place, as a new term
+// the line at a place, as a new term, and the place behind it
 fn add_line(
     lim: Limits,
     text: &[u8],
@@ -204,24 +150,17 @@ fn add_line(
     list: &mut [u64],
     terms: &mut [u32],
     runs: &mut [u64],
-) -> Added
+) -> Result<usize, Fault>
     requires { (at ≤ length text.now) × (RUNS ≤ length list.old) × Holds terms.old runs.old × Rooms (limits_of lim) terms.old runs.old }
     ensures { AddsLine (limits_of lim) text.now at terms.old runs.old terms.new runs.new result }
 {
     let k = terms::count(terms);
-    match cut_line(text, at, k, list) {
-        Line::Node(h, v, n, e) => match interning::intern(lim, terms, runs, list, n, h, v) {
-            Some(t) => {
-                if t != k {
-                    return Added::Broken;
-                }
-                Added::Next(e)
-            }
-            None => Added::Full,
-        },
-        Line::Broken => Added::Broken,
-        Line::Full => Added::Full,
+    let (h, v, n, e) = cut_line(text, at, k, list)?;
+    let t = interning::intern(lim, terms, runs, list, n, h, v).ok_or(Fault::Full)?;
+    if t != k {
+        return Err(Fault::Broken);
     }
+    Ok(e)
 }
 
 // line after line, into buffers that hold no term
@@ -231,28 +170,18 @@ fn add_lines(
     list: &mut [u64],
     terms: &mut [u32],
     runs: &mut [u64],
-) -> Loaded
+) -> Result<(), Fault>
     requires { (RUNS ≤ length list.old) × Holds terms.old runs.old × Rooms (limits_of lim) terms.old runs.old × (count_in terms.old ≡ 0) }
     ensures { AddsLines (limits_of lim) text.now terms.old runs.old terms.new runs.new result }
 {
     let mut at = 0;
     while at < text.len() {
-        match add_line(lim, text, at, list, terms, runs) {
-            Added::Next(e) => {
-                at = e;
-            }
-            Added::Broken => {
-                return Loaded::Broken;
-            }
-            Added::Full => {
-                return Loaded::Full;
-            }
-        }
+        at = add_line(lim, text, at, list, terms, runs)?;
     }
     if terms::count(terms) == 0 {
-        return Loaded::Broken;
+        return Err(Fault::Broken);
     }
-    Loaded::Pool
+    Ok(())
 }
 
 // The lines of a listing behind its first line, whatever the pool's buffers held; `list` is work, cleared at the end.
@@ -262,7 +191,7 @@ pub fn read_lines(
     list: &mut [u64],
     terms: &mut [u32],
     runs: &mut [u64],
-) -> Loaded
+) -> Result<(), Fault>
     requires { (RUNS ≤ length list.old) × Rooms (limits_of lim) terms.old runs.old }
     ensures { Loads (limits_of lim) text.now list.old terms.old runs.old list.new terms.new runs.new result }
 {

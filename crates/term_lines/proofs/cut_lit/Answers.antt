@@ -1,56 +1,79 @@
 use native.Mathlib.Omega.{arith}
-use mathlib.Core.List.{[], ◌∷◌}
 use Rattle.spec.specs.Bytes.{text}
-use Rattle.text_cut.specs.Cutting.{CutsWord, CutsNumber}
-use Rattle.text_cut.specs.declared.Place.TheVariants as P
-use Rattle.text_cut.specs.declared.Number.TheVariants as N
+use Rattle.term_lines.proofs.Faults.{was-some, was-none, passed-on}
 use Rattle.term_lines.specs.LineLaws.{lit-no-operation, lit-no-space, lit-no-value, lit-no-end, lit-there}
 use Rattle.term_lines.proofs.cut_lit.Goals as goal
 
-pub returns-in_default : goal.returns-in_default
-returns-in_default c =
+pub returns-in_err-o : goal.returns-in_err-o
+returns-in_err-o c =
     let a = c.args in
-    λ l. lit-no-operation a.text.now a.at l (rw c.in_default.is at c.cut_number.ensures)
+    let n = was-none _ c.in_err-o.ensures.value in
+    λ l. rw (passed-on _ c.from_residual.ensures.1, n.1) (lit-no-operation a.text.now a.at l (rw n.0 at c.cut_number.ensures))
 
 pub cut_word-requires : goal.cut_word-requires
-cut_word-requires c = ((let it : CutsNumber 63 c.args.text.now c.args.at (N.Is c.in-Is.o c.in-Is.a) = rw c.in-Is.is at c.cut_number.ensures in it)).behind.1
+cut_word-requires c =
+    let O = rw (was-some _ _ c.in_ok-o.ensures.value) at c.cut_number.ensures in
+    O.behind.1
 
-pub returns-in_default-cut_word : goal.returns-in_default-cut_word
+pub returns-in_err-b : goal.returns-in_err-b
 unfolding text
-returns-in_default-cut_word c =
+returns-in_err-b c =
     let a = c.args in
-    λ l. lit-no-space a.text.now a.at l ((let it : CutsNumber 63 c.args.text.now c.args.at (N.Is c.in-Is.o c.in-Is.a) = rw c.in-Is.is at c.cut_number.ensures in it)) (rw c.in_default-cut_word.is at c.cut_word.ensures)
+    let n = was-none _ c.in_err-b.ensures.value in
+    let O = rw (was-some _ _ c.in_ok-o.ensures.value) at c.cut_number.ensures in
+    λ l. rw (passed-on _ c.from_residual-in_err-b.ensures.1, n.1) (lit-no-space a.text.now a.at l O (rw n.0 at c.cut_word.ensures))
 
 pub cut_number-requires-2 : goal.cut_number-requires-2
 unfolding text
-cut_number-requires-2 c = (((let it : CutsWord (text " ") c.args.text.now c.in-Is.a (P.At c.in-At.b) = rw c.in-At.is at c.cut_word.ensures in it)).behind.1, omega arith)
+cut_number-requires-2 c =
+    let W = rw (was-some _ _ c.in_ok-b.ensures.value) at c.cut_word.ensures in
+    (W.behind.1, omega arith)
 
-pub returns-in_default-cut_number : goal.returns-in_default-cut_number
+pub returns-in_err-v : goal.returns-in_err-v
 unfolding text
-returns-in_default-cut_number c =
+returns-in_err-v c =
     let a = c.args in
-    λ l. lit-no-value a.text.now a.at l ((let it : CutsNumber 63 c.args.text.now c.args.at (N.Is c.in-Is.o c.in-Is.a) = rw c.in-Is.is at c.cut_number.ensures in it)) ((let it : CutsWord (text " ") c.args.text.now c.in-Is.a (P.At c.in-At.b) = rw c.in-At.is at c.cut_word.ensures in it)) (rw c.in_default-cut_number.is at c.cut_number-2.ensures)
+    let n = was-none _ c.in_err-v.ensures.value in
+    let O = rw (was-some _ _ c.in_ok-o.ensures.value) at c.cut_number.ensures in
+    let W = rw (was-some _ _ c.in_ok-b.ensures.value) at c.cut_word.ensures in
+    λ l. rw (passed-on _ c.from_residual-in_err-v.ensures.1, n.1) (lit-no-value a.text.now a.at l O W (rw n.0 at c.cut_number-2.ensures))
 
 pub cut_word-requires-2 : goal.cut_word-requires-2
-cut_word-requires-2 c = ((let it : CutsNumber 4294967295 c.args.text.now c.in-At.b (N.Is c.in-Is-cut_number.v c.in-Is-cut_number.c) = rw c.in-Is-cut_number.is at c.cut_number-2.ensures in it)).behind.1
+cut_word-requires-2 c =
+    let X = rw (was-some _ _ c.in_ok-v.ensures.value) at c.cut_number-2.ensures in
+    X.behind.1
 
-pub returns-in_default-cut_word-2 : goal.returns-in_default-cut_word-2
+pub returns-in_err-e : goal.returns-in_err-e
 unfolding text
-returns-in_default-cut_word-2 c =
+returns-in_err-e c =
     let a = c.args in
-    λ l. lit-no-end a.text.now a.at l ((let it : CutsNumber 63 c.args.text.now c.args.at (N.Is c.in-Is.o c.in-Is.a) = rw c.in-Is.is at c.cut_number.ensures in it)) ((let it : CutsWord (text " ") c.args.text.now c.in-Is.a (P.At c.in-At.b) = rw c.in-At.is at c.cut_word.ensures in it)) ((let it : CutsNumber 4294967295 c.args.text.now c.in-At.b (N.Is c.in-Is-cut_number.v c.in-Is-cut_number.c) = rw c.in-Is-cut_number.is at c.cut_number-2.ensures in it)) (rw c.in_default-cut_word-2.is at c.cut_word-2.ensures)
+    let n = was-none _ c.in_err-e.ensures.value in
+    let O = rw (was-some _ _ c.in_ok-o.ensures.value) at c.cut_number.ensures in
+    let W = rw (was-some _ _ c.in_ok-b.ensures.value) at c.cut_word.ensures in
+    let X = rw (was-some _ _ c.in_ok-v.ensures.value) at c.cut_number-2.ensures in
+    λ l. rw (passed-on _ c.from_residual-in_err-e.ensures.1, n.1) (lit-no-end a.text.now a.at l O W X (rw n.0 at c.cut_word-2.ensures))
 
 pub overflow_add-o : goal.overflow_add-o
-overflow_add-o c = omega (arith, ((let it : CutsNumber 63 c.args.text.now c.args.at (N.Is c.in-Is.o c.in-Is.a) = rw c.in-Is.is at c.cut_number.ensures in it)).behind.2)
+overflow_add-o c =
+    let O = rw (was-some _ _ c.in_ok-o.ensures.value) at c.cut_number.ensures in
+    omega (arith, O.behind.2)
 
 pub short_size-requires : goal.short_size-requires
-short_size-requires c = omega (arith, ((let it : CutsNumber 63 c.args.text.now c.args.at (N.Is c.in-Is.o c.in-Is.a) = rw c.in-Is.is at c.cut_number.ensures in it)).behind.2)
+short_size-requires c =
+    let O = rw (was-some _ _ c.in_ok-o.ensures.value) at c.cut_number.ensures in
+    omega (arith, O.behind.2)
 
 pub short_size-requires-2 : goal.short_size-requires-2
-short_size-requires-2 c = omega (arith, ((let it : CutsNumber 4294967295 c.args.text.now c.in-At.b (N.Is c.in-Is-cut_number.v c.in-Is-cut_number.c) = rw c.in-Is-cut_number.is at c.cut_number-2.ensures in it)).behind.2)
+short_size-requires-2 c =
+    let X = rw (was-some _ _ c.in_ok-v.ensures.value) at c.cut_number-2.ensures in
+    omega (arith, X.behind.2)
 
 pub returns : goal.returns
 unfolding text
 returns c =
     let a = c.args in
-    λ l. lit-there a.text.now a.at l ((let it : CutsNumber 63 c.args.text.now c.args.at (N.Is c.in-Is.o c.in-Is.a) = rw c.in-Is.is at c.cut_number.ensures in it)) ((let it : CutsWord (text " ") c.args.text.now c.in-Is.a (P.At c.in-At.b) = rw c.in-At.is at c.cut_word.ensures in it)) ((let it : CutsNumber 4294967295 c.args.text.now c.in-At.b (N.Is c.in-Is-cut_number.v c.in-Is-cut_number.c) = rw c.in-Is-cut_number.is at c.cut_number-2.ensures in it)) ((let it : CutsWord (10 ∷ []) c.args.text.now c.in-Is-cut_number.c (P.At c.in-At-cut_word.e) = rw c.in-At-cut_word.is at c.cut_word-2.ensures in it)) c.short_size.ensures c.short_size-2.ensures
+    let O = rw (was-some _ _ c.in_ok-o.ensures.value) at c.cut_number.ensures in
+    let W = rw (was-some _ _ c.in_ok-b.ensures.value) at c.cut_word.ensures in
+    let X = rw (was-some _ _ c.in_ok-v.ensures.value) at c.cut_number-2.ensures in
+    let E = rw (was-some _ _ c.in_ok-e.ensures.value) at c.cut_word-2.ensures in
+    λ l. lit-there a.text.now a.at l O W X E c.short_size.ensures c.short_size-2.ensures
