@@ -15,7 +15,7 @@ use augmenting_path::bottleneck;
 use cost_matrix::WIDEST;
 use net::{NET, NODES};
 use numbers::long_u32;
-use plan_parts::{empty_plan, less};
+use plan_parts::empty_plan;
 use search::{MARGINS, TAKEN, search};
 use sending::send;
 use tracing::trace;
@@ -49,7 +49,7 @@ fn fill_rows(supply: &[u32], flow: &[u64], left: &mut [u64; MARGINS], r: usize, 
 {
     for i in 0..r {
         let s = sum_every(flow, i * c, 1, c);
-        put_left(left, i, less(long_u32(supply[i]), s));
+        put_left(left, i, long_u32(supply[i]).saturating_sub(s));
     }
 }
 
@@ -60,7 +60,7 @@ fn fill_columns(demand: &[u32], flow: &[u64], left: &mut [u64; MARGINS], r: usiz
 {
     for j in 0..c {
         let s = sum_every(flow, j, c, r);
-        put_left(left, WIDEST + j, less(long_u32(demand[j]), s));
+        put_left(left, WIDEST + j, long_u32(demand[j]).saturating_sub(s));
         put_left(left, TAKEN + j, s);
     }
 }

@@ -8,10 +8,9 @@ ghost use Rattle.search_laws.specs.Path.{Step, Steps, left_on, least_on};
 
 use cost_matrix::WIDEST;
 use net::NODES;
-use plan_parts::{less, place};
+use plan_parts::place;
 use search::MARGINS;
 use tracing::LAST;
-use weights::least;
 
 // What is left on the step from u to v.
 fn left_on(
@@ -31,7 +30,7 @@ fn left_on(
     }
     if u <= r {
         let k = place(u - 1, v - 1 - r, c);
-        return less(costs[3 * k + 2], flow[k]);
+        return costs[3 * k + 2].saturating_sub(flow[k]);
     }
     if v == 1 + r + c {
         return left[WIDEST + (u - 1 - r)];
@@ -65,7 +64,7 @@ pub fn bottleneck(
             path[a] as usize,
             path[a + 1] as usize,
         );
-        b = least(b, x);
+        b = b.min(x);
     }
     b
 }

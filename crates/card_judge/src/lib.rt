@@ -12,7 +12,7 @@ fn clear_marks(marks: &mut [u16], m: usize)
     requires { m ≤ length marks.old }
     ensures { marks.new ≡ cleared m marks.old }
 {
-    clearing::clear_u16(&mut marks[0..m]);
+    marks[..m].fill(0);
 }
 
 // whether a term with this head needs no sign, or its operation has a proper one

@@ -7,7 +7,7 @@ ghost use Rattle.search_laws.specs.Walk.{LAST, steps_from};
 ghost use Rattle.search_laws.specs.Path.{Step, Steps, sent_on, sent};
 
 use net::NODES;
-use plan_parts::{less, place};
+use plan_parts::place;
 use stores::put_u64;
 use tracing::LAST;
 
@@ -29,7 +29,7 @@ fn send_on(flow: &mut [u64], r: usize, c: usize, u: usize, v: usize, n: u64)
         return;
     }
     let k = place(v - 1, u - 1 - r, c);
-    let x = less(flow[k], n);
+    let x = flow[k].saturating_sub(n);
     put_u64(flow, k, x);
 }
 

@@ -9,7 +9,7 @@ ghost use Rattle.cost_matrix.specs.Matrix.{laid_cell, costs_after};
 ghost use Rattle.cost_matrix.specs.Cells.{problem_of};
 
 use cost_matrix::{lay_cell, put_cell};
-use weights::{if_allowed, larger, total, weight};
+use weights::{if_allowed, total, weight};
 use wide::Wide;
 
 // Cell k by its flag; where it is forbidden it costs nothing and takes nothing.
@@ -41,7 +41,7 @@ fn largest_mass(masses: &[u32], allowed: &[u8]) -> u32
 {
     let mut v = 0u32;
     for i in 0..masses.len() {
-        v = larger(v, if_allowed(allowed[i], masses[i]));
+        v = v.max(if_allowed(allowed[i], masses[i]));
     }
     v
 }

@@ -31,7 +31,7 @@ fn undo_last(terms: &mut [u32], runs: &mut [u64], i: usize)
     let from = first(terms, i);
     let end = first(terms, i + 1);
     let bucket = term_key::key(&runs[from..], end - from, head(terms, i), value(terms, i));
-    clearing::clear_u64(&mut runs[from..end]);
+    runs[from..end].fill(0);
     undo_term(terms, i, bucket);
 }
 

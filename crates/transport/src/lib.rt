@@ -9,7 +9,6 @@ ghost use Rattle.augment.specs.Solved.{Solves};
 ghost use Rattle.transport.specs.Slices.{Shaped, total_from};
 ghost use Rattle.transport.specs.Public.{shape_of, shaped_of, Told, Ensures};
 
-use clearing::clear_u64;
 use cost_matrix::{CELLS, COSTS, WIDEST};
 use numbers::long_u32;
 use slice_matrix::lay;
@@ -146,7 +145,7 @@ pub fn solve_transport(
         return Answer::Refused(1);
     }
     let r = solve_shaped(supply, demand, sizes, masses, allowed, plan, costs, flow);
-    clear_u64(costs);
-    clear_u64(flow);
+    costs.fill(0);
+    flow.fill(0);
     r
 }

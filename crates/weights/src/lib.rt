@@ -1,7 +1,7 @@
 // The numbers of a transport's costs (transport.rs): F, V and W = F * V + 1, and what a cell costs, size * W + mass.
 #![tactic(auto)]
 
-ghost use Rattle.std.specs.Prelude.{◌≡◌, ◌+◌, ◌*◌, ◌^◌, ◌≤◌, ◌<◌, min, max, eqb, length};
+ghost use Rattle.std.specs.Prelude.{◌≡◌, ◌+◌, ◌*◌, ◌^◌, ◌≤◌, ◌<◌, eqb, length};
 ghost use Rattle.spec.specs.Bytes.{sum, pick};
 ghost use Rattle.spec.specs.Transport.{WIDEST};
 ghost use Rattle.wide.specs.Value.{unsigned};
@@ -9,18 +9,6 @@ ghost use Rattle.weights.specs.Words.{words_of};
 
 use numbers::long_u32;
 use wide::Wide;
-
-pub fn least(a: u64, b: u64) -> u64
-    ensures { result ≡ min a b }
-{
-    if a < b { a } else { b }
-}
-
-pub fn larger(a: u32, b: u32) -> u32
-    ensures { result ≡ max a b }
-{
-    if a < b { b } else { a }
-}
 
 // F: the sum of at most 65 numbers.
 pub fn total(s: &[u32]) -> u64

@@ -18,7 +18,7 @@ pub loop-j-preserved : goal.loop-j-preserved
 loop-j-preserved c = let a = c.args in let l = c.loop-j in
     let s : c.sum_every-s.result ≡ column_sum a.flow.now a.r a.c l.j = c.sum_every-s.ensures in
     let e : c.put_left-in-loop-j.new.left ≡ set (set l.left (WIDEST + l.j) (get_or a.demand.now l.j 0 - column_sum a.flow.now a.r a.c l.j)) (TAKEN + l.j) (column_sum a.flow.now a.r a.c l.j)
-    = c.put_left-in-loop-j.ensures ∙ (λ k. set ((c.put_left.ensures ∙ ap (λ (x : ℕ). set l.left (WIDEST + l.j) x) (c.less.ensures ∙ (λ k. c.long_u32.ensures.0 k - s k))) k) (TAKEN + l.j) (s k)) in
+    = c.put_left-in-loop-j.ensures ∙ (λ k. set ((c.put_left.ensures ∙ ap (λ (x : ℕ). set l.left (WIDEST + l.j) x) (c.saturating_sub.ensures ∙ (λ k. c.long_u32.ensures.0 k - s k))) k) (TAKEN + l.j) (s k)) in
     (omega arith, rw e (columns-turn a.r a.c a.demand.now a.flow.now l.left l.j (omega arith) l.invariant.1))
 
 pub returns : goal.returns

@@ -20,7 +20,7 @@ sum_every-s-requires c = (c.requires.1, omega arith, λ j hj. row_reads c.args.r
 pub loop-i-preserved : goal.loop-i-preserved
 loop-i-preserved c = let a = c.args in let l = c.loop-i in
     let e : c.put_left.new.left ≡ set l.left l.i (get_or a.supply.now l.i 0 - row_sum a.flow.now a.c l.i)
-    = c.put_left.ensures ∙ ap (λ (x : ℕ). set l.left l.i x) (c.less.ensures ∙ (λ k. c.long_u32.ensures.0 k - c.sum_every-s.ensures k)) in
+    = c.put_left.ensures ∙ ap (λ (x : ℕ). set l.left l.i x) (c.saturating_sub.ensures ∙ (λ k. c.long_u32.ensures.0 k - c.sum_every-s.ensures k)) in
     (omega arith, rw e (rows-turn a.r a.c a.supply.now a.flow.now a.left.now l.left l.i (omega arith) l.invariant.1))
 
 pub returns : goal.returns

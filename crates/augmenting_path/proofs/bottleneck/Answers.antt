@@ -16,7 +16,7 @@ pub loop-a-preserved : goal.loop-a-preserved
 loop-a-preserved c = let a = c.args in let l = c.loop-a in (
   omega arith,
   steps_next a.path.now a.r a.c l.a (omega arith) l.invariant.1,
-  ap (λ (x : ℕ). least_on a.costs.now a.flow.now a.left.now a.r a.c x (here a.path.now (l.a + 1))) (c.least-b.ensures ∙ ap (λ (x : ℕ). min l.b x) c.left_on-x.ensures)
+  ap (λ (x : ℕ). least_on a.costs.now a.flow.now a.left.now a.r a.c x (here a.path.now (l.a + 1))) (c.min-b.ensures ∙ ap (λ (x : ℕ). min l.b x) c.left_on-x.ensures)
       ∙ sym (least-turn a.costs.now a.flow.now a.left.now a.path.now a.r a.c l.a l.b (omega arith)) ∙ l.invariant.2,
 )
 

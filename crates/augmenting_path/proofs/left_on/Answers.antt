@@ -50,7 +50,7 @@ bounds-flow-k c = let h = (let it : c.place-k.result < c.args.r * c.args.c = let
 
 pub returns-then-u-r : goal.returns-then-u-r
 returns-then-u-r c = let a = c.args in
-    c.less.ensures ∙ ap (λ (k : ℕ). cap_of a.costs.now k - get_or a.flow.now k 0) c.place-k.ensures ∙ left-row a.costs.now a.flow.now a.left.now a.r a.c a.u a.v c.if-u-eq0.false c.if-u-r.true
+    c.saturating_sub.ensures ∙ ap (λ (k : ℕ). cap_of a.costs.now k - get_or a.flow.now k 0) c.place-k.ensures ∙ left-row a.costs.now a.flow.now a.left.now a.r a.c a.u a.v c.if-u-eq0.false c.if-u-r.true
 
 pub overflow_add-result : goal.overflow_add-result
 overflow_add-result c = let h = c.requires.4.from_column (omega arith) in search rules
