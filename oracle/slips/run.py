@@ -31,7 +31,7 @@ def check(module, changes, group):
             for part in ('src', 'specs'):
                 shutil.copytree(f'{crates}/spec/{part}', f'{folder}/crates/spec/{part}')
         code = open(f'{crates}/{crate}/src/lib.rt', encoding='utf-8').read()
-        open(copy + '/src/lib.rt', 'w', encoding='utf-8').write(re.search(r'pub enum NotAdded \{.*?\n\}\n', code, re.S).group() if module in beside else code)
+        open(copy + '/src/lib.rt', 'w', encoding='utf-8').write(re.search(r'pub enum Unadded \{.*?\n\}\n', code, re.S).group() if module in beside else code)
         modules = (list(beside) if module in beside else definitions) + group
         for m in modules:
             text = open(f"{crates}/{'samples' if m in samples else beside.get(m, crate)}/specs/{m}.antt", encoding='utf-8').read()

@@ -18,11 +18,11 @@ use Rattle.class_place.specs.StandingLaws.{half-places}
 use Rattle.child_list.specs.Adding.{count_with, added_of, laid, list_after, terms_after, read_after, Adds, Fits}
 use Rattle.child_list.specs.AddLaws.{laid-terms, laid-rest, held-laid, hit-length, miss-length, hit-count, miss-count}
 use Rattle.std.proofs.Common.{Result, Ok, Err}
-use Rattle.child_list.specs.declared.NotAdded.{NotAdded}
-use Rattle.child_list.specs.declared.NotAdded.TheVariants.{Full, Overflow}
+use Rattle.child_list.specs.declared.Unadded.{Unadded}
+use Rattle.child_list.specs.declared.Unadded.TheVariants.{Full, Overflow}
 
 -- ---- a refusal leaves the list as it was
-refused_as : (n c k : ℕ) (s : List ℕ) (r : Result ℕ NotAdded) → r ≡ added_of n c k s → list_after r n c k s ≡ s → ((l : List Two) → held n s ≡ monomial l → held (terms_after r n) s ≡ monomial (read_after r c k l)) → Adds n c k s s r
+refused_as : (n c k : ℕ) (s : List ℕ) (r : Result ℕ Unadded) → r ≡ added_of n c k s → list_after r n c k s ≡ s → ((l : List Two) → held n s ≡ monomial l → held (terms_after r n) s ≡ monomial (read_after r c k l)) → Adds n c k s s r
 refused_as n c k s r e f g = record { answer = e; list = rw (← e) (sym f); monomial-of = g }
 
 -- the n terms have no places

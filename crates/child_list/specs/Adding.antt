@@ -4,15 +4,15 @@ use Rattle.spec.specs.Bytes.{Two, pick}
 use Rattle.spec.specs.Monomial.{Monomial, insert_add, monomial}
 use Rattle.monomial_terms.specs.Terms.{terms, held, position}
 use Rattle.class_place.specs.Standing.{places, stands, count_there}
-use Rattle.child_list.specs.declared.NotAdded.{NotAdded}
-use Rattle.child_list.specs.declared.NotAdded.TheVariants.{Full, Overflow}
+use Rattle.child_list.specs.declared.Unadded.{Unadded}
+use Rattle.child_list.specs.declared.Unadded.TheVariants.{Full, Overflow}
 
 -- the count that class c has with k more
 abbrev pub count_with : ℕ → ℕ → Monomial → ℕ
 count_with c k m = (get_or (insert_add c k m) (position c m) (0, 0)).1
 
 -- How many terms the list has with the child. It is full where they have no places (or the n terms have none); the class's count may not pass 64 bits.
-unfoldable pub added_of : ℕ → ℕ → ℕ → List ℕ → Result ℕ NotAdded
+unfoldable pub added_of : ℕ → ℕ → ℕ → List ℕ → Result ℕ Unadded
 unfolding insert_add position terms
 added_of n c k s =
     pick (ltb (places s) n) (Err Full)
@@ -25,25 +25,25 @@ laid [] s = s
 laid (t ∷ m) s = t.0 ∷ t.1 ∷ laid m (drop 2 s)
 
 -- the buffer afterwards; a refusal leaves it as it was
-abbrev pub list_after : Result ℕ NotAdded → ℕ → ℕ → ℕ → List ℕ → List ℕ
+abbrev pub list_after : Result ℕ Unadded → ℕ → ℕ → ℕ → List ℕ → List ℕ
 list_after (Ok m) n c k s = laid (insert_add c k (held n s)) s
 list_after (Err Full) n c k s = s
 list_after (Err Overflow) n c k s = s
 
 -- how many terms the list holds afterwards
-abbrev pub terms_after : Result ℕ NotAdded → ℕ → ℕ
+abbrev pub terms_after : Result ℕ Unadded → ℕ → ℕ
 terms_after (Ok m) n = m
 terms_after (Err Full) n = n
 terms_after (Err Overflow) n = n
 
 -- the children read so far: l, and the child where it was added
-abbrev pub read_after : Result ℕ NotAdded → ℕ → ℕ → List Two → List Two
+abbrev pub read_after : Result ℕ Unadded → ℕ → ℕ → List Two → List Two
 read_after (Ok m) c k l = l ++ ((c, k) ∷ [])
 read_after (Err Full) c k l = l
 read_after (Err Overflow) c k l = l
 
 -- What `add_child` answers and leaves.
-pub record Adds (n c k : ℕ) (s s' : List ℕ) (r : Result ℕ NotAdded) : Type 0 where
+pub record Adds (n c k : ℕ) (s s' : List ℕ) (r : Result ℕ Unadded) : Type 0 where
   pub answer : r ≡ added_of n c k s
   pub list : s' ≡ list_after (added_of n c k s) n c k s
   -- "after each child, the list held is the monomial of the children read so far"

@@ -11,13 +11,13 @@ use Rattle.monomial_terms.specs.TermLaws.{two-each, grow}
 use Rattle.class_place.specs.Standing.{places}
 use Rattle.child_list.specs.Adding.{count_with, added_of, laid, list_after, terms_after, read_after, Adds}
 use Rattle.child_list.specs.AddLaws.{laid-terms}
-use Rattle.child_list.specs.declared.NotAdded.{NotAdded}
-use Rattle.child_list.specs.declared.NotAdded.TheVariants.{Full, Overflow}
+use Rattle.child_list.specs.declared.Unadded.{Unadded}
+use Rattle.child_list.specs.declared.Unadded.TheVariants.{Full, Overflow}
 
 -- Calls one after another in one buffer, from an empty list on: the children that were added, how many terms the list holds, and the buffer.
 pub data Streamed : List Two → ℕ → List ℕ → Type 0 where
   begun : {s : List ℕ} → Streamed [] 0 s
-  read : {l : List Two} {n c k : ℕ} {s s' : List ℕ} {r : Result ℕ NotAdded} → Streamed l n s → Adds n c k s s' r → Streamed (read_after r c k l) (terms_after r n) s'
+  read : {l : List Two} {n c k : ℕ} {s s' : List ℕ} {r : Result ℕ Unadded} → Streamed l n s → Adds n c k s s' r → Streamed (read_after r c k l) (terms_after r n) s'
 
 -- "after each child, the list held is the monomial of the children read so far", whatever the buffer held, and after refusals too
 pub after-each : {l : List Two} {n : ℕ} {s : List ℕ} → Streamed l n s → held n s ≡ monomial l
@@ -77,7 +77,7 @@ held-within n c k s h = step (ltb (places s) n) (ltb (places s) (length M)) refl
     M : Monomial
     M = insert_add c k (held n s)
 
-    answer : Bool → Bool → Bool → Result ℕ NotAdded
+    answer : Bool → Bool → Bool → Result ℕ Unadded
     answer a b d = pick a (Err Full) (pick b (Err Full) (pick d (Ok (length M)) (Err Overflow)))
 
     step : (a b : Bool) → ltb (places s) (length M) ≡ b → (d : Bool) → terms_after (answer a b d) n ≤ places (list_after (answer a b d) n c k s)

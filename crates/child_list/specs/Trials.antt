@@ -3,11 +3,11 @@ use Rattle.std.specs.Prelude.{◌≡◌, refl, List, [], ◌∷◌, ℕ, Result,
 use Rattle.spec.specs.Bytes.{Two}
 use Rattle.spec.specs.Monomial.{Monomial, add_all, monomial}
 use Rattle.child_list.specs.Adding.{added_of, laid, list_after, terms_after, read_after}
-use Rattle.child_list.specs.declared.NotAdded.{NotAdded}
-use Rattle.child_list.specs.declared.NotAdded.TheVariants.{Full, Overflow}
+use Rattle.child_list.specs.declared.Unadded.{Unadded}
+use Rattle.child_list.specs.declared.Unadded.TheVariants.{Full, Overflow}
 
 -- ---- the answers as numbers
-abbrev said : Result ℕ NotAdded → ℕ
+abbrev said : Result ℕ Unadded → ℕ
 said (Ok m) = 0
 said (Err Full) = 1
 said (Err Overflow) = 2

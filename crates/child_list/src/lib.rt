@@ -60,7 +60,7 @@ pub fn add_class(mono: &mut [u64], n: usize, c: u64, k: u64) -> usize
 
 // ---- for outside callers
 #[derive(Clone, Copy, PartialEq, Eq, Debug)]
-pub enum NotAdded {
+pub enum Unadded {
     // the child's class is new and every place is taken, or the buffer has no n terms
     Full,
     // the count of the child's class would pass 64 bits
@@ -68,18 +68,18 @@ pub enum NotAdded {
 }
 
 // A child of class c and count k in the list of n terms: how many terms the list holds then. After each child the list held is the monomial of the children read so far; a child that is refused leaves it as it was.
-pub fn add_child(mono: &mut [u64], n: usize, c: u64, k: u64) -> Result<usize, NotAdded>
+pub fn add_child(mono: &mut [u64], n: usize, c: u64, k: u64) -> Result<usize, Unadded>
     ensures { Adds n c k mono.old mono.new result }
 {
     if n > mono.len() / 2 {
-        return Err(NotAdded::Full);
+        return Err(Unadded::Full);
     }
     let p = place(mono, n, c);
     if lacks_place(mono, n, p, c) {
-        return Err(NotAdded::Full);
+        return Err(Unadded::Full);
     }
     if overflows(mono, n, p, c, k) {
-        return Err(NotAdded::Overflow);
+        return Err(Unadded::Overflow);
     }
     Ok(add_at(mono, n, p, c, k))
 }

@@ -5,17 +5,17 @@ use Rattle.spec.specs.Monomial.{monomial}
 use Rattle.monomial_terms.specs.Terms.{held}
 use Rattle.child_list.specs.Adding.{added_of, terms_after, read_after, Adds}
 use Rattle.child_list.specs.Streaming.{Streamed, read, after-each}
-use Rattle.child_list.specs.declared.NotAdded.{NotAdded}
-use Rattle.child_list.specs.declared.NotAdded.TheVariants.{Full, Overflow}
+use Rattle.child_list.specs.declared.Unadded.{Unadded}
+use Rattle.child_list.specs.declared.Unadded.TheVariants.{Full, Overflow}
 use Rattle.returned.specs.declared.AddedChild.{AddedChild}
 
 -- 0, or the refusal's own number
-abbrev pub number_of : Result ℕ NotAdded → ℕ
+abbrev pub number_of : Result ℕ Unadded → ℕ
 number_of (Ok m) = 0
 number_of (Err Full) = 1
 number_of (Err Overflow) = 2
 
-abbrev pub added_numbers : Result ℕ NotAdded → ℕ → AddedChild
+abbrev pub added_numbers : Result ℕ Unadded → ℕ → AddedChild
 added_numbers a n = record { number = number_of a; terms = terms_after a n }
 
 -- `s`, `s'`: the list's buffer before and after the call.
@@ -24,7 +24,7 @@ pub record ReturnsAdded (n c k : ℕ) (s s' : List ℕ) (r : AddedChild) : Type 
   pub adds : Adds n c k s s' (added_of n c k s)
 
 -- from the call of `add_child` behind it, whose class is x
-pub returns-added : (n c k x : ℕ) (s s' : List ℕ) (a : Result ℕ NotAdded) (r : AddedChild) → x ≡ c → r ≡ added_numbers a n → Adds n x k s s' a → ReturnsAdded n c k s s' r
+pub returns-added : (n c k x : ℕ) (s s' : List ℕ) (a : Result ℕ Unadded) (r : AddedChild) → x ≡ c → r ≡ added_numbers a n → Adds n x k s s' a → ReturnsAdded n c k s s' r
 returns-added n c k x s s' a r q e d =
     let f : Adds n c k s s' a = rw q at d in
     record { numbers = rw (← f.answer) e; adds = rw (← f.answer) f }

@@ -7,7 +7,7 @@ ghost use Rattle.returned.specs.Children.{added_numbers};
 ghost use Rattle.returned.specs.Narrows.{narrowed_numbers};
 ghost use Rattle.returned.specs.Returns.{returned_of, lengths};
 
-use child_list::NotAdded;
+use child_list::Unadded;
 use contract::Answer;
 
 // 0 with a listing of so many bytes, or a refusal's number; with 10 the lowest class that holds a literal that also stands in another.
@@ -94,7 +94,7 @@ pub fn buffer_lengths() -> Lengths
 }
 
 // What became of a child, for a list that held n terms.
-pub fn numbers_of_added(a: Result<usize, NotAdded>, n: usize) -> AddedChild
+pub fn numbers_of_added(a: Result<usize, Unadded>, n: usize) -> AddedChild
     ensures { result ≡ added_numbers a n }
 {
     match a {
@@ -102,11 +102,11 @@ pub fn numbers_of_added(a: Result<usize, NotAdded>, n: usize) -> AddedChild
             number: 0,
             terms: m,
         },
-        Err(NotAdded::Full) => AddedChild {
+        Err(Unadded::Full) => AddedChild {
             number: 1,
             terms: n,
         },
-        Err(NotAdded::Overflow) => AddedChild {
+        Err(Unadded::Overflow) => AddedChild {
             number: 2,
             terms: n,
         },
