@@ -66,25 +66,15 @@ fn behind(s: &[u8], found: bool, at: usize, word: &[u8]) -> Place
     requires { at ≤ length s.now }
     ensures { result.next ≤ length s.now }
 {
-    if word.len() > s.len() - at {
+    if s[at..].starts_with(word) {
         return Place {
-            found: false,
-            next: at,
+            found,
+            next: at + word.len(),
         };
     }
-    let mut i = 0;
-    while i < word.len() {
-        if s[at + i] != word[i] {
-            return Place {
-                found: false,
-                next: at,
-            };
-        }
-        i += 1;
-    }
     Place {
-        found: found,
-        next: at + i,
+        found: false,
+        next: at,
     }
 }
 
@@ -105,8 +95,7 @@ fn number(s: &[u8], from: usize) -> Parsed
     ensures { (from ≤ result.next) × (result.next ≤ length s.now) }
 {
     let mut value = 0u32;
-    let mut at = from;
-    while at < s.len() {
+    for at in from..s.len() {
         let b = s[at];
         if b < 48 {
             return Parsed {
@@ -121,11 +110,10 @@ fn number(s: &[u8], from: usize) -> Parsed
             };
         }
         value = more(value, b);
-        at += 1;
     }
     Parsed {
         value: value,
-        next: at,
+        next: s.len(),
     }
 }
 
@@ -147,19 +135,20 @@ fn numbers(s: &[u8], from: usize, out: &mut [u32]) -> Entries
     requires { from ≤ length s.now }
     ensures { (result.next ≤ length s.now) × (result.count ≤ length out.old) }
 {
-    let mut n = 0;
     let mut at = from;
-    while n < out.len() {
+    for n in 0..out.len() {
         let i = entry(s, at);
         if !is_digit(byte(s, i)) {
             return Entries { count: n, next: at };
         }
         let x = number(s, i);
         out[n] = x.value;
-        n += 1;
         at = x.next;
     }
-    Entries { count: n, next: at }
+    Entries {
+        count: out.len(),
+        next: at,
+    }
 }
 
 fn put32(s: &mut [u32], n: usize, x: u32) {
@@ -230,19 +219,20 @@ fn cells(
     requires { from ≤ length s.now }
     ensures { (result.next ≤ length s.now) × (result.count ≤ 4400) }
 {
-    let mut n = 0;
     let mut at = from;
-    while n < 4400 {
+    for n in 0..4400 {
         let i = entry(s, at);
         if i >= s.len() {
             return Entries { count: n, next: at };
         }
         let x = read_cell(s, i);
         put_cell(sizes, masses, allowed, n, x);
-        n += 1;
         at = x.next;
     }
-    Entries { count: n, next: at }
+    Entries {
+        count: 4400,
+        next: at,
+    }
 }
 
 // A byte more in the output.
@@ -256,8 +246,8 @@ fn push(out: &mut [u8], at: usize, b: u8) -> usize {
 
 fn text(out: &mut [u8], from: usize, s: &[u8]) -> usize {
     let mut at = from;
-    for i in 0..s.len() {
-        at = push(out, at, s[i]);
+    for b in s {
+        at = push(out, at, *b);
     }
     at
 }
@@ -309,28 +299,25 @@ fn digits(w: Wide, out: &mut [u8; 40]) -> usize
     ensures { result ≤ 40 }
 {
     let mut x = w;
-    let mut n = 0;
-    while n < 40 {
+    for n in 0..40 {
         let t = tenth(x);
         out[n] = digit(t.digit);
-        n += 1;
         x = t.rest;
         if x.hi == 0 {
             if x.lo == 0 {
-                return n;
+                return n + 1;
             }
         }
     }
-    n
+    40
 }
 
 fn decimal_wide(out: &mut [u8], from: usize, w: Wide) -> usize {
     let mut line = [0u8; 40];
-    let mut n = digits(w, &mut line);
+    let n = digits(w, &mut line);
     let mut at = from;
-    while n > 0 {
-        n -= 1;
-        at = push(out, at, line[n]);
+    for d in line[..n].iter().rev() {
+        at = push(out, at, *d);
     }
     at
 }
@@ -339,31 +326,23 @@ fn wider(x: u32) -> u64 {
     x as u64
 }
 
-// A number of the plan.
-fn units(plan: &[u32], i: usize) -> u64 {
-    if i < plan.len() {
-        return wider(plan[i]);
-    }
-    0
-}
-
-// The first n numbers of the plan, each behind a space.
-fn tell_units(out: &mut [u8], from: usize, plan: &[u32], n: usize) -> usize {
+// The numbers of the plan, each behind a space.
+fn tell_units(out: &mut [u8], from: usize, plan: &[u32]) -> usize {
     let mut at = from;
-    for i in 0..n {
+    for x in plan {
         at = push(out, at, 32);
-        at = decimal(out, at, units(plan, i));
+        at = decimal(out, at, wider(*x));
     }
     at
 }
 
-fn tell_plan(out: &mut [u8], q: Quality, plan: &[u32], n: usize) -> usize {
+fn tell_plan(out: &mut [u8], q: Quality, plan: &[u32]) -> usize {
     let mut at = text(out, 0, b"size ");
     at = decimal_wide(out, at, q.size);
     at = text(out, at, b" mass ");
     at = decimal_wide(out, at, q.mass);
     at = text(out, at, b" plan");
-    tell_units(out, at, plan, n)
+    tell_units(out, at, plan)
 }
 
 fn tell_refused(out: &mut [u8], n: u8) -> usize {
@@ -371,9 +350,9 @@ fn tell_refused(out: &mut [u8], n: u8) -> usize {
     decimal(out, at, n as u64)
 }
 
-fn tell(out: &mut [u8], a: Answer, plan: &[u32], n: usize) -> usize {
+fn tell(out: &mut [u8], a: Answer, plan: &[u32]) -> usize {
     match a {
-        Answer::Plan(q) => tell_plan(out, q, plan, n),
+        Answer::Plan(q) => tell_plan(out, q, plan),
         Answer::Refused(n) => tell_refused(out, n),
     }
 }
@@ -392,8 +371,7 @@ fn solve_in(
     let a = solve_transport(
         supply, demand, sizes, masses, allowed, plan, &mut costs, &mut flow,
     );
-    let n = plan.len();
-    tell(out, a, plan, n)
+    tell(out, a, plan)
 }
 
 fn solve(
@@ -462,28 +440,10 @@ fn say(rt: &impl Print, line: &[u8]) -> io::Result<()> {
     emit(rt, &out, m)
 }
 
-// The place of the next line feed, or the end.
-fn line_end(s: &[u8], from: usize) -> usize
-    requires { from ≤ length s.now }
-    ensures { (from ≤ result) × (result ≤ length s.now) }
-{
-    let mut at = from;
-    while at < s.len() {
-        if s[at] == 10 {
-            return at;
-        }
-        at += 1;
-    }
-    at
-}
-
 // The lines of the text.
 fn each(rt: &impl Print, s: &[u8]) -> io::Result<()> {
-    let mut at = 0;
-    while at < s.len() {
-        let end = line_end(s, at);
-        say(rt, &s[at..end])?;
-        at = end + 1;
+    for line in s.split_inclusive(|b| *b == 10) {
+        say(rt, line.strip_suffix(b"\n").unwrap_or(line))?;
     }
     Ok(())
 }

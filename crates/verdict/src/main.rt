@@ -4,24 +4,8 @@
 use judge::{Verdict, judge};
 use std::io;
 
-fn digit(rt: &impl Print, d: usize) -> io::Result<()> {
-    if d < 10 {
-        let b = [b"0123456789"[d]];
-        rt.write_all(&b)?;
-    }
-    Ok(())
-}
-
-// a number of at most five digits
 fn decimal(rt: &impl Print, n: usize) -> io::Result<()> {
-    let mut unit = 10000;
-    while unit > 1 {
-        if n >= unit {
-            digit(rt, n / unit % 10)?;
-        }
-        unit = unit / 10;
-    }
-    digit(rt, n % 10)
+    rt.print(numbers::long_size(n))
 }
 
 fn say(rt: &impl Print, v: Verdict) -> io::Result<()> {
