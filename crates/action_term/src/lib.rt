@@ -33,17 +33,15 @@ fn insert(terms: &[u32], runs: &[u64], list: &mut [u64], i: usize, n: usize)
     ensures { list.new ≡ within list.old i n (insert_number (pool_of terms.now runs.now) (get_or list.old i 0) (part list.old (i + 1) (n - (i + 1)))) }
 {
     let x = list[i];
-    let mut j = i;
-    while j + 1 < n {
+    for j in i..n - 1 {
         let y = list[j + 1];
         if !is_greater(terms, runs, terms::child(x), terms::child(y)) {
             stores::put_u64(list, j, x);
             return;
         }
         stores::put_u64(list, j, y);
-        j += 1;
     }
-    stores::put_u64(list, j, x);
+    stores::put_u64(list, n - 1, x);
 }
 
 // the first n runs of list in the structural order of their children
@@ -51,9 +49,7 @@ fn sort(terms: &[u32], runs: &[u64], list: &mut [u64], n: usize)
     requires { Holds terms.now runs.now × (n ≤ length list.old) × RunsBelow (count_in terms.now) (map unpack (part list.old 0 n)) }
     ensures { list.new ≡ over (sort_numbers (pool_of terms.now runs.now) (part list.old 0 n)) list.old }
 {
-    let mut i = n;
-    while 0 < i {
-        i -= 1;
+    for i in (0..n).rev() {
         insert(terms, runs, list, i, n);
     }
 }

@@ -13,14 +13,12 @@ pub fn place(mono: &[u64], n: usize, c: u64) -> usize
     requires { 2 * n ≤ length mono.now }
     ensures { (result ≡ position c (held n mono.now)) × (result ≤ n) }
 {
-    let mut i = 0;
-    while i < n {
+    for i in 0..n {
         if class_at(mono, i) >= c {
             return i;
         }
-        i += 1;
     }
-    i
+    n
 }
 
 // Class c stands in the list, at its place p.

@@ -27,9 +27,7 @@ pub fn text(out: &mut [u8], at: usize, b: &[u8]) -> usize
     requires { at + length b.now ≤ length out.old }
     ensures { Wrote b.now out.old at out.new result }
 {
-    for i in 0..b.len() {
-        out[at + i] = b[i];
-    }
+    out[at..at + b.len()].copy_from_slice(b);
     at + b.len()
 }
 

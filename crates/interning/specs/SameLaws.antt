@@ -1,10 +1,11 @@
 -- An entry against a node: its runs one by one, and its numbers.
-use Rattle.std.specs.Prelude.{◌≡◌, refl, Bool, true, false, List, [], ◌∷◌, ◌++◌, map, ℕ, suc, ◌+◌, ◌-◌, ◌/◌, ◌%◌, ◌<◌, length, get_or}
-use Rattle.std.proofs.Common.{sym, ap, ap₂, ◌∙◌, arith}
+use Rattle.std.specs.Prelude.{◌≡◌, ◌≢◌, refl, Bool, true, false, List, [], ◌∷◌, ◌++◌, map, ℕ, suc, ◌+◌, ◌-◌, ◌/◌, ◌%◌, ◌<◌, ◌≤◌, length, get_or, take, drop}
+use Rattle.std.specs.Bool.{MatchBool}
+use Rattle.std.proofs.Common.{sym, ap, ap₂, ◌∙◌, arith, get_or-drop, length-drop}
 use Rattle.spec.specs.Bytes.{Two}
 use Rattle.spec.specs.Pool.{Node}
 use Rattle.terms.specs.Buffers.{part, unpack, node_of, node_in, part_in, length_in, first_in, head_in, value_in}
-use Rattle.terms.specs.PartLaws.{part_length, part_at, part-snoc}
+use Rattle.terms.specs.PartLaws.{part_length, part_at, part-cong, part-snoc, part-take}
 use Rattle.interning.specs.Interning.{Tells}
 
 -- a turn of the comparison
@@ -20,6 +21,14 @@ parts_all l m a n i h e = rw h at e
 pub parts_none : (l m : List ℕ) (a : ℕ) → part l a 0 ≡ part m 0 0
 unfolding part
 parts_none l m a = refl
+
+-- the comparison of the parts themselves
+part-between : (l : List ℕ) (a n : ℕ) → a + n ≤ length l → part l a n ≡ take n (drop a l)
+part-between l a n h = part-cong l (drop a l) a 0 n (λ i k. let z : 0 + i ≡ i = omega arith in rw z (sym (get_or-drop a l i 0))) ∙ part-take (drop a l) n (omega (arith, length-drop a l))
+
+pub parts-told : (l m : List ℕ) (a n : ℕ) (r : Bool) → a + n ≤ length l → n ≤ length m → MatchBool r (take n (drop a l) ≡ take n m) (take n (drop a l) ≢ take n m) → Tells r (part l a n ≡ part m 0 n)
+parts-told l m a n true h k e = part-between l a n h ∙ e ∙ sym (part-take m n k)
+parts-told l m a n false h k d = λ e. d (sym (part-between l a n h) ∙ e ∙ part-take m n k)
 
 -- the lengths
 pub sub_same : {a b c d : ℕ} → a ≡ b → c ≡ d → a - c ≡ b - d

@@ -1,4 +1,7 @@
 -- Laws of the tests: bytes of a sign, two signs, every other sign.
+use Rattle.std.specs.List.{list_all}
+use lib.Pointwise.{pointwise}
+use Rattle.std.proofs.Common.{nat_eq}
 use Rattle.std.specs.Prelude.{◌≡◌, Bool, ltb, leb, eqb, get_or, drop}
 use Rattle.std.proofs.Math.Path.{refl, sym, ap}
 use Rattle.std.proofs.Common.{◌∙◌, add-one, drop_of_length-le, drop-drop, drop_at, take-add, get_or-take, get_or-drop, length-take-le}
@@ -44,6 +47,16 @@ symbol-last c p q r s u = go (eqb c 43) (eqb c 45) (eqb c 42) (eqb c 47) (eqb c 
     go a b d e f g i j k l m = rw (i, j, k, l, m) (same g)
 
 -- ---- bytes from one place up to another
+-- the library's test of each item
+pub all-is : (f : ℕ → Bool) (l : List ℕ) → list_all f l ≡ all f l
+unfolding all
+all-is f [] = refl
+all-is f (x ∷ l) = go (f x) refl (all-is f l)
+  where
+    go : (b : Bool) → f x ≡ b → list_all f l ≡ all f l → list_all f (x ∷ l) ≡ all f (x ∷ l)
+    go true e h = rw (e, all) h
+    go false e h = rw (e, all) refl
+
 module _ (f : ℕ → Bool) (l : List ℕ) where
   module _ (i t : ℕ) (h : i < t) (k : t ≤ length l) where
     pub slice-more : f (get_or l i 0) ≡ true → all f (slice i t l) ≡ all f (slice (i + 1) t l)
@@ -72,6 +85,11 @@ word-front (c ∷ l) = go (eqb c 0) refl (word-front l)
 pub behind : (a n : ℕ) (t : List ℕ) → a ≤ length t → slice a (a + n) t ≡ take n (drop a t)
 behind a n t h = ap (drop a) (take-add a n t) ∙ drop_at (take a t) (take n (drop a t)) a (length-take-le a t h)
 
+pub all-between : (f : ℕ → Bool) (l : List ℕ) (a b : ℕ) → a ≤ b → b ≤ length l → list_all f (take (b - a) (drop a l)) ≡ all f (slice a b l)
+all-between f l a b h k =
+    let e : a + (b - a) ≡ b = omega arith in
+    all-is f (take (b - a) (drop a l)) ∙ ap (all f) (sym (rw e at (behind a (b - a) l (omega arith))))
+
 -- one byte, or more
 one_byte : (w : List ℕ) → length w ≡ 1 → one_symbol w ≡ symbol (get_or w 0 0)
 unfolding one_symbol
@@ -92,6 +110,9 @@ module _ (t : List ℕ) (o n : ℕ) (h : o < operations t) (e : n ≡ length (si
   sign-slice =
       let a = 9 + 9 * o in
       word-front (sign_field t o) ∙ ap (λ (z : ℕ). take z (sign_field t o)) (sym e) ∙ take-take n 8 (drop a t) k ∙ sym (behind a n t (omega (arith, entry_whole t o h)))
+
+  pub sign-part : sign t o ≡ take n (drop (9 + 9 * o) t)
+  sign-part = sign-slice ∙ behind (9 + 9 * o) n t (omega (arith, entry_whole t o h))
 
   rest-slice : drop (length (sign t o)) (sign_field t o) ≡ slice (9 + 9 * o + n) (9 + 9 * o + 8) t
   rest-slice =
@@ -152,6 +173,18 @@ module _ (t : List ℕ) (o n : ℕ) (h : o < operations t) (e : n ≡ length (si
           sym (padded ∙ by_one ∙ one_byte (sign t o) (sym e ∙ y) ∙ ap symbol (sign-at 0 (omega arith) ∙ ap (λ (z : ℕ). get_or t z 0) a))
 
 -- ---- two signs
+-- the library's comparison
+pub pointwise-is : (w v : List ℕ) → pointwise nat_eq w v ≡ same_bytes w v
+unfolding same_bytes
+pointwise-is [] [] = refl
+pointwise-is [] (d ∷ v) = refl
+pointwise-is (c ∷ w) [] = refl
+pointwise-is (c ∷ w) (d ∷ v) = go (eqb c d) refl (pointwise-is w v)
+  where
+    go : (b : Bool) → eqb c d ≡ b → pointwise nat_eq w v ≡ same_bytes w v → pointwise nat_eq (c ∷ w) (d ∷ v) ≡ same_bytes (c ∷ w) (d ∷ v)
+    go true e h = rw (e, same_bytes) h
+    go false e h = rw (e, same_bytes) refl
+
 pub unlike-lengths : (w v : List ℕ) → (length w ≡ length v → ⊥) → false ≡ same_bytes w v
 unfolding same_bytes
 unlike-lengths [] [] n = absurd (n refl)

@@ -52,12 +52,7 @@ fn are_letters(table: &[u8], from: usize, to: usize) -> bool
     requires { (from ≤ to) × (to ≤ length table.now) }
     ensures { result ≡ all letter (slice from to table.now) }
 {
-    for i in from..to {
-        if !is_letter(table[i]) {
-            return false;
-        }
-    }
-    true
+    table[from..to].iter().all(|c| is_letter(*c))
 }
 
 // "zeros up to 8 bytes"
@@ -65,12 +60,7 @@ fn are_zero(table: &[u8], from: usize, to: usize) -> bool
     requires { (from ≤ to) × (to ≤ length table.now) }
     ensures { result ≡ all is_zero (slice from to table.now) }
 {
-    for i in from..to {
-        if table[i] != 0 {
-            return false;
-        }
-    }
-    true
+    table[from..to].iter().all(|b| *b == 0)
 }
 
 // "1 to 8 ASCII letters, or one of + - * / < >", then zeros
@@ -104,12 +94,7 @@ fn same_sign(table: &[u8], o: usize, q: usize) -> bool
     if sign_length(table, q) != n {
         return false;
     }
-    for i in 0..n {
-        if table[9 + 9 * q + i] != table[9 + 9 * o + i] {
-            return false;
-        }
-    }
-    true
+    table[9 + 9 * q..9 + 9 * q + n] == table[9 + 9 * o..9 + 9 * o + n]
 }
 
 // q is another operation with the sign of o

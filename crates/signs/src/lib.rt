@@ -23,12 +23,8 @@ pub fn sign_length(table: &[u8], o: usize) -> usize
     requires { o < operations table.now }
     ensures { (result ≡ length (sign table.now o)) × (result ≤ 8) }
 {
-    for i in 0..8 {
-        if table[9 + 9 * o + i] == 0 {
-            return i;
-        }
-    }
-    8
+    let at = 9 + 9 * o;
+    table[at..at + 8].iter().position(|b| *b == 0).unwrap_or(8)
 }
 
 // "and its precedence"

@@ -24,8 +24,8 @@ pub fn key(list: &[u64], n: usize, h: u32, v: u32) -> usize
     ensures { (result ≡ key_of h v (part list.now 0 n)) × (result < BUCKETS) }
 {
     let mut x = (numbers::long_u32(h) * 4096 + numbers::long_u32(v)) % 4294967296;
-    for i in 0..n {
-        x = mix(x, list[i]);
+    for r in &list[..n] {
+        x = mix(x, *r);
     }
     folded(x)
 }

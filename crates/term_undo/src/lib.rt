@@ -40,9 +40,7 @@ pub fn take_back(terms: &mut [u32], runs: &mut [u64], n: usize)
     requires { Holds terms.old runs.old × (n ≤ count_in terms.old) }
     ensures { TakenBack n terms.old runs.old terms.new runs.new }
 {
-    let mut i = count(terms);
-    while n < i {
-        i -= 1;
+    for i in (n..count(terms)).rev() {
         undo_last(terms, runs, i);
     }
 }

@@ -28,8 +28,8 @@ pub fn total(s: &[u32]) -> u64
     ensures { (result ≡ sum s.now) × (result < 2 ^ 39) }
 {
     let mut t = 0u64;
-    for i in 0..s.len() {
-        t += long_u32(s[i]);
+    for x in s {
+        t += long_u32(*x);
     }
     t
 }

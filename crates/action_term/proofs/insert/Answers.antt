@@ -1,7 +1,8 @@
 use Rattle.terms.specs.Buffers.{pool_of, count_in}
 use Rattle.action_term.specs.SortLaws.{moving-start, moving-end, moving-stop, moving-turn, moving-left, moving-right}
+use Prim.Native.Nat.{◌-◌}
 use native.Mathlib.Omega.{arith}
-use mathlib.Core.Path.{sym, ◌∙◌}
+use mathlib.Core.Path.{◌≡◌, sym, ◌∙◌}
 use lib.ListN.{get_or}
 use Rattle.action_term.proofs.insert.Goals as goal
 
@@ -30,4 +31,5 @@ loop-j-preserved c =
 pub returns : goal.returns
 returns c =
     let a = c.args in
-    rw c.put_u64-2.ensures (moving-end (pool_of a.terms.now a.runs.now) a.list.now a.i a.n (get_or a.list.now a.i 0) c.loop-j.list c.loop-j.j c.loop-j.invariant c.requires.2 (omega arith))
+    let e : a.n - 1 ≡ c.loop-j.j = omega arith in
+    rw (c.put_u64-2.ensures, e) (moving-end (pool_of a.terms.now a.runs.now) a.list.now a.i a.n (get_or a.list.now a.i 0) c.loop-j.list c.loop-j.j c.loop-j.invariant c.requires.2 (omega arith))

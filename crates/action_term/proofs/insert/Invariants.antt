@@ -1,10 +1,6 @@
 use Rattle.terms.specs.Buffers.{pool_of}
 use Rattle.action_term.specs.SortLaws.{Moving}
-use Prim.Native.Nat.{◌-◌}
 use Rattle.action_term.proofs.insert.Given as goal
 
 abbrev pub invariant-loop-j : goal.invariant-loop-j
 invariant-loop-j l = Moving (pool_of l.terms l.runs) l.initial.list l.i l.n l.x l.list l.j
-
-abbrev pub decreases-loop-j : goal.decreases-loop-j
-decreases-loop-j l = l.n - l.j

@@ -7,6 +7,3 @@ use Rattle.action_term.proofs.sort.Given as goal
 
 abbrev pub invariant-loop-i : goal.invariant-loop-i
 invariant-loop-i l = (l.i ≤ l.n) × (length l.list ≡ length l.initial.list) × (l.list ≡ within l.initial.list l.i l.n (sort_numbers (pool_of l.terms l.runs) (part l.initial.list l.i (l.n - l.i))))
-
-abbrev pub decreases-loop-i : goal.decreases-loop-i
-decreases-loop-i l = l.i

@@ -1,13 +1,11 @@
 use Rattle.changes.specs.Marks.{marked_in}
 use Rattle.changes.specs.MarkLaws.{marked_child, children-scanned}
 use Rattle.changes.specs.Readers.{children-end, child-few}
-use Rattle.laws.specs.Scans.{Scanned, scan-none, scan-found, scan-more, scan-end}
+use Rattle.laws.specs.Scans.{scan-none, scan-found, scan-more, scan-end}
 use Rattle.image.specs.Loaded.{members-many, children-many}
 use Rattle.spec.specs.Image.{tables_of}
-use Prim.Native.Nat.{◌-◌}
 use native.Mathlib.Omega.{arith}
 use mathlib.Core.Path.{sym, ap, ◌∙◌}
-use borrow.Author.Rules.{rules}
 use Rattle.changes.proofs.any_child.Goals as goal
 
 pub loop-k-init : goal.loop-k-init

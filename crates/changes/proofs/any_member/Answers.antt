@@ -1,12 +1,10 @@
 use Rattle.changes.specs.MarkLaws.{marked_member, members-scanned}
 use Rattle.changes.specs.Readers.{members-end}
-use Rattle.laws.specs.Scans.{Scanned, scan-none, scan-found, scan-more, scan-end}
+use Rattle.laws.specs.Scans.{scan-none, scan-found, scan-more, scan-end}
 use Rattle.image.specs.Loaded.{classes-many, members-many}
 use Rattle.spec.specs.Image.{tables_of}
-use Prim.Native.Nat.{◌-◌}
 use native.Mathlib.Omega.{arith}
 use mathlib.Core.Path.{sym, ◌∙◌}
-use borrow.Author.Rules.{rules}
 use Rattle.changes.proofs.any_member.Goals as goal
 
 pub loop-m-init : goal.loop-m-init

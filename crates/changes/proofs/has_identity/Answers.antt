@@ -1,12 +1,10 @@
 use Rattle.changes.specs.MarkLaws.{with_identity, operations-scanned, identity-none, identity-some}
-use Rattle.laws.specs.Scans.{Scanned, scan-none, scan-found, scan-more, scan-end}
+use Rattle.laws.specs.Scans.{scan-none, scan-found, scan-more, scan-end}
 use Rattle.image.specs.Loaded.{operations-many}
 use Rattle.spec.specs.Image.{tables_of, the_operation, NO-IDENTITY}
-use Prim.Native.Nat.{◌-◌}
 use native.Mathlib.Omega.{arith}
 use mathlib.Core.Bool.{true}
 use mathlib.Core.Path.{sym, ◌∙◌}
-use borrow.Author.Rules.{rules}
 use Rattle.changes.proofs.has_identity.Goals as goal
 
 pub loop-o-init : goal.loop-o-init

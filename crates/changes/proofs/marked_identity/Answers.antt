@@ -4,7 +4,6 @@ use Rattle.changes.specs.Readers.{identity-few}
 use Rattle.spec.specs.Image.{tables_of, the_operation}
 use native.Mathlib.Omega.{arith}
 use mathlib.Core.Path.{sym, ◌∙◌}
-use borrow.Author.Rules.{rules}
 use Rattle.changes.proofs.marked_identity.Goals as goal
 
 pub returns-then-e-eq-NO_IDENTITY : goal.returns-then-e-eq-NO_IDENTITY

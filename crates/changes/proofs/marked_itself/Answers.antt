@@ -2,7 +2,6 @@ use Rattle.changes.specs.Marks.{marked_in}
 use Rattle.spec.specs.Bytes.{both}
 use mathlib.Core.Bool.{Bool}
 use mathlib.Core.Path.{sym, ap, ◌∙◌}
-use borrow.Author.Rules.{rules}
 use Rattle.changes.proofs.marked_itself.Goals as goal
 
 pub returns-then-itself : goal.returns-then-itself

@@ -1,15 +1,14 @@
 use Rattle.changes.specs.Marks.{live_of}
 use Rattle.changes.specs.MarkLaws.{live-length, live-entry}
 use Rattle.changes.specs.Readers.{class-few}
-use Rattle.laws.specs.Buffers.{Filled, filled_none, filled_more, filled-all}
+use Rattle.laws.specs.Buffers.{filled_none, filled_more, filled-all}
 use Rattle.image.specs.Loaded.{classes-many}
 use Rattle.spec.specs.Bytes.{pick}
 use Rattle.spec.specs.Image.{tables_of}
-use Prim.Native.Nat.{ℕ, ◌-◌}
+use Prim.Native.Nat.{ℕ}
 use native.Mathlib.Omega.{arith}
 use mathlib.Core.Bool.{Bool}
 use mathlib.Core.Path.{sym, ap, ◌∙◌}
-use borrow.Author.Rules.{rules}
 use Rattle.changes.proofs.touch_all.Goals as goal
 
 pub loop-c-init : goal.loop-c-init

@@ -6,7 +6,6 @@ use Rattle.spec.specs.Image.{tables_of}
 use native.Mathlib.Omega.{arith}
 use mathlib.Core.Bool.{Bool}
 use mathlib.Core.Path.{sym, ap, ◌∙◌}
-use borrow.Author.Rules.{rules}
 use Rattle.changes.proofs.touched.Goals as goal
 
 pub returns-then-through : goal.returns-then-through

@@ -1,9 +1,8 @@
 use Rattle.net.specs.Net.{labelled, joined, begun}
-use Prim.Native.Nat.{ℕ, ◌-◌}
+use Prim.Native.Nat.{ℕ}
 use mathlib.Core.Path.{ap, ◌∙◌}
 use mathlib.Core.List.{List}
 use lib.ListN.{set}
-use borrow.Author.Rules.{rules}
 use Rattle.labels.proofs.begin.Goals as goal
 
 pub returns : goal.returns

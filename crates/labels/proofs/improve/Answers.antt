@@ -1,9 +1,8 @@
 use Rattle.net.specs.NetLaws.{improved-queued, improved-joins}
 use Rattle.net.specs.Net.{state_of, joined}
-use Prim.Native.Nat.{ℕ, ◌-◌}
+use Prim.Native.Nat.{ℕ}
 use mathlib.Core.Path.{ap, sym, ◌∙◌}
 use mathlib.Core.List.{List}
-use borrow.Author.Rules.{rules}
 use Rattle.labels.proofs.improve.Goals as goal
 
 pub returns-then-net-v-eq2 : goal.returns-then-net-v-eq2

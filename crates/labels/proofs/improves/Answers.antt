@@ -3,9 +3,7 @@ use Rattle.wide.specs.declared.Wide.{Wide}
 use Rattle.wide.specs.Value.{val}
 use Rattle.net.specs.Net.{state_of}
 use borrow.Author.Tests.{eq-eqb, ne_eqb}
-use Prim.Native.Nat.{◌-◌}
 use mathlib.Core.Path.{refl, ap, ◌∙◌}
-use borrow.Author.Rules.{rules}
 use Rattle.labels.proofs.improves.Goals as goal
 
 pub returns-then-net-v-eq0 : goal.returns-then-net-v-eq0

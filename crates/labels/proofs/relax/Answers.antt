@@ -1,7 +1,5 @@
 use Rattle.net.specs.NetLaws.{relaxed-yes, relaxed-not}
-use Prim.Native.Nat.{◌-◌}
 use mathlib.Core.Path.{sym, ◌∙◌}
-use borrow.Author.Rules.{rules}
 use Rattle.labels.proofs.relax.Goals as goal
 
 pub returns-then-improves : goal.returns-then-improves

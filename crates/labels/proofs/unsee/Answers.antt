@@ -1,9 +1,8 @@
 use Rattle.net.specs.NetLaws.{unsee-start, unsee-turn, unsee-end}
 use Rattle.net.specs.Net.{unseen_to}
-use borrow.Author.Rules.{rules}
-use Prim.Native.Nat.{ℕ, ◌≤◌, ◌-◌, ◌+◌}
+use Prim.Native.Nat.{ℕ, ◌-◌, ◌+◌}
 use native.Mathlib.Omega.{arith}
-use mathlib.Core.Path.{◌≡◌, ap, sym, ◌∙◌}
+use mathlib.Core.Path.{ap, sym, ◌∙◌}
 use mathlib.Core.List.{List}
 use Rattle.labels.proofs.unsee.Goals as goal
 

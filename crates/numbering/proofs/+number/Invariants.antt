@@ -1,4 +1,3 @@
-use Rattle.std.proofs.Common.{◌-◌}
 use Rattle.numbering.specs.VisitLaws.{Visiting}
 use Rattle.numbering.proofs.+number.Given as goal
 
@@ -7,6 +6,3 @@ decreases-number l = l.t
 
 abbrev pub invariant-loop-i : goal.invariant-loop-i
 invariant-loop-i l = Visiting l.terms l.runs l.fn.marks l.n0 l.t l.end l.marks l.i l.n
-
-abbrev pub decreases-loop-i : goal.decreases-loop-i
-decreases-loop-i l = l.end - l.i

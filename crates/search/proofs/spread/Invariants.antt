@@ -5,6 +5,3 @@ use Rattle.search.proofs.spread.Given as goal
 
 abbrev pub invariant-loop-i : goal.invariant-loop-i
 invariant-loop-i l = (l.i ≤ l.n) × (spread_to l.left l.u l.d (l.n - l.i) (l.k + l.i) (l.v + l.i) l.net ≡ spread_to l.left l.u l.d l.n l.k l.v l.initial.net)
-
-abbrev pub decreases-loop-i : goal.decreases-loop-i
-decreases-loop-i l = l.n - l.i

@@ -1,18 +1,12 @@
-use Rattle.sign_judge.specs.SignTests.{slice-more, slice-fails, slice-none}
+use Rattle.std.proofs.Common.{rules, tests, ◌∙◌, ◌-◌, take, drop}
+use Rattle.std.proofs.lemmas.Iterator.{YieldsList-from_slice}
+use Rattle.std.proofs.lemmas.Iterator.Search.{all_from_yields_List}
+use Rattle.sign_judge.specs.SignTests.{all-between}
 use Rattle.formula.specs.Card.{letter}
-use native.Mathlib.Omega.{arith}
-use mathlib.Core.Path.{sym, ◌∙◌}
 use Rattle.sign_judge.proofs.are_letters.Goals as goal
 
-pub returns-then-not-is_letter : goal.returns-then-not-is_letter
-returns-then-not-is_letter c =
-    let a = c.args in
-    sym (c.loop-i.invariant.2 ∙ slice-fails letter a.table.now c.loop-i.i a.to (omega arith) (omega arith) (sym c.is_letter.ensures ∙ c.if-not-is_letter.true))
-
-pub loop-i-preserved : goal.loop-i-preserved
-loop-i-preserved c =
-    let a = c.args in
-    (omega arith, omega arith, c.loop-i.invariant.2 ∙ slice-more letter a.table.now c.loop-i.i a.to (omega arith) (omega arith) (sym c.is_letter.ensures ∙ c.if-not-is_letter.false))
-
 pub returns : goal.returns
-returns c = let a = c.args in sym (c.loop-i.invariant.2 ∙ slice-none letter a.table.now c.loop-i.i a.to (omega arith) (omega arith))
+returns c =
+    let a = c.args in
+    let e = all_from_yields_List letter _ _ c.all.result c.all.ensures.ran (YieldsList-from_slice (take (a.to - a.from) (drop a.from a.table.now)) cc) (λ x b q k. search (rules, tests)) in
+    e ∙ all-between letter a.table.now a.from a.to c.requires.0 c.requires.1

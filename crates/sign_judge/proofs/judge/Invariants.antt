@@ -1,10 +1,7 @@
 use Rattle.laws.specs.Buffers.{Filled}
 use Rattle.formula.specs.Card.{bindings}
-use Prim.Native.Nat.{◌≤◌, ◌-◌}
+use Prim.Native.Nat.{◌≤◌}
 use Rattle.sign_judge.proofs.judge.Given as goal
 
 abbrev pub invariant-loop-o : goal.invariant-loop-o
 invariant-loop-o l = (l.o ≤ 64) × Filled (bindings l.table) l.initial.binds l.o l.binds
-
-abbrev pub decreases-loop-o : goal.decreases-loop-o
-decreases-loop-o l = 64 - l.o

@@ -1,12 +1,10 @@
 use Rattle.cost_matrix.specs.Cells.{problem_of, cell_of, mass-is, cells-many, cell-at}
-use Rattle.cost_matrix.specs.Laying.{LargestTo, largest-none, largest-more, largest-all}
+use Rattle.cost_matrix.specs.Laying.{largest-none, largest-more, largest-all}
 use Prim.Native.Nat.{max}
-use borrow.Author.Rules.{rules}
-use Prim.Native.Nat.{ℕ, ◌≤◌, ◌-◌}
+use Prim.Native.Nat.{ℕ}
 use native.Mathlib.Omega.{arith}
-use mathlib.Core.Path.{◌≡◌, sym, ap, ◌∙◌}
-use mathlib.Core.List.{List}
-use lib.ListN.{length, get_or}
+use mathlib.Core.Path.{sym, ap, ◌∙◌}
+use lib.ListN.{get_or}
 use Rattle.slice_matrix.proofs.largest_mass.Goals as goal
 
 pub loop-i-init : goal.loop-i-init

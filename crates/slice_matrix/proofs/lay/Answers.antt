@@ -2,7 +2,6 @@ use Rattle.wide.specs.Value.{unsigned}
 use Rattle.cost_matrix.specs.Cells.{problem_of}
 use Rattle.cost_matrix.specs.Laying.{weight-of}
 use mathlib.Core.Path.{sym, ◌∙◌}
-use borrow.Author.Rules.{rules}
 use Rattle.slice_matrix.proofs.lay.Goals as goal
 
 pub lay_cells-requires : goal.lay_cells-requires

@@ -2,11 +2,10 @@ use Prim.Native.Nat.{◌/◌, ◌%◌}
 use Rattle.wide.specs.Value.{unsigned}
 use Rattle.cost_matrix.specs.Places.{div-in}
 use Rattle.cost_matrix.specs.Cells.{cell_of, problem_of, cell-at}
-use Rattle.cost_matrix.specs.Laying.{Laying, laying-none, laying-more, laying-all}
+use Rattle.cost_matrix.specs.Laying.{laying-none, laying-more, laying-all}
 use borrow.Author.Rules.{rules}
-use Prim.Native.Nat.{◌≤◌, ◌-◌}
 use native.Mathlib.Omega.{arith}
-use mathlib.Core.Path.{◌≡◌, refl}
+use mathlib.Core.Path.{refl}
 use lib.ListN.{length, get_or}
 use Rattle.slice_matrix.proofs.lay_cells.Goals as goal
 

@@ -9,9 +9,6 @@ loop-i-init c = let a = c.args in undoing-start a.n a.terms.now a.runs.now c.cou
 pub undo_last-requires : goal.undo_last-requires
 undo_last-requires c = let l = c.loop-i in (l.invariant.holds, omega (arith, l.invariant.counted, c.loop-i-test))
 
-pub loop-i-smaller : goal.loop-i-smaller
-loop-i-smaller c = omega (arith, c.loop-i-test)
-
 pub loop-i-preserved : goal.loop-i-preserved
 loop-i-preserved c =
     let a = c.args in

@@ -20,9 +20,6 @@ overflow_cast-plan c = let l = c.loop-k in let e = l.invariant.1 in record { fit
 pub offset_bounds-plan-k : goal.offset_bounds-plan-k
 offset_bounds-plan-k c = let l = c.loop-k in let e = l.invariant.1 in search rules
 
-pub overflow_add-k : goal.overflow_add-k
-overflow_add-k c = let l = c.loop-k in let e = l.invariant.1 in search rules
-
 pub loop-k-preserved : goal.loop-k-preserved
 loop-k-preserved c = let l = c.loop-k in let e = l.invariant.1 in (simp length-set (omega arith), simp length-set (omega arith), copied_next c.args.flow.now l.plan l.k (omega arith) l.invariant.2)
 

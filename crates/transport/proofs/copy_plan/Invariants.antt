@@ -1,11 +1,8 @@
 use Rattle.transport.proofs.Answers.{Copied}
-use Prim.Native.Nat.{◌≤◌, ◌-◌}
+use Prim.Native.Nat.{◌≤◌}
 use mathlib.Core.Path.{◌≡◌}
 use lib.ListN.{length}
 use Rattle.transport.proofs.copy_plan.Given as goal
 
 abbrev pub invariant-loop-k : goal.invariant-loop-k
 invariant-loop-k l = (l.k ≤ length l.plan) × (length l.plan ≡ length l.initial.plan) × Copied l.flow l.plan l.k
-
-abbrev pub decreases-loop-k : goal.decreases-loop-k
-decreases-loop-k l = length l.initial.plan - l.k

@@ -1,4 +1,4 @@
-use Rattle.transport.proofs.Totals.{product-fits, summed-start, summed_turn, summed-end, next-lt}
+use Rattle.transport.proofs.Totals.{product-fits, summed-start, summed_turn, summed-end}
 use Prim.Native.Nat.{◌*◌}
 use native.Mathlib.Omega.{arith}
 use mathlib.Core.Path.{◌∙◌}
@@ -10,9 +10,6 @@ loop-i-init c = let a = c.args in (omega arith, summed-start a.plan.now a.per.no
 
 pub overflow_mul-x : goal.overflow_mul-x
 overflow_mul-x c = record { fits = product-fits c.long_u32.result c.long_u32-in-loop-i.result c.long_u32.ensures.1 c.long_u32-in-loop-i.ensures.1 }
-
-pub overflow_add-i : goal.overflow_add-i
-overflow_add-i c = record { fits = next-lt c.loop-i-test.true c.requires.2 }
 
 pub loop-i-preserved : goal.loop-i-preserved
 loop-i-preserved c =

@@ -6,6 +6,3 @@ use Rattle.widths.proofs.lines_width.Given as goal
 
 abbrev pub invariant-loop-k : goal.invariant-loop-k
 invariant-loop-k l = (l.k ≤ l.n) × (l.w ≤ 3000000 * l.k) × (l.w + length (lines_in l.terms l.runs l.marks l.k (l.n - l.k)) ≡ length (lines_in l.terms l.runs l.marks 0 l.n))
-
-abbrev pub decreases-loop-k : goal.decreases-loop-k
-decreases-loop-k l = l.n - l.k
