@@ -1,5 +1,5 @@
 -- `begin`, from what emptying the pool, the root's starting term and building say.
-use Rattle.std.specs.Prelude.{◌≡◌, refl, List, [], ℕ, ◌≤◌, length, replicate}
+use Rattle.std.specs.Prelude.{◌≡◌, refl, List, [], ℕ, ◌≤◌, length, replicate, Option, Some, None}
 use Rattle.std.proofs.Common.{sym, ap, ap₂, ◌∙◌, arith}
 use Rattle.spec.specs.Bytes.{Two, Limits, Res, ok, refused, Checked, passed, cut_short}
 use Rattle.spec.specs.Image.{Tables}
@@ -15,7 +15,6 @@ use Rattle.terms.specs.Buffers.{LEAST, pool_of}
 use Rattle.terms.specs.Emptying.{emptied, emptied-pool, emptied-length}
 use Rattle.best_terms.specs.Building.{full-told, term_told}
 use Rattle.best_terms.specs.Starting.{Starts}
-use Rattle.interning.specs.declared.Entered.TheVariants as E
 use Rattle.graph.specs.Building.{built_of, Builds}
 use Rattle.beginning.specs.Beginning.{begun_of, Begins}
 use Rattle.prepared.specs.declared.Begun.{Begun}
@@ -24,17 +23,17 @@ use Rattle.graph.specs.declared.Built.{Built}
 use Rattle.graph.specs.declared.Built.TheVariants as G
 
 -- ---- building's answer
-built-full : (k : ℕ) (g : Res (Checked (List Two))) → G.Full ≡ built_of k g → (n : ℕ) × (g ≡ refused n)
+built-full : (k : ℕ) (g : Res (Checked (List Two))) → None ≡ built_of k g → (n : ℕ) × (g ≡ refused n)
 built-full k (ok (passed ps c)) e = absurd (let z : ◌≡◌ {A = ℕ} 0 1 = cc in omega arith)
 built-full k (ok cut_short) e = absurd (let z : ◌≡◌ {A = ℕ} 0 1 = cc in omega arith)
 built-full k (refused n) e = (n, refl)
 
-built-cut : (k j : ℕ) (a : Interned) (g : Res (Checked (List Two))) → G.Cut j ≡ built_of k g → B.Cut a.term j ≡ begun_of k (ok a) g
+built-cut : (k j : ℕ) (a : Interned) (g : Res (Checked (List Two))) → Some (G.Cut j) ≡ built_of k g → B.Cut a.term j ≡ begun_of k (ok a) g
 built-cut k j a (ok (passed ps c)) e = absurd (let z : ◌≡◌ {A = ℕ} 0 1 = cc in omega arith)
 built-cut k j a (ok cut_short) e = let x : j ≡ k = cc in ap (λ (u : ℕ). B.Cut a.term u) x
 built-cut k j a (refused n) e = absurd (let z : ◌≡◌ {A = ℕ} 0 1 = cc in omega arith)
 
-built-all : (k j : ℕ) (a : Interned) (g : Res (Checked (List Two))) (n : ℕ) (b : Budget) → G.All n b j ≡ built_of k g → B.All a.term n b j ≡ begun_of k (ok a) g
+built-all : (k j : ℕ) (a : Interned) (g : Res (Checked (List Two))) (n : ℕ) (b : Budget) → Some (G.All n b j) ≡ built_of k g → B.All a.term n b j ≡ begun_of k (ok a) g
 built-all k j a (ok (passed ps c)) n b e =
     let x : n ≡ length ps = cc in
     let y : b ≡ budget_of c = cc in
@@ -48,7 +47,7 @@ module _ (lim : Limits) (t : Tables) (p : Two) (budget w : ℕ) (graph ts us bes
   from-none : starting_term lim t (pool_of (emptied ts) us) p ≡ starting_term lim t [] p
   from-none = ap (λ (z : Pool). starting_term lim t z p) (emptied-pool ts us)
 
-  pub begin-refused : Starts lim t p (emptied ts) us best ts' us' best' E.Full → Begins lim t p budget w graph ts us graph ts' us' (B.Stopped 13)
+  pub begin-refused : Starts lim t p (emptied ts) us best ts' us' best' None → Begins lim t p budget w graph ts us graph ts' us' (B.Stopped 13)
   begin-refused X =
       let (n, e) = full-told (starting_term lim t (pool_of (emptied ts) us) p) X.answer in
       let f : starting_term lim t [] p ≡ refused n = sym from-none ∙ e in
@@ -61,8 +60,8 @@ module _ (lim : Limits) (t : Tables) (p : Two) (budget w : ℕ) (graph ts us bes
         cleared = λ m z. (c.0 ∙ ap {B = List ℕ} (λ (i : ℕ). replicate i 0) (emptied-length ts us long), c.1);
       }
 
-  module _ (x : ℕ) (X : Starts lim t p (emptied ts) us best ts' us' best' (E.Term x)) (graph' : List ℕ) where
-    begun : (r : Begun) (b : Built) → Builds w (skipped_in lim t p budget) (build lim t p budget) graph graph' b → ((a : Interned) → a.term ≡ x → r ≡ begun_of (skipped_in lim t p budget) (ok a) (build lim t p budget)) → Begins lim t p budget w graph ts us graph' ts' us' r
+  module _ (x : ℕ) (X : Starts lim t p (emptied ts) us best ts' us' best' (Some x)) (graph' : List ℕ) where
+    begun : (r : Begun) (b : Option Built) → Builds w (skipped_in lim t p budget) (build lim t p budget) graph graph' b → ((a : Interned) → a.term ≡ x → r ≡ begun_of (skipped_in lim t p budget) (ok a) (build lim t p budget)) → Begins lim t p budget w graph ts us graph' ts' us' r
     begun r b Y z =
         let (a, e, f) = term_told (starting_term lim t (pool_of (emptied ts) us) p) x X.answer in
         let s : starting_term lim t [] p ≡ ok a = sym from-none ∙ e in
@@ -73,8 +72,8 @@ module _ (lim : Limits) (t : Tables) (p : Two) (budget w : ℕ) (graph ts us bes
           cleared = λ n q. absurd (refused-ok (sym q ∙ s));
         }
 
-    pub begin-full : Builds w (skipped_in lim t p budget) (build lim t p budget) graph graph' G.Full → Begins lim t p budget w graph ts us graph' ts' us' (B.Stopped 12)
-    begin-full Y = begun (B.Stopped 12) G.Full Y (λ a f. full a)
+    pub begin-full : Builds w (skipped_in lim t p budget) (build lim t p budget) graph graph' None → Begins lim t p budget w graph ts us graph' ts' us' (B.Stopped 12)
+    begin-full Y = begun (B.Stopped 12) None Y (λ a f. full a)
       where
         full : (a : Interned) → B.Stopped 12 ≡ begun_of (skipped_in lim t p budget) (ok a) (build lim t p budget)
         full a =
@@ -82,8 +81,8 @@ module _ (lim : Limits) (t : Tables) (p : Two) (budget w : ℕ) (graph ts us bes
             let k : n ≡ 12 = (build-refused (P.pairs t) lim.pairs p budget n q).0 in
             rw (q, k) refl
 
-    pub begin-cut : (k : ℕ) → Builds w (skipped_in lim t p budget) (build lim t p budget) graph graph' (G.Cut k) → Begins lim t p budget w graph ts us graph' ts' us' (B.Cut x k)
-    begin-cut k Y = begun (B.Cut x k) (G.Cut k) Y (λ a f. ap (λ (y : ℕ). B.Cut y k) (sym f) ∙ built-cut (skipped_in lim t p budget) k a (build lim t p budget) Y.answer)
+    pub begin-cut : (k : ℕ) → Builds w (skipped_in lim t p budget) (build lim t p budget) graph graph' (Some (G.Cut k)) → Begins lim t p budget w graph ts us graph' ts' us' (B.Cut x k)
+    begin-cut k Y = begun (B.Cut x k) (Some (G.Cut k)) Y (λ a f. ap (λ (y : ℕ). B.Cut y k) (sym f) ∙ built-cut (skipped_in lim t p budget) k a (build lim t p budget) Y.answer)
 
-    pub begin-all : (n : ℕ) (b : Budget) (k : ℕ) → Builds w (skipped_in lim t p budget) (build lim t p budget) graph graph' (G.All n b k) → Begins lim t p budget w graph ts us graph' ts' us' (B.All x n b k)
-    begin-all n b k Y = begun (B.All x n b k) (G.All n b k) Y (λ a f. ap (λ (y : ℕ). B.All y n b k) (sym f) ∙ built-all (skipped_in lim t p budget) k a (build lim t p budget) n b Y.answer)
+    pub begin-all : (n : ℕ) (b : Budget) (k : ℕ) → Builds w (skipped_in lim t p budget) (build lim t p budget) graph graph' (Some (G.All n b k)) → Begins lim t p budget w graph ts us graph' ts' us' (B.All x n b k)
+    begin-all n b k Y = begun (B.All x n b k) (Some (G.All n b k)) Y (λ a f. ap (λ (y : ℕ). B.All y n b k) (sym f) ∙ built-all (skipped_in lim t p budget) k a (build lim t p budget) n b Y.answer)

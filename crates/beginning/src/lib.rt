@@ -12,7 +12,6 @@ ghost use Rattle.beginning.specs.Beginning.{Begins};
 use budget::Budget;
 use graph::Built;
 use image::Image;
-use interning::Entered;
 use numbers::size_u16;
 use prepared::Begun;
 use query::{Limits, Query};
@@ -35,24 +34,13 @@ pub fn begin(
     let r = size_u16(q.right);
     terms::empty(terms);
     let e = best_terms::evaluate_generalize_action(lim, s, im, terms, runs, &mut best, l, r);
-    match e {
-        Entered::Full => {
-            return Begun::Stopped(13);
-        }
-        Entered::Term(root) => {
-            let b = Budget { left: q.budget };
-            let g = graph::build(lim, s, im, l, r, b, graph);
-            match g {
-                Built::Full => {
-                    return Begun::Stopped(12);
-                }
-                Built::Cut(k) => {
-                    return Begun::Cut(root, k);
-                }
-                Built::All(n, c, k) => {
-                    return Begun::All(root, n, c, k);
-                }
-            }
-        }
+    let Some(root) = e else {
+        return Begun::Stopped(13);
+    };
+    let b = Budget { left: q.budget };
+    match graph::build(lim, s, im, l, r, b, graph) {
+        Some(Built::All(n, c, k)) => Begun::All(root, n, c, k),
+        Some(Built::Cut(k)) => Begun::Cut(root, k),
+        None => Begun::Stopped(12),
     }
 }

@@ -1,5 +1,5 @@
 -- What building leaves in the array before it is cleared where it is not built in full.
-use Rattle.std.specs.Prelude.{◌≡◌, List, map, ℕ}
+use Rattle.std.specs.Prelude.{◌≡◌, List, map, ℕ, Option, Some, None}
 use Rattle.spec.specs.Bytes.{sum, Limits, Two, Res, ok, refused, Checked, passed, cut_short}
 use Rattle.spec.specs.Image.{Tables}
 use Rattle.spec.specs.Action.{skipped_at}
@@ -11,7 +11,7 @@ use Rattle.arrays.specs.Arrays.{pairs_in}
 use Rattle.budget.specs.declared.Budget.{Budget}
 use Rattle.entering.specs.Growing.{Graph}
 use Rattle.graph.specs.declared.Built.{Built}
-use Rattle.graph.specs.declared.Built.TheVariants.{All, Cut, Full}
+use Rattle.graph.specs.declared.Built.TheVariants.{All, Cut}
 
 -- All of the graph stands in the array.
 pub record Whole (lim : Limits) (w : ℕ) (g : Res (Checked (List Two))) (n : ℕ) (b : Budget) (graph : List ℕ) : Type 0 where
@@ -23,12 +23,12 @@ abbrev pub skipped_from : Limits → ℕ → Tables → List Two → ℕ → ℕ
 skipped_from lim b t ps i = sum (map (skipped_at t) (turned_from (pairs t) lim.pairs b ps i))
 
 -- What building from the pairs at hand leaves, by its answer, where k monomial pairs are passed over; the array is open where it is not built in full.
-abbrev pub EndsAs : Limits → ℕ → ℕ → Res (Checked (List Two)) → List ℕ → Built → Type 0
-EndsAs lim w k g graph (All n b j) = Whole lim w g n b graph × (j ≡ k)
-EndsAs lim w k g graph (Cut j) = (g ≡ ok cut_short) × (j ≡ k)
-EndsAs lim w k g graph Full = g ≡ refused 12
+abbrev pub EndsAs : Limits → ℕ → ℕ → Res (Checked (List Two)) → List ℕ → Option Built → Type 0
+EndsAs lim w k g graph (Some (All n b j)) = Whole lim w g n b graph × (j ≡ k)
+EndsAs lim w k g graph (Some (Cut j)) = (g ≡ ok cut_short) × (j ≡ k)
+EndsAs lim w k g graph None = g ≡ refused 12
 
-pub record Ends (lim : Limits) (w k : ℕ) (g : Res (Checked (List Two))) (graph : List ℕ) (x : Built) : Type 0 where
+pub record Ends (lim : Limits) (w k : ℕ) (g : Res (Checked (List Two))) (graph : List ℕ) (x : Option Built) : Type 0 where
   pub says : EndsAs lim w k g graph x
 
 -- Every pair is of classes of the image.

@@ -1,5 +1,5 @@
 -- Building: pair after pair, with a check before each one's turn. Assumes nothing.
-use Rattle.std.specs.Prelude.{◌≡◌, true, false, not, ℕ, zero, suc, ◌+◌, ◌*◌, ◌≤◌, ◌<◌, length, get_or, replicate}
+use Rattle.std.specs.Prelude.{◌≡◌, true, false, not, ℕ, zero, suc, ◌+◌, ◌*◌, ◌≤◌, ◌<◌, length, get_or, replicate, Option, Some, None}
 use Rattle.std.proofs.Math.Path.{refl, sym, ap}
 use Rattle.std.proofs.Common.{ap₂, ◌∙◌, add-one, arith}
 use Rattle.std.proofs.Math.Logic.{⊎_elim}
@@ -26,10 +26,8 @@ use Rattle.arrays.specs.ArrayLaws.{unkeyed-length, unkeyed-at}
 use Rattle.budget.specs.declared.Budget.{Budget}
 use Rattle.budget.specs.declared.Spent.{Spent}
 use Rattle.budget.specs.Budget.{spend_at, spend_of}
-use Rattle.entering.specs.declared.Grown as G
-use Rattle.entering.specs.declared.Grown.TheVariants as K
 use Rattle.graph.specs.declared.Built.{Built}
-use Rattle.graph.specs.declared.Built.TheVariants.{All, Cut, Full}
+use Rattle.graph.specs.declared.Built.TheVariants.{All, Cut}
 use Rattle.entering.specs.Entered.{entered, cleared}
 use Rattle.graph.specs.Building.{Builds}
 use Rattle.entering.specs.Growing.{Graph, Going, Grows}
@@ -77,7 +75,7 @@ module _ (lim : Limits) (t : Tables) (w : ℕ) where
     many = unkeyed-length graph (w * w) n
 
     -- no pair is left
-    pub turning-end : (c : Budget) → b ≡ c.left → n ≤ i → Ends lim w k g graph (All n c j)
+    pub turning-end : (c : Budget) → b ≡ c.left → n ≤ i → Ends lim w k g graph (Some (All n c j))
     unfolding sum
     turning-end c e h = record {
       says = (
@@ -91,7 +89,7 @@ module _ (lim : Limits) (t : Tables) (w : ℕ) where
 
     module _ (h : i < n) where
       -- the check is expired
-      pub turning-cut : {graph' : List ℕ} → b ≡ 0 → Ends lim w k g graph' (Cut j)
+      pub turning-cut : {graph' : List ℕ} → b ≡ 0 → Ends lim w k g graph' (Some (Cut j))
       unfolding sum
       turning-cut e = record {
         says = (sym d.leads ∙ build-stop (pairs t) lim.pairs (pairs_in w graph n) b i e (omega (arith, h, many)), omega (arith, d.counted, ap (λ (l : List Two). sum (map (skipped_at t) l)) (turned-stop (pairs t) lim.pairs (pairs_in w graph n) b i e)));
@@ -120,7 +118,7 @@ module _ (lim : Limits) (t : Tables) (w : ℕ) where
               ∙ ap (λ (p : Two). enter_all lim (pairs_in w graph n) (joins t p) >>= λ qs. build_from lim c t qs (suc i)) here-is
               ∙ ap (λ (u : Res (List Two)). u >>= λ qs. build_from lim c t qs (suc i)) q
 
-          pub turning-full : {graph' graph'' : List ℕ} (z : G.Grown) → Grows lim w (enter_all lim (pairs_in w graph n) (joins t (l, r))) graph' z → z ≡ K.Full → Ends lim w k g graph'' Full
+          pub turning-full : {graph' graph'' : List ℕ} (z : Option ℕ) → Grows lim w (enter_all lim (pairs_in w graph n) (joins t (l, r))) graph' z → z ≡ None → Ends lim w k g graph'' None
           turning-full z u q = record { says = after (refused 12) (rw q at u.says) }
 
           -- those of this pair, and of the turns after it
@@ -132,7 +130,7 @@ module _ (lim : Limits) (t : Tables) (w : ℕ) where
               ∙ ap (λ (p : Two). skipped_at t p + sum (map (skipped_at t) (elim (enter_all lim (pairs_in w graph n) (joins t p)) [ ok qs ↦ system.turned_from (pairs t) lim.pairs c qs (suc i) | refused x ↦ [] ]))) here-is
               ∙ ap (λ (y : Res (List Two)). skipped_at t (l, r) + sum (map (skipped_at t) (elim y [ ok qs ↦ system.turned_from (pairs t) lim.pairs c qs (suc i) | refused x ↦ [] ]))) q
 
-          pub turning-on : {m : ℕ} {graph' : List ℕ} (v : Valid t) (s : ℕ) → s ≡ skipped_at t (l, r) → (z : G.Grown) → Grows lim w (enter_all lim (pairs_in w graph n) (joins t (l, r))) graph' z → z ≡ K.To m → Turning lim t w k g c graph' m (j + s) (i + 1)
+          pub turning-on : {m : ℕ} {graph' : List ℕ} (v : Valid t) (s : ℕ) → s ≡ skipped_at t (l, r) → (z : Option ℕ) → Grows lim w (enter_all lim (pairs_in w graph n) (joins t (l, r))) graph' z → z ≡ Some m → Turning lim t w k g c graph' m (j + s) (i + 1)
           unfolding system.enter_all
           turning-on {m} {graph'} v s f z u q = go (rw q at u.says)
             where
@@ -157,7 +155,7 @@ module _ (lim : Limits) (t : Tables) (w l r b : ℕ) (graph : List ℕ) where
     room = room;
   }
 
-  module _ (x : G.Grown) {graph₁ : List ℕ} (u : Grows lim w (enter_all lim (pairs_in w graph 0) ((l, r) ∷ [])) graph₁ x) where
+  module _ (x : Option ℕ) {graph₁ : List ℕ} (u : Grows lim w (enter_all lim (pairs_in w graph 0) ((l, r) ∷ [])) graph₁ x) where
     entered-first : (z : Res (List Two)) → enter_all lim (pairs_in w graph 0) ((l, r) ∷ []) ≡ z → build lim t (l, r) b ≡ (z >>= λ qs. build_from lim b t qs 0)
     unfolding unkeyed system.enter_all system.build
     entered-first z q = go (enter lim [] (l, r)) ∙ ap (λ (y : Res (List Two)). y >>= λ qs. build_from lim b t qs 0) q
@@ -175,10 +173,10 @@ module _ (lim : Limits) (t : Tables) (w l r b : ℕ) (graph : List ℕ) where
         go (ok qs) = refl
         go (refused n) = refl
 
-    pub first-full : {graph'' : List ℕ} → x ≡ K.Full → Ends lim w (skipped_in lim t (l, r) b) (build lim t (l, r) b) graph'' Full
+    pub first-full : {graph'' : List ℕ} → x ≡ None → Ends lim w (skipped_in lim t (l, r) b) (build lim t (l, r) b) graph'' None
     first-full q = record { says = entered-first (refused 12) (rw q at u.says) }
 
-    module _ (n : ℕ) (q : x ≡ K.To n) where
+    module _ (n : ℕ) (q : x ≡ Some n) where
       first-leads : Going lim w (enter_all lim (pairs_in w graph 0) ((l, r) ∷ [])) [] n graph₁
       first-leads = rw q at u.says
 
@@ -193,26 +191,26 @@ module _ (lim : Limits) (t : Tables) (w l r b : ℕ) (graph : List ℕ) where
       unfolding unkeyed
       first-pairs h p i = entered_only lim t (pairs_in w graph 0) ((l, r) ∷ []) (pairs_in w graph₁ n) first-is p i (IsPair t) (λ y j. absurd (in-nil j)) (λ y j. ⊎_elim (λ e. rw e h) (λ k. absurd (in-nil k)) (in-cons j))
 
-      pub first_on : {graph'' : List ℕ} (y : Built) → Ends lim w (skipped_from lim b t (pairs_in w graph₁ n) 0) (build_from lim b t (pairs_in w graph₁ n) 0) graph'' y → Ends lim w (skipped_in lim t (l, r) b) (build lim t (l, r) b) graph'' y
+      pub first_on : {graph'' : List ℕ} (y : Option Built) → Ends lim w (skipped_from lim b t (pairs_in w graph₁ n) 0) (build_from lim b t (pairs_in w graph₁ n) 0) graph'' y → Ends lim w (skipped_in lim t (l, r) b) (build lim t (l, r) b) graph'' y
       first_on {graph''} y d =
           let e : build lim t (l, r) b ≡ build_from lim b t (pairs_in w graph₁ n) 0 = entered-first (ok (pairs_in w graph₁ n)) first-is in
           let k : skipped_in lim t (l, r) b ≡ skipped_from lim b t (pairs_in w graph₁ n) 0 = counted-first (ok (pairs_in w graph₁ n)) first-is in
           rw (e, k) d
 
 -- ---- the cleared or full array
-module _ (lim : Limits) (w : ℕ) {k : ℕ} {g : Res (Checked (List Two))} (graph : List ℕ) {graph' : List ℕ} (x : Built) (d : Ends lim w k g graph' x) where
-  pub finish-all : (n : ℕ) (c : Budget) (j : ℕ) → x ≡ All n c j → length graph' ≡ length graph → Builds w k g graph graph' (All n c j)
+module _ (lim : Limits) (w : ℕ) {k : ℕ} {g : Res (Checked (List Two))} (graph : List ℕ) {graph' : List ℕ} (x : Option Built) (d : Ends lim w k g graph' x) where
+  pub finish-all : (n : ℕ) (c : Budget) (j : ℕ) → x ≡ Some (All n c j) → length graph' ≡ length graph → Builds w k g graph graph' (Some (All n c j))
   finish-all n c j e size = go (rw e at d.says)
     where
-      go : Whole lim w g n c graph' × (j ≡ k) → Builds w k g graph graph' (All n c j)
+      go : Whole lim w g n c graph' × (j ≡ k) → Builds w k g graph graph' (Some (All n c j))
       go (u, q) = rw (u.leads, q) (record {
-        answer = ap (λ (m : ℕ). All m c k) (sym (unkeyed-length graph' (w * w) n));
+        answer = ap (λ (m : ℕ). Some (All m c k)) (sym (unkeyed-length graph' (w * w) n));
         graph = u.holds.keys.laid ∙ ap (λ (m : ℕ). entered w 0 (pairs_in w graph' n) (replicate m 0)) size;
       })
 
   module _ {graph'' : List ℕ} (f : graph'' ≡ cleared graph) where
-    pub finish-cut : (j : ℕ) → x ≡ Cut j → Builds w k g graph graph'' (Cut j)
+    pub finish-cut : (j : ℕ) → x ≡ Some (Cut j) → Builds w k g graph graph'' (Some (Cut j))
     finish-cut j e = let (z, q) : (g ≡ ok cut_short) × (j ≡ k) = rw e at d.says in rw (z, q) (record { answer = refl; graph = f })
 
-    pub finish-full : x ≡ Full → Builds w k g graph graph'' Full
+    pub finish-full : x ≡ None → Builds w k g graph graph'' None
     finish-full e = let z : g ≡ refused 12 = rw e at d.says in rw z (record { answer = refl; graph = f })

@@ -25,7 +25,7 @@ use actions::{State, count, left_class, right_class};
 use arrays::{left_at, right_at};
 use budget::Budget;
 use clearing::clear_u16;
-use entering::{Grown, enter_pair};
+use entering::enter_pair;
 use enumeration::{seek, start};
 use image::Image;
 use monomial_terms::class_at;
@@ -33,17 +33,23 @@ use numbers::size_u64;
 use query::Limits;
 use skipped::{is_large, skipped_at};
 
-// Built in full: how many pairs, and the budget left; cut short; both with the number of monomial pairs passed over; refusal 12.
+// Built in full: how many pairs, and the budget left; or cut short; both with the number of monomial pairs passed over.
 #[derive(Clone, Copy)]
 pub enum Built {
     All(usize, Budget, u64),
     Cut(u64),
-    Full,
 }
 
 // ---- structural actions
-// The pairs that the action at v joins.
-fn enter_action(lim: Limits, s: &[u8], im: Image, v: State, graph: &mut [u16], n0: usize) -> Grown
+// The pairs that the action at v joins. Here and below: how many there are now; None: refusal 12.
+fn enter_action(
+    lim: Limits,
+    s: &[u8],
+    im: Image,
+    v: State,
+    graph: &mut [u16],
+    n0: usize,
+) -> Option<usize>
     requires { Loaded s.now im × Valid (tables_of s.now) × Stands (tables_of s.now) v × Graph (limits_of lim) im.classes n0 graph.old × AllSmall im.classes (action_at (tables_of s.now) v).pairs }
     ensures { Grows (limits_of lim) im.classes (enter_all (limits_of lim) (pairs_in im.classes graph.old n0) (action_at (tables_of s.now) v).pairs) graph.new result }
 {
@@ -52,16 +58,9 @@ fn enter_action(lim: Limits, s: &[u8], im: Image, v: State, graph: &mut [u16], n
     for k in 0..many {
         let l = left_class(s, im, v, k);
         let r = right_class(s, im, v, k);
-        match enter_pair(lim, im.classes, graph, n, l, r) {
-            Grown::Full => {
-                return Grown::Full;
-            }
-            Grown::To(m) => {
-                n = m;
-            }
-        }
+        n = enter_pair(lim, im.classes, graph, n, l, r)?;
     }
-    Grown::To(n)
+    Some(n)
 }
 
 // The pairs that the structural actions of classes l and r join.
@@ -73,30 +72,17 @@ fn enter_actions(
     r: usize,
     graph: &mut [u16],
     n0: usize,
-) -> Grown
+) -> Option<usize>
     requires { Loaded s.now im × Valid (tables_of s.now) × (l < im.classes) × (r < im.classes) × Graph (limits_of lim) im.classes n0 graph.old }
     ensures { Grows (limits_of lim) im.classes (enter_all (limits_of lim) (pairs_in im.classes graph.old n0) (each (λ a. a.pairs) (structural (tables_of s.now) l r))) graph.new result }
 {
     let mut n = n0;
     let mut v = start(s, im, l, r);
-    loop {
-        match seek(s, im, l, r, v) {
-            None => {
-                return Grown::To(n);
-            }
-            Some(w) => {
-                match enter_action(lim, s, im, w, graph, n) {
-                    Grown::Full => {
-                        return Grown::Full;
-                    }
-                    Grown::To(m) => {
-                        n = m;
-                    }
-                }
-                v = w.after();
-            }
-        }
+    while let Some(w) = seek(s, im, l, r, v) {
+        n = enter_action(lim, s, im, w, graph, n)?;
+        v = w.after();
     }
+    Some(n)
 }
 
 // ---- transports: "each row with each column whatever the plan"
@@ -109,23 +95,16 @@ fn enter_row(
     cols: usize,
     graph: &mut [u16],
     n0: usize,
-) -> Grown
+) -> Option<usize>
     requires { (length right.now ≡ NUMBERS) × (cols ≤ TERMS) × Graph (limits_of lim) w n0 graph.old × AllSmall w (map (λ b. (l, b)) (classes (held cols right.now))) }
     ensures { Grows (limits_of lim) w (enter_all (limits_of lim) (pairs_in w graph.old n0) (map (λ b. (l, b)) (classes (held cols right.now)))) graph.new result }
 {
     let mut n = n0;
     for j in 0..cols {
         let r = size_u64(class_at(right, j));
-        match enter_pair(lim, w, graph, n, l, r) {
-            Grown::Full => {
-                return Grown::Full;
-            }
-            Grown::To(m) => {
-                n = m;
-            }
-        }
+        n = enter_pair(lim, w, graph, n, l, r)?;
     }
-    Grown::To(n)
+    Some(n)
 }
 
 // The class of each row with the class of each column.
@@ -138,23 +117,16 @@ fn enter_cells(
     cols: usize,
     graph: &mut [u16],
     n0: usize,
-) -> Grown
+) -> Option<usize>
     requires { (length left.now ≡ NUMBERS) × (rows ≤ TERMS) × (length right.now ≡ NUMBERS) × (cols ≤ TERMS) × Graph (limits_of lim) w n0 graph.old × AllSmall w (cell_pairs (pair_of (held rows left.now) (held cols right.now))) }
     ensures { Grows (limits_of lim) w (enter_all (limits_of lim) (pairs_in w graph.old n0) (cell_pairs (pair_of (held rows left.now) (held cols right.now)))) graph.new result }
 {
     let mut n = n0;
     for i in 0..rows {
         let l = size_u64(class_at(left, i));
-        match enter_row(lim, w, l, right, cols, graph, n) {
-            Grown::Full => {
-                return Grown::Full;
-            }
-            Grown::To(m) => {
-                n = m;
-            }
-        }
+        n = enter_row(lim, w, l, right, cols, graph, n)?;
     }
-    Grown::To(n)
+    Some(n)
 }
 
 // The pairs that the transport at w joins, if there is one.
@@ -167,14 +139,14 @@ fn enter_transport(
     w: Walk,
     graph: &mut [u16],
     n: usize,
-) -> Grown
+) -> Option<usize>
     requires { Loaded s.now im × Valid (tables_of s.now) × (l < im.classes) × (r < im.classes) × (w.op < im.operations) × Graph (limits_of lim) im.classes n graph.old × AllSmall im.classes (each (λ a. cell_pairs a.sides) (actions_at (tables_of s.now) l r w)) }
     ensures { Grows (limits_of lim) im.classes (enter_all (limits_of lim) (pairs_in im.classes graph.old n) (each (λ a. cell_pairs a.sides) (actions_at (tables_of s.now) l r w))) graph.new result }
 {
     let mut left = [0u64; monomial_terms::NUMBERS];
     let mut right = [0u64; monomial_terms::NUMBERS];
     match monomials(s, im, l, r, w, &mut left, &mut right) {
-        None => Grown::To(n),
+        None => Some(n),
         Some((rows, cols)) => enter_cells(lim, im.classes, &left, rows, &right, cols, graph, n),
     }
 }
@@ -188,30 +160,17 @@ fn enter_transports(
     r: usize,
     graph: &mut [u16],
     n0: usize,
-) -> Grown
+) -> Option<usize>
     requires { Loaded s.now im × Valid (tables_of s.now) × (l < im.classes) × (r < im.classes) × Graph (limits_of lim) im.classes n0 graph.old }
     ensures { Grows (limits_of lim) im.classes (enter_all (limits_of lim) (pairs_in im.classes graph.old n0) (each (λ a. cell_pairs a.sides) (transports (tables_of s.now) l r))) graph.new result }
 {
     let mut n = n0;
     let mut x = first(s, im, l, r);
-    loop {
-        match x {
-            None => {
-                return Grown::To(n);
-            }
-            Some(w) => {
-                match enter_transport(lim, s, im, l, r, w, graph, n) {
-                    Grown::Full => {
-                        return Grown::Full;
-                    }
-                    Grown::To(m) => {
-                        n = m;
-                    }
-                }
-                x = next(s, im, l, r, w);
-            }
-        }
+    while let Some(w) = x {
+        n = enter_transport(lim, s, im, l, r, w, graph, n)?;
+        x = next(s, im, l, r, w);
     }
+    Some(n)
 }
 
 // ---- the graph
@@ -224,14 +183,12 @@ fn enter_joins(
     r: usize,
     graph: &mut [u16],
     n: usize,
-) -> Grown
+) -> Option<usize>
     requires { Loaded s.now im × Valid (tables_of s.now) × (l < im.classes) × (r < im.classes) × Graph (limits_of lim) im.classes n graph.old }
     ensures { Grows (limits_of lim) im.classes (enter_all (limits_of lim) (pairs_in im.classes graph.old n) (joins (tables_of s.now) (l, r))) graph.new result }
 {
-    match enter_actions(lim, s, im, l, r, graph, n) {
-        Grown::Full => Grown::Full,
-        Grown::To(m) => enter_transports(lim, s, im, l, r, graph, m),
-    }
+    let m = enter_actions(lim, s, im, l, r, graph, n)?;
+    enter_transports(lim, s, im, l, r, graph, m)
 }
 
 // "the number of monomial pairs passed over" of classes l and r; none where the image's counts are not large.
@@ -254,7 +211,7 @@ fn build_from(
     budget: Budget,
     graph: &mut [u16],
     n0: usize,
-) -> Built
+) -> Option<Built>
     requires { Loaded s.now im × Valid (tables_of s.now) × Graph (limits_of lim) im.classes n0 graph.old × AllPairs (tables_of s.now) (pairs_in im.classes graph.old n0) × (large ≡ counts.large (tables_of s.now)) }
     ensures { Ends (limits_of lim) im.classes (skipped_from (limits_of lim) budget.left (tables_of s.now) (pairs_in im.classes graph.old n0) 0) (build_from (limits_of lim) budget.left (tables_of s.now) (pairs_in im.classes graph.old n0) 0) graph.new result }
 {
@@ -266,22 +223,15 @@ fn build_from(
         let check = b.spend();
         b = check.budget;
         if !check.passed {
-            return Built::Cut(skipped);
+            return Some(Built::Cut(skipped));
         }
         let l = left_at(graph, im.classes, i);
         let r = right_at(graph, im.classes, i);
         skipped += passed_over(s, im, large, l, r);
-        match enter_joins(lim, s, im, l, r, graph, n) {
-            Grown::Full => {
-                return Built::Full;
-            }
-            Grown::To(m) => {
-                n = m;
-            }
-        }
+        n = enter_joins(lim, s, im, l, r, graph, n)?;
         i += 1;
     }
-    Built::All(n, b, skipped)
+    Some(Built::All(n, b, skipped))
 }
 
 // From the queried pair on, in a cleared array.
@@ -293,21 +243,17 @@ fn build_first(
     r: usize,
     budget: Budget,
     graph: &mut [u16],
-) -> Built
+) -> Option<Built>
     requires { Loaded s.now im × Valid (tables_of s.now) × (l < im.classes) × (r < im.classes) × (im.classes * im.classes + lim.pairs ≤ length graph.old) × (lim.pairs ≤ 4096) × (graph.old ≡ replicate (length graph.old) 0) }
     ensures { Ends (limits_of lim) im.classes (skipped_in (limits_of lim) (tables_of s.now) (l, r) budget.left) (build (limits_of lim) (tables_of s.now) (l, r) budget.left) graph.new result }
 {
-    match enter_pair(lim, im.classes, graph, 0, l, r) {
-        Grown::Full => Built::Full,
-        Grown::To(n) => {
-            let large = is_large(s, im);
-            build_from(lim, s, im, large, budget, graph, n)
-        }
-    }
+    let n = enter_pair(lim, im.classes, graph, 0, l, r)?;
+    let large = is_large(s, im);
+    build_from(lim, s, im, large, budget, graph, n)
 }
 
 // "Built in full, it holds the queried pair (left class, right class) and, with each pair, every pair of classes that an action of it joins."
-// Cut short or refused, the array is cleared.
+// None: refusal 12. Cut short or refused, the array is cleared.
 pub fn build(
     lim: Limits,
     s: &[u8],
@@ -316,20 +262,20 @@ pub fn build(
     r: usize,
     budget: Budget,
     graph: &mut [u16],
-) -> Built
+) -> Option<Built>
     requires { Loaded s.now im × Valid (tables_of s.now) × (l < im.classes) × (r < im.classes) × (im.classes * im.classes + lim.pairs ≤ length graph.old) × (lim.pairs ≤ 4096) }
     ensures { Builds im.classes (skipped_in (limits_of lim) (tables_of s.now) (l, r) budget.left) (build (limits_of lim) (tables_of s.now) (l, r) budget.left) graph.old graph.new result }
 {
     clear_u16(graph);
     match build_first(lim, s, im, l, r, budget, graph) {
-        Built::All(n, b, k) => Built::All(n, b, k),
-        Built::Cut(k) => {
+        Some(Built::All(n, b, k)) => Some(Built::All(n, b, k)),
+        Some(Built::Cut(k)) => {
             clear_u16(graph);
-            Built::Cut(k)
+            Some(Built::Cut(k))
         }
-        Built::Full => {
+        None => {
             clear_u16(graph);
-            Built::Full
+            None
         }
     }
 }

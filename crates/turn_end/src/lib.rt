@@ -15,7 +15,6 @@ ghost use Rattle.turn_end.specs.Taking.{changed_by, Takes};
 ghost use Rattle.turn_term.specs.Agreeing.{Agrees};
 
 use image::Image;
-use interning::Entered;
 use numbers::short_u64;
 use quality::{Best, How};
 use query::Limits;
@@ -41,14 +40,7 @@ pub struct Turned {
     pub changed: bool,
 }
 
-// What a turn gives; or refusal 13
-#[derive(Clone, Copy)]
-pub enum Taken {
-    To(Turned),
-    Full,
-}
-
-// The turn ended with what it found best: the pair's quality, its final term, and whether an action was chosen.
+// The turn ended with what it found best: the pair's quality, its final term, and whether an action was chosen; None: refusal 13.
 pub fn end_turn(
     lim: Limits,
     s: &[u8],
@@ -61,21 +53,18 @@ pub fn end_turn(
     list: &mut [u64],
     terms: &mut [u32],
     runs: &mut [u64],
-) -> Taken
+) -> Option<Turned>
     requires { Loaded s.now im × Valid (tables_of s.now) × (l < im.classes) × (r < im.classes) × Known im.classes graph.now pairs.now × TermsBelow im.classes graph.now pairs.now (count_in terms.old) × (64 ≤ length list.old) × Holds terms.old runs.old × Rooms (limits_of lim) terms.old runs.old
         × Agrees lim.pairs (tables_of s.now) (term_in im.classes graph.now pairs.now) list.old best (round.turn_of (tables_of s.now) (quality_in im.classes graph.now pairs.now) (l, r)) × (best.size < 2 ^ 32) × (best.mass < 2 ^ 32) }
     ensures { Takes (limits_of lim) (tables_of s.now) (quality_in im.classes graph.now pairs.now) (term_in im.classes graph.now pairs.now) (l, r) terms.old runs.old terms.new runs.new result
         × (list.new ≡ term_list (tables_of s.now) (term_in im.classes graph.now pairs.now) terms.old runs.old (round.turn_of (tables_of s.now) (quality_in im.classes graph.now pairs.now) (l, r)).choice list.old) }
 {
     let how = best.how;
-    let e = turn_term(lim, s, im, graph, pairs, l, r, how, list, terms, runs);
-    match e {
-        Entered::Full => Taken::Full,
-        Entered::Term(k) => Taken::To(Turned {
-            size: short_u64(best.size),
-            mass: short_u64(best.mass),
-            term: k,
-            changed: changed(how),
-        }),
-    }
+    let term = turn_term(lim, s, im, graph, pairs, l, r, how, list, terms, runs)?;
+    Some(Turned {
+        size: short_u64(best.size),
+        mass: short_u64(best.mass),
+        term,
+        changed: changed(how),
+    })
 }

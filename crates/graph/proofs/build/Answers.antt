@@ -11,16 +11,16 @@ build_first-requires c =
     let k = c.clear_u16.auto.s in
     (c.requires.0, c.requires.1, c.requires.2, c.requires.3, omega (arith, c.requires.4, k), c.requires.5, c.clear_u16.ensures ∙ ap (λ (n : ℕ). replicate n 0) (sym k))
 
-pub returns-in-All : goal.returns-in-All
-returns-in-All c =
-    finish-all (limits_of c.args.lim) c.args.im.classes c.args.graph.now c.build_first.result c.build_first.ensures c.in-All.n c.in-All.b c.in-All.k c.in-All.is (omega (arith, c.build_first.auto, c.clear_u16.auto))
+pub returns-in-Some-All : goal.returns-in-Some-All
+returns-in-Some-All c =
+    finish-all (limits_of c.args.lim) c.args.im.classes c.args.graph.now c.build_first.result c.build_first.ensures c.in-Some-All.n c.in-Some-All.b c.in-Some-All.k (rw c.in-Some-All.field-0-is at c.in-Some-All.is) (omega (arith, c.build_first.auto, c.clear_u16.auto))
 
-pub returns-in-Cut : goal.returns-in-Cut
-returns-in-Cut c =
+pub returns-in-Some-Cut : goal.returns-in-Some-Cut
+returns-in-Some-Cut c =
     let k : length c.build_first.new.graph ≡ length c.args.graph.now = omega (arith, c.build_first.auto, c.clear_u16.auto) in
-    finish-cut (limits_of c.args.lim) c.args.im.classes c.args.graph.now c.build_first.result c.build_first.ensures (c.clear_u16-in-Cut.ensures ∙ ap (λ (n : ℕ). replicate n 0) k) c.in-Cut.k c.in-Cut.is
+    finish-cut (limits_of c.args.lim) c.args.im.classes c.args.graph.now c.build_first.result c.build_first.ensures (c.clear_u16-in-Some-Cut.ensures ∙ ap (λ (n : ℕ). replicate n 0) k) c.in-Some-Cut.k (rw c.in-Some-Cut.field-0-is at c.in-Some-Cut.is)
 
-pub returns-in-Full : goal.returns-in-Full
-returns-in-Full c =
+pub returns-in-None : goal.returns-in-None
+returns-in-None c =
     let k : length c.build_first.new.graph ≡ length c.args.graph.now = omega (arith, c.build_first.auto, c.clear_u16.auto) in
-    finish-full (limits_of c.args.lim) c.args.im.classes c.args.graph.now c.build_first.result c.build_first.ensures (c.clear_u16-in-Full.ensures ∙ ap (λ (n : ℕ). replicate n 0) k) c.in-Full.is
+    finish-full (limits_of c.args.lim) c.args.im.classes c.args.graph.now c.build_first.result c.build_first.ensures (c.clear_u16-in-None.ensures ∙ ap (λ (n : ℕ). replicate n 0) k) c.in-None.is

@@ -21,12 +21,12 @@ build_from-requires c =
     let many = classes-many c.args.s.now c.args.im c.requires.0 in
     let hl : c.args.l < length t.classes = omega (arith, c.requires.2, many) in
     let hr : c.args.r < length t.classes = omega (arith, c.requires.3, many) in
-    (c.requires.0, c.requires.1, first-graph (limits_of c.args.lim) t c.args.im.classes c.args.l c.args.r c.args.budget.left c.args.graph.now c.enter_pair.result c.enter_pair.ensures.grows c.in-To.n c.in-To.is, first-pairs (limits_of c.args.lim) t c.args.im.classes c.args.l c.args.r c.args.budget.left c.args.graph.now c.enter_pair.result c.enter_pair.ensures.grows c.in-To.n c.in-To.is (hl, hr), c.is_large-large.ensures)
+    (c.requires.0, c.requires.1, first-graph (limits_of c.args.lim) t c.args.im.classes c.args.l c.args.r c.args.budget.left c.args.graph.now c.enter_pair.result c.enter_pair.ensures.grows c.in_ok-n.n c.in_ok-n.was, first-pairs (limits_of c.args.lim) t c.args.im.classes c.args.l c.args.r c.args.budget.left c.args.graph.now c.enter_pair.result c.enter_pair.ensures.grows c.in_ok-n.n c.in_ok-n.was (hl, hr), c.is_large-large.ensures)
 
-pub returns-in-Full : goal.returns-in-Full
-returns-in-Full c =
-    first-full (limits_of c.args.lim) (tables_of c.args.s.now) c.args.im.classes c.args.l c.args.r c.args.budget.left c.args.graph.now c.enter_pair.result c.enter_pair.ensures.grows c.in-Full.is
+pub returns-in_err-n : goal.returns-in_err-n
+returns-in_err-n c =
+    rw c.from_residual.ensures (first-full (limits_of c.args.lim) (tables_of c.args.s.now) c.args.im.classes c.args.l c.args.r c.args.budget.left c.args.graph.now c.enter_pair.result c.enter_pair.ensures.grows c.in_err-n.was)
 
-pub returns-in-To : goal.returns-in-To
-returns-in-To c =
-    first_on (limits_of c.args.lim) (tables_of c.args.s.now) c.args.im.classes c.args.l c.args.r c.args.budget.left c.args.graph.now c.enter_pair.result c.enter_pair.ensures.grows c.in-To.n c.in-To.is c.build_from.result c.build_from.ensures
+pub returns : goal.returns
+returns c =
+    first_on (limits_of c.args.lim) (tables_of c.args.s.now) c.args.im.classes c.args.l c.args.r c.args.budget.left c.args.graph.now c.enter_pair.result c.enter_pair.ensures.grows c.in_ok-n.n c.in_ok-n.was c.build_from.result c.build_from.ensures

@@ -45,9 +45,9 @@ enter_joins-requires c =
     let p = turning-pair (limits_of c.args.lim) (tables_of c.args.s.now) c.args.im.classes d c.loop-i-test.true c.left_at-l.result c.right_at-r.result c.left_at-l.ensures.0 c.right_at-r.ensures.0 in
     (c.requires.0, c.requires.1, omega (arith, p.0, many), omega (arith, p.1, many), d.holds)
 
-pub returns-in-Full : goal.returns-in-Full
-returns-in-Full c =
-    turning-full (limits_of c.args.lim) (tables_of c.args.s.now) c.args.im.classes c.loop-i.invariant.0 c.loop-i-test.true c.left_at-l.result c.right_at-r.result c.left_at-l.ensures.0 c.right_at-r.ensures.0 c.spend-check.result.budget.left (check-one c.loop-i.b c.spend-check.result c.spend-check.ensures c.if-not-check.false) c.enter_joins.result c.enter_joins.ensures c.in-Full.is
+pub returns-in_err-n : goal.returns-in_err-n
+returns-in_err-n c =
+    rw c.from_residual.ensures (turning-full (limits_of c.args.lim) (tables_of c.args.s.now) c.args.im.classes c.loop-i.invariant.0 c.loop-i-test.true c.left_at-l.result c.right_at-r.result c.left_at-l.ensures.0 c.right_at-r.ensures.0 c.spend-check.result.budget.left (check-one c.loop-i.b c.spend-check.result c.spend-check.ensures c.if-not-check.false) c.enter_joins.result c.enter_joins.ensures c.in_err-n.was)
 
 pub overflow_add-i : goal.overflow_add-i
 overflow_add-i c =
@@ -61,7 +61,7 @@ loop-i-smaller c =
 
 pub loop-i-preserved : goal.loop-i-preserved
 loop-i-preserved c =
-    (turning-on (limits_of c.args.lim) (tables_of c.args.s.now) c.args.im.classes c.loop-i.invariant.0 c.loop-i-test.true c.left_at-l.result c.right_at-r.result c.left_at-l.ensures.0 c.right_at-r.ensures.0 c.spend-check.result.budget.left (check-one c.loop-i.b c.spend-check.result c.spend-check.ensures c.if-not-check.false) c.requires.1 c.passed_over-skipped.result c.passed_over-skipped.ensures c.enter_joins.result c.enter_joins.ensures c.in-To.is, omega (arith, c.loop-i.invariant.1, c.enter_joins.auto))
+    (turning-on (limits_of c.args.lim) (tables_of c.args.s.now) c.args.im.classes c.loop-i.invariant.0 c.loop-i-test.true c.left_at-l.result c.right_at-r.result c.left_at-l.ensures.0 c.right_at-r.ensures.0 c.spend-check.result.budget.left (check-one c.loop-i.b c.spend-check.result c.spend-check.ensures c.if-not-check.false) c.requires.1 c.passed_over-skipped.result c.passed_over-skipped.ensures c.enter_joins.result c.enter_joins.ensures c.in_ok-n.was, omega (arith, c.loop-i.invariant.1, c.enter_joins.auto))
 
 pub returns : goal.returns
 returns c =

@@ -34,14 +34,14 @@ enter_pair-requires c =
     let h : k < length ps = omega (arith, c.count-many.ensures.0, c.loop-k-test.true) in
     (d.holds, going-small d ((l, r) ∷ []) (drop (k + 1) ps) (pair-next ps k l r h c.left_class-l.ensures.0 c.right_class-r.ensures.0) (l, r) here)
 
-pub returns-in-Full : goal.returns-in-Full
-returns-in-Full c =
+pub returns-in_err-n : goal.returns-in_err-n
+returns-in_err-n c =
     let ps = (action_at (tables_of c.args.s.now) c.args.v).pairs in
     let k = c.loop-k.k in
     let l = c.left_class-l.result in
     let r = c.right_class-r.result in
     let h : k < length ps = omega (arith, c.count-many.ensures.0, c.loop-k-test.true) in
-    going-full c.loop-k.invariant.1 ((l, r) ∷ []) (drop (k + 1) ps) (pair-next ps k l r h c.left_class-l.ensures.0 c.right_class-r.ensures.0) c.enter_pair.result c.enter_pair.ensures.grows c.in-Full.is
+    rw c.from_residual.ensures (going-full c.loop-k.invariant.1 ((l, r) ∷ []) (drop (k + 1) ps) (pair-next ps k l r h c.left_class-l.ensures.0 c.right_class-r.ensures.0) c.enter_pair.result c.enter_pair.ensures.grows c.in_err-n.was)
 
 pub loop-k-preserved : goal.loop-k-preserved
 loop-k-preserved c =
@@ -50,7 +50,7 @@ loop-k-preserved c =
     let l = c.left_class-l.result in
     let r = c.right_class-r.result in
     let h : k < length ps = omega (arith, c.count-many.ensures.0, c.loop-k-test.true) in
-    (omega (arith, c.loop-k-test.true), going_on c.loop-k.invariant.1 ((l, r) ∷ []) (drop (k + 1) ps) (pair-next ps k l r h c.left_class-l.ensures.0 c.right_class-r.ensures.0) c.enter_pair.result c.enter_pair.ensures.grows c.in-To.is, omega (arith, c.loop-k.invariant.2, c.enter_pair.auto))
+    (omega (arith, c.loop-k-test.true), going_on c.loop-k.invariant.1 ((l, r) ∷ []) (drop (k + 1) ps) (pair-next ps k l r h c.left_class-l.ensures.0 c.right_class-r.ensures.0) c.enter_pair.result c.enter_pair.ensures.grows c.in_ok-n.was, omega (arith, c.loop-k.invariant.2, c.enter_pair.auto))
 
 pub returns : goal.returns
 returns c =

@@ -1,4 +1,4 @@
-use Prim.Native.Nat.{◌-◌, ◌≤◌}
+use Prim.Native.Nat.{◌≤◌}
 use Rattle.actions.specs.Place.{action_at}
 use Rattle.arrays.specs.Arrays.{pairs_in}
 use Rattle.entering.specs.Growing.{Going}
@@ -11,6 +11,3 @@ use Rattle.graph.proofs.enter_action.Given as goal
 
 abbrev pub invariant-loop-k : goal.invariant-loop-k
 invariant-loop-k l = (l.k ≤ l.many) × Going (limits_of l.lim) l.im.classes (enter_all (limits_of l.lim) (pairs_in l.im.classes l.initial.graph l.n0) (action_at (tables_of l.s) l.v).pairs) (drop l.k (action_at (tables_of l.s) l.v).pairs) l.n l.graph × (length l.graph ≡ length l.initial.graph)
-
-abbrev pub decreases-loop-k : goal.decreases-loop-k
-decreases-loop-k l = l.many - l.k

@@ -20,9 +20,9 @@ loop-w-init c =
     let d = going_start (pairs_of (structural t l r)) c.requires.4 (structural-small t c.requires.1 l r (omega (arith, c.requires.2, many)) (omega (arith, c.requires.3, many)) c.args.im.classes many) in
     (going-same d (pairs_of (list_from t l r c.start-v.result)) (ap pairs_of (sym (start-list c.requires.0 c.requires.1 c.requires.2 c.requires.3 c.start-v.ensures))), refl)
 
-pub returns-in-None : goal.returns-in-None
-returns-in-None c =
-    going_end c.loop-w.invariant.0 (actions-end c.requires.0 c.requires.1 c.requires.2 c.requires.3 c.loop-w.v c.seek.ensures c.in-None.is)
+pub returns : goal.returns
+returns c =
+    going_end c.loop-w.invariant.0 (actions-end c.requires.0 c.requires.1 c.requires.2 c.requires.3 c.loop-w.v c.seek.ensures c.in_default.is)
 
 pub enter_action-requires : goal.enter_action-requires
 enter_action-requires c =
@@ -32,11 +32,11 @@ enter_action-requires c =
     let w = c.in-Some.w in
     (c.requires.0, c.requires.1, found-stands c.requires.0 c.requires.1 c.requires.2 c.requires.3 v c.seek.ensures w c.in-Some.is, d.holds, going-small d (action_at t w).pairs (pairs_of (list_from t c.args.l c.args.r (after_of w))) (actions-next c.requires.0 c.requires.1 c.requires.2 c.requires.3 v c.seek.ensures w c.in-Some.is))
 
-pub returns-in-Full : goal.returns-in-Full
-returns-in-Full c =
+pub returns-in_err-n : goal.returns-in_err-n
+returns-in_err-n c =
     let t = tables_of c.args.s.now in
     let w = c.in-Some.w in
-    going-full c.loop-w.invariant.0 (action_at t w).pairs (pairs_of (list_from t c.args.l c.args.r (after_of w))) (actions-next c.requires.0 c.requires.1 c.requires.2 c.requires.3 c.loop-w.v c.seek.ensures w c.in-Some.is) c.enter_action.result c.enter_action.ensures c.in-Full.is
+    rw c.from_residual.ensures (going-full c.loop-w.invariant.0 (action_at t w).pairs (pairs_of (list_from t c.args.l c.args.r (after_of w))) (actions-next c.requires.0 c.requires.1 c.requires.2 c.requires.3 c.loop-w.v c.seek.ensures w c.in-Some.is) c.enter_action.result c.enter_action.ensures c.in_err-n.was)
 
 pub after-v-requires : goal.after-v-requires
 after-v-requires c =
@@ -52,5 +52,5 @@ loop-w-preserved c =
     let l = c.args.l in
     let r = c.args.r in
     let w = c.in-Some.w in
-    let d = going_on c.loop-w.invariant.0 (action_at t w).pairs (pairs_of (list_from t l r (after_of w))) (actions-next c.requires.0 c.requires.1 c.requires.2 c.requires.3 c.loop-w.v c.seek.ensures w c.in-Some.is) c.enter_action.result c.enter_action.ensures c.in-To.is in
+    let d = going_on c.loop-w.invariant.0 (action_at t w).pairs (pairs_of (list_from t l r (after_of w))) (actions-next c.requires.0 c.requires.1 c.requires.2 c.requires.3 c.loop-w.v c.seek.ensures w c.in-Some.is) c.enter_action.result c.enter_action.ensures c.in_ok-n.was in
     (going-same d (pairs_of (list_from t l r c.after-v.result)) (ap (λ (x : State). pairs_of (list_from t l r x)) (sym c.after-v.ensures)), omega (arith, c.loop-w.invariant.1, c.enter_action.auto))

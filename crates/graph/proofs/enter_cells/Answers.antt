@@ -30,15 +30,15 @@ enter_row-requires c =
     let d = c.loop-i.invariant.1 in
     (c.requires.2, c.requires.3, d.holds, going-small d (row_from l cols rs 0) (cells_from rows ls cols rs (i + 1)) (cells-next rows ls cols rs c.requires.0 c.requires.1 i l c.class_at.result c.loop-i-test.true c.size_u64-l.ensures c.class_at.ensures))
 
-pub returns-in-Full : goal.returns-in-Full
-returns-in-Full c =
+pub returns-in_err-n : goal.returns-in_err-n
+returns-in_err-n c =
     let rows = c.args.rows in
     let ls = c.args.left.now in
     let cols = c.args.cols in
     let rs = c.args.right.now in
     let i = c.loop-i.i in
     let l = c.size_u64-l.result in
-    going-full c.loop-i.invariant.1 (row_from l cols rs 0) (cells_from rows ls cols rs (i + 1)) (cells-next rows ls cols rs c.requires.0 c.requires.1 i l c.class_at.result c.loop-i-test.true c.size_u64-l.ensures c.class_at.ensures) c.enter_row.result c.enter_row.ensures c.in-Full.is
+    rw c.from_residual.ensures (going-full c.loop-i.invariant.1 (row_from l cols rs 0) (cells_from rows ls cols rs (i + 1)) (cells-next rows ls cols rs c.requires.0 c.requires.1 i l c.class_at.result c.loop-i-test.true c.size_u64-l.ensures c.class_at.ensures) c.enter_row.result c.enter_row.ensures c.in_err-n.was)
 
 pub loop-i-preserved : goal.loop-i-preserved
 loop-i-preserved c =
@@ -48,7 +48,7 @@ loop-i-preserved c =
     let rs = c.args.right.now in
     let i = c.loop-i.i in
     let l = c.size_u64-l.result in
-    (omega (arith, c.loop-i-test.true), going_on c.loop-i.invariant.1 (row_from l cols rs 0) (cells_from rows ls cols rs (i + 1)) (cells-next rows ls cols rs c.requires.0 c.requires.1 i l c.class_at.result c.loop-i-test.true c.size_u64-l.ensures c.class_at.ensures) c.enter_row.result c.enter_row.ensures c.in-To.is, omega (arith, c.loop-i.invariant.2, c.enter_row.auto))
+    (omega (arith, c.loop-i-test.true), going_on c.loop-i.invariant.1 (row_from l cols rs 0) (cells_from rows ls cols rs (i + 1)) (cells-next rows ls cols rs c.requires.0 c.requires.1 i l c.class_at.result c.loop-i-test.true c.size_u64-l.ensures c.class_at.ensures) c.enter_row.result c.enter_row.ensures c.in_ok-n.was, omega (arith, c.loop-i.invariant.2, c.enter_row.auto))
 
 pub returns : goal.returns
 returns c =

@@ -1,4 +1,4 @@
-use Prim.Native.Nat.{◌-◌, ◌≤◌}
+use Prim.Native.Nat.{◌≤◌}
 use Rattle.monomial_terms.specs.Terms.{held}
 use Rattle.arrays.specs.Arrays.{pairs_in}
 use Rattle.entering.specs.Growing.{Going}
@@ -13,6 +13,3 @@ use Rattle.graph.proofs.enter_cells.Given as goal
 
 abbrev pub invariant-loop-i : goal.invariant-loop-i
 invariant-loop-i l = (l.i ≤ l.rows) × Going (limits_of l.lim) l.w (enter_all (limits_of l.lim) (pairs_in l.w l.initial.graph l.n0) (cell_pairs (pair_of (held l.rows l.left) (held l.cols l.right)))) (cells_from l.rows l.left l.cols l.right l.i) l.n l.graph × (length l.graph ≡ length l.initial.graph)
-
-abbrev pub decreases-loop-i : goal.decreases-loop-i
-decreases-loop-i l = l.rows - l.i

@@ -13,22 +13,22 @@ enter_transports-requires c =
     let r = c.args.r in
     let many = classes-many c.args.s.now c.args.im c.requires.0 in
     let d = going_start (joins t (l, r)) c.requires.4 (joins-small t c.requires.1 l r (omega (arith, c.requires.2, many)) (omega (arith, c.requires.3, many)) c.args.im.classes many) in
-    (c.requires.0, c.requires.1, c.requires.2, c.requires.3, (going_on d (pairs_of (structural t l r)) (cells_of (transports t l r)) (joins-are t l r) c.enter_actions.result c.enter_actions.ensures c.in-To.is).holds)
+    (c.requires.0, c.requires.1, c.requires.2, c.requires.3, (going_on d (pairs_of (structural t l r)) (cells_of (transports t l r)) (joins-are t l r) c.enter_actions.result c.enter_actions.ensures c.in_ok-m.was).holds)
 
-pub returns-in-Full : goal.returns-in-Full
-returns-in-Full c =
+pub returns-in_err-m : goal.returns-in_err-m
+returns-in_err-m c =
     let t = tables_of c.args.s.now in
     let l = c.args.l in
     let r = c.args.r in
     let many = classes-many c.args.s.now c.args.im c.requires.0 in
     let d = going_start (joins t (l, r)) c.requires.4 (joins-small t c.requires.1 l r (omega (arith, c.requires.2, many)) (omega (arith, c.requires.3, many)) c.args.im.classes many) in
-    going-full d (pairs_of (structural t l r)) (cells_of (transports t l r)) (joins-are t l r) c.enter_actions.result c.enter_actions.ensures c.in-Full.is
+    rw c.from_residual.ensures (going-full d (pairs_of (structural t l r)) (cells_of (transports t l r)) (joins-are t l r) c.enter_actions.result c.enter_actions.ensures c.in_err-m.was)
 
-pub returns-in-To : goal.returns-in-To
-returns-in-To c =
+pub returns : goal.returns
+returns c =
     let t = tables_of c.args.s.now in
     let l = c.args.l in
     let r = c.args.r in
     let many = classes-many c.args.s.now c.args.im c.requires.0 in
     let d = going_start (joins t (l, r)) c.requires.4 (joins-small t c.requires.1 l r (omega (arith, c.requires.2, many)) (omega (arith, c.requires.3, many)) c.args.im.classes many) in
-    going-last (going_on d (pairs_of (structural t l r)) (cells_of (transports t l r)) (joins-are t l r) c.enter_actions.result c.enter_actions.ensures c.in-To.is) c.enter_transports.result c.enter_transports.ensures
+    going-last (going_on d (pairs_of (structural t l r)) (cells_of (transports t l r)) (joins-are t l r) c.enter_actions.result c.enter_actions.ensures c.in_ok-m.was) c.enter_transports.result c.enter_transports.ensures

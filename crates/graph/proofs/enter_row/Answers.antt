@@ -24,14 +24,14 @@ enter_pair-requires c =
     let d = c.loop-j.invariant.1 in
     (d.holds, going-small d ((l, r) ∷ []) (row_from l cols list (j + 1)) (row_next l cols list c.requires.0 c.requires.1 j r c.class_at.result c.loop-j-test.true c.size_u64-r.ensures c.class_at.ensures) (l, r) here)
 
-pub returns-in-Full : goal.returns-in-Full
-returns-in-Full c =
+pub returns-in_err-n : goal.returns-in_err-n
+returns-in_err-n c =
     let l = c.args.l in
     let cols = c.args.cols in
     let list = c.args.right.now in
     let j = c.loop-j.j in
     let r = c.size_u64-r.result in
-    going-full c.loop-j.invariant.1 ((l, r) ∷ []) (row_from l cols list (j + 1)) (row_next l cols list c.requires.0 c.requires.1 j r c.class_at.result c.loop-j-test.true c.size_u64-r.ensures c.class_at.ensures) c.enter_pair.result c.enter_pair.ensures.grows c.in-Full.is
+    rw c.from_residual.ensures (going-full c.loop-j.invariant.1 ((l, r) ∷ []) (row_from l cols list (j + 1)) (row_next l cols list c.requires.0 c.requires.1 j r c.class_at.result c.loop-j-test.true c.size_u64-r.ensures c.class_at.ensures) c.enter_pair.result c.enter_pair.ensures.grows c.in_err-n.was)
 
 pub loop-j-preserved : goal.loop-j-preserved
 loop-j-preserved c =
@@ -40,7 +40,7 @@ loop-j-preserved c =
     let list = c.args.right.now in
     let j = c.loop-j.j in
     let r = c.size_u64-r.result in
-    (omega (arith, c.loop-j-test.true), going_on c.loop-j.invariant.1 ((l, r) ∷ []) (row_from l cols list (j + 1)) (row_next l cols list c.requires.0 c.requires.1 j r c.class_at.result c.loop-j-test.true c.size_u64-r.ensures c.class_at.ensures) c.enter_pair.result c.enter_pair.ensures.grows c.in-To.is, omega (arith, c.loop-j.invariant.2, c.enter_pair.auto))
+    (omega (arith, c.loop-j-test.true), going_on c.loop-j.invariant.1 ((l, r) ∷ []) (row_from l cols list (j + 1)) (row_next l cols list c.requires.0 c.requires.1 j r c.class_at.result c.loop-j-test.true c.size_u64-r.ensures c.class_at.ensures) c.enter_pair.result c.enter_pair.ensures.grows c.in_ok-n.was, omega (arith, c.loop-j.invariant.2, c.enter_pair.auto))
 
 pub returns : goal.returns
 returns c =

@@ -24,9 +24,9 @@ loop-x-init c =
     let d = going_start (cells_of (transports t l r)) c.requires.4 (transports-small t c.requires.1 l r hl hr c.args.im.classes many) in
     (going-same d (cells_of (actions_left t l r c.first-x.result)) (transports-start t l r c.first-x.result c.requires.1 hl hr c.first-x.ensures), c.first-x.ensures.within, refl)
 
-pub returns-in-None : goal.returns-in-None
-returns-in-None c =
-    going_end c.loop-x.invariant.0 (transports-end (tables_of c.args.s.now) c.args.l c.args.r c.loop-x.x c.in-None.is)
+pub returns : goal.returns
+returns c =
+    going_end c.loop-x.invariant.0 (transports-end (tables_of c.args.s.now) c.args.l c.args.r c.loop-x.x c.in_default.is)
 
 pub enter_transport-requires : goal.enter_transport-requires
 enter_transport-requires c =
@@ -37,13 +37,13 @@ enter_transport-requires c =
     let d = c.loop-x.invariant.0 in
     (c.requires.0, c.requires.1, c.requires.2, c.requires.3, omega (arith, operations-many c.args.s.now c.args.im c.requires.0, (within-here t l r c.loop-x.x w c.loop-x.invariant.1 c.in-Some.is).0), d.holds, going-small d (cells_of (actions_at t l r w)) (cells_of (each (actions_at t l r) (walks t l r (after_of w)))) (transports-first t l r c.loop-x.x w c.in-Some.is))
 
-pub returns-in-Full : goal.returns-in-Full
-returns-in-Full c =
+pub returns-in_err-n : goal.returns-in_err-n
+returns-in_err-n c =
     let t = tables_of c.args.s.now in
     let l = c.args.l in
     let r = c.args.r in
     let w = c.in-Some.w in
-    going-full c.loop-x.invariant.0 (cells_of (actions_at t l r w)) (cells_of (each (actions_at t l r) (walks t l r (after_of w)))) (transports-first t l r c.loop-x.x w c.in-Some.is) c.enter_transport.result c.enter_transport.ensures c.in-Full.is
+    rw c.from_residual.ensures (going-full c.loop-x.invariant.0 (cells_of (actions_at t l r w)) (cells_of (each (actions_at t l r) (walks t l r (after_of w)))) (transports-first t l r c.loop-x.x w c.in-Some.is) c.enter_transport.result c.enter_transport.ensures c.in_err-n.was)
 
 pub next-x-requires : goal.next-x-requires
 next-x-requires c =
@@ -59,5 +59,5 @@ loop-x-preserved c =
     let l = c.args.l in
     let r = c.args.r in
     let w = c.in-Some.w in
-    let d = going_on c.loop-x.invariant.0 (cells_of (actions_at t l r w)) (cells_of (each (actions_at t l r) (walks t l r (after_of w)))) (transports-first t l r c.loop-x.x w c.in-Some.is) c.enter_transport.result c.enter_transport.ensures c.in-To.is in
+    let d = going_on c.loop-x.invariant.0 (cells_of (actions_at t l r w)) (cells_of (each (actions_at t l r) (walks t l r (after_of w)))) (transports-first t l r c.loop-x.x w c.in-Some.is) c.enter_transport.result c.enter_transport.ensures c.in_ok-n.was in
     (going-same d (cells_of (actions_left t l r c.next-x.result)) (transports-later t l r w c.next-x.result c.next-x.ensures), c.next-x.ensures.within, omega (arith, c.loop-x.invariant.2, c.enter_transport.auto))
