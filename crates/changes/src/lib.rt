@@ -2,7 +2,7 @@
 #![tactic(auto)]
 
 ghost use Rattle.std.specs.Prelude.{◌≡◌, ◌≤◌, ◌<◌, length};
-ghost use Rattle.spec.specs.Bytes.{any, both, each, pick};
+ghost use Rattle.spec.specs.Bytes.{any, both, each};
 ghost use Rattle.spec.specs.Image.{tables_of, the_operation, the_member, members_of, children_of};
 ghost use Rattle.spec.specs.Monomial.{classes};
 ghost use Rattle.laws.specs.Valid.{Valid};
@@ -21,15 +21,6 @@ fn marked(marks: &[u8], c: usize) -> bool
     ensures { result ≡ marked_in marks.now c }
 {
     0 < marks[c]
-}
-
-fn bit(b: bool) -> u8
-    ensures { result ≡ pick b 1 0 }
-{
-    if b {
-        return 1;
-    }
-    0
 }
 
 // ---- the members of a class
@@ -139,6 +130,6 @@ pub fn touch_all(s: &[u8], im: Image, marks: &[u8], live: &mut [u8])
     let itself = has_identity(s, im);
     let n = im.classes;
     for c in 0..n {
-        live[c] = bit(touched(s, im, c, marks, through, itself));
+        live[c] = u8::from(touched(s, im, c, marks, through, itself));
     }
 }

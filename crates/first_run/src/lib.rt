@@ -2,7 +2,6 @@
 #![tactic(auto)]
 
 ghost use Rattle.std.specs.Prelude.{◌≡◌};
-ghost use Rattle.spec.specs.declared.Caller.TheVariants.{Desk};
 ghost use Rattle.query.specs.Settings.{limits_of};
 ghost use Rattle.first_run.specs.First.{small_limits, over_terms, over_pairs};
 
@@ -25,21 +24,7 @@ pub fn small() -> Limits
 pub fn met_terms(a: Answer) -> bool
     ensures { result ≡ over_terms a }
 {
-    match a {
-        Answer::Listing(n) => false,
-        Answer::Refused(k) => k == 13,
-        Answer::Doubled(d) => false,
-    }
-}
-
-fn is_twelve(a: Answer) -> bool
-    ensures { result ≡ over_pairs Desk a }
-{
-    match a {
-        Answer::Listing(n) => false,
-        Answer::Refused(k) => k == 12,
-        Answer::Doubled(d) => false,
-    }
+    matches!(a, Answer::Refused(13))
 }
 
 // Whether the limit of pairs was met, and is not the caller's own.
@@ -48,6 +33,6 @@ pub fn met_pairs(caller: Caller, a: Answer) -> bool
 {
     match caller {
         Caller::Page => false,
-        Caller::Desk => is_twelve(a),
+        Caller::Desk => matches!(a, Answer::Refused(12)),
     }
 }
