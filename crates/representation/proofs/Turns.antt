@@ -1,7 +1,6 @@
 -- A turn of the walk through the representation pairs of two classes.
 use Rattle.std.proofs.Common.{Option, Some}
 use mathlib.Core.Path.{◌≡◌}
-use mathlib.Core.List.{◌∷◌}
 use Prim.Native.Nat.{ℕ, ◌<◌}
 use native.Mathlib.Omega.{arith}
 use lib.ListN.{length}

@@ -1,5 +1,4 @@
 -- the step at hand is within the two classes; the next one has fewer pairs left
-use Rattle.std.proofs.Common.{rules}
 use Rattle.spec.specs.Image.{tables_of}
 use Rattle.image.specs.Loaded.{operations-many}
 use Rattle.representation.proofs.Turns.{left_less}
