@@ -8,10 +8,9 @@ ghost use Rattle.laws.specs.Valid.{Valid};
 ghost use Rattle.image.specs.Loaded.{Loaded};
 ghost use Rattle.monomial_terms.specs.Terms.{TERMS, NUMBERS};
 
-use ac_repr::{Step, Walk};
+use ac_repr::Walk;
 use image::Image;
 use judge::{Verdict, judge};
-use padding::Padded;
 use std::io;
 
 // of an image that shows every two of its classes
@@ -82,12 +81,8 @@ fn line(rt: &impl Print, s: &[u8], im: Image, l: usize, r: usize, w: Walk) -> io
 {
     let mut left = [0u64; monomial_terms::NUMBERS];
     let mut right = [0u64; monomial_terms::NUMBERS];
-    let found = ac_monomials::monomials(s, im, l, r, w, &mut left, &mut right);
-    match found {
-        Padded::Pair(n, m) => {
-            write(rt, l, r, w.op, &left, n, &right, m)?;
-        }
-        Padded::Nothing => {}
+    if let Some((n, m)) = ac_monomials::monomials(s, im, l, r, w, &mut left, &mut right) {
+        write(rt, l, r, w.op, &left, n, &right, m)?;
     }
     Ok(())
 }
@@ -97,17 +92,11 @@ fn of_classes(rt: &impl Print, s: &[u8], im: Image, l: usize, r: usize) -> io::R
     requires { Loaded s.now im × Valid (tables_of s.now) × (l < im.classes) × (r < im.classes) }
 {
     let mut x = ac_repr::first(s, im, l, r);
-    loop {
-        match x {
-            Step::At(w) => {
-                line(rt, s, im, l, r, w)?;
-                x = ac_repr::next(s, im, l, r, w);
-            }
-            Step::End => {
-                return Ok(());
-            }
-        }
+    while let Some(w) = x {
+        line(rt, s, im, l, r, w)?;
+        x = ac_repr::next(s, im, l, r, w);
     }
+    Ok(())
 }
 
 // The pairs of class l beside each class.

@@ -7,9 +7,8 @@ ghost use Rattle.returned.specs.Children.{added_numbers};
 ghost use Rattle.returned.specs.Narrows.{narrowed_numbers};
 ghost use Rattle.returned.specs.Returns.{returned_of, lengths};
 
-use child_list::Added;
+use child_list::NotAdded;
 use contract::Answer;
-use narrowing::Narrowed;
 
 // 0 with a listing of so many bytes, or a refusal's number; with 10 the lowest class that holds a literal that also stands in another.
 #[repr(C)]
@@ -95,19 +94,19 @@ pub fn buffer_lengths() -> Lengths
 }
 
 // What became of a child, for a list that held n terms.
-pub fn numbers_of_added(a: Added, n: usize) -> AddedChild
+pub fn numbers_of_added(a: Result<usize, NotAdded>, n: usize) -> AddedChild
     ensures { result ≡ added_numbers a n }
 {
     match a {
-        Added::Held(m) => AddedChild {
+        Ok(m) => AddedChild {
             number: 0,
             terms: m,
         },
-        Added::Full => AddedChild {
+        Err(NotAdded::Full) => AddedChild {
             number: 1,
             terms: n,
         },
-        Added::Overflow => AddedChild {
+        Err(NotAdded::Overflow) => AddedChild {
             number: 2,
             terms: n,
         },
@@ -115,15 +114,15 @@ pub fn numbers_of_added(a: Added, n: usize) -> AddedChild
 }
 
 // What narrowing a list says.
-pub fn numbers_of_narrowed(a: Narrowed) -> NarrowedList
+pub fn numbers_of_narrowed(a: Option<usize>) -> NarrowedList
     ensures { result ≡ narrowed_numbers a }
 {
     match a {
-        Narrowed::Fits => NarrowedList {
+        None => NarrowedList {
             number: 0,
             entry: 0,
         },
-        Narrowed::FailsAt(i) => NarrowedList {
+        Some(i) => NarrowedList {
             number: 1,
             entry: i,
         },

@@ -1,5 +1,5 @@
 -- The walk through a pair's transports: each action found is offered in its turn.
-use Rattle.std.specs.Prelude.{◌≡◌, refl, true, List, [], ◌∷◌, ◌++◌, ℕ, ◌*◌, ◌≤◌, ◌<◌, length}
+use Rattle.std.specs.Prelude.{◌≡◌, refl, true, List, [], ◌∷◌, ◌++◌, ℕ, ◌*◌, ◌≤◌, ◌<◌, length, Option, Some, None}
 use Rattle.std.proofs.Common.{sym, ap, ◌∙◌, arith}
 use Rattle.spec.specs.Bytes.{Two, Limits, each}
 use Rattle.spec.specs.Image.{Tables}
@@ -16,12 +16,8 @@ use Rattle.monomial_terms.specs.Terms.{NUMBERS, held}
 use Rattle.ac_repr.specs.Walk.{walks, all_walks, after_of, left_of, Within, Stepped}
 use Rattle.ac_monomials.specs.Actions.{actions_at, Answered}
 use Rattle.ac_monomials.specs.Sides.{action-none, action-one, action-narrow}
-use Rattle.padding.specs.declared.Padded.{Padded}
-use Rattle.padding.specs.declared.Padded.TheVariants.{Pair, Nothing}
 use Rattle.ac_monomials.specs.Transports.{actions_left, left-first, left-next, left_end}
 use Rattle.ac_repr.specs.declared.Walk.{Walk}
-use Rattle.ac_repr.specs.declared.Step.{Step}
-use Rattle.ac_repr.specs.declared.Step.TheVariants.{At, End}
 use Rattle.cells.specs.Cells.{sides_of, Sides, Joined, cell-count}
 use Rattle.plan_offer.specs.Plans.{action_of}
 use Rattle.offers.specs.Offers.{Work, offer_in, offers_in}
@@ -56,11 +52,11 @@ pub one-fitting : {w k : ℕ} (l : List TransportAction) (a : TransportAction) �
 one-fitting l a h e = h a (rw e here)
 
 -- ---- what is found at a pair of places
-module _ (t : Tables) (l r : ℕ) (w : Walk) (s u s' u' : List ℕ) (x : Padded) (D : Answered t l r w s u s' u' x) where
-  pub found_none : x ≡ Nothing → actions_at t l r w ≡ []
+module _ (t : Tables) (l r : ℕ) (w : Walk) (s u s' u' : List ℕ) (x : Option (ℕ × ℕ)) (D : Answered t l r w s u s' u' x) where
+  pub found_none : x ≡ None → actions_at t l r w ≡ []
   found_none e = action-none t l r w s u s' u' (rw e at D)
 
-  module _ (n m : ℕ) (e : x ≡ Pair n m) where
+  module _ (n m : ℕ) (e : x ≡ Some (n, m)) where
     found-few : (n ≤ 65) × (m ≤ 65)
     found-few = rw e at D.few
 
@@ -83,29 +79,29 @@ module _ (t : Tables) (l r : ℕ) (w : Walk) (s u s' u' : List ℕ) (x : Padded)
           (F.joined, omega (arith, F.few, cell-count s' n u' m found-sides))
 
 -- At step x of the walk with the work w: the actions that are left make the whole.
-pub record Walking (k : ℕ) (t : Tables) (q : Two → Two) (of : Two → ℕ) (l r : ℕ) (w₀ : Work) (x : Step) (w : Work) : Type 0 where
+pub record Walking (k : ℕ) (t : Tables) (q : Two → Two) (of : Two → ℕ) (l r : ℕ) (w₀ : Work) (x : Option Walk) (w : Work) : Type 0 where
   pub rest : offers_in k q of (actions_left t l r x) w ≡ offers_in k q of (transports t l r) w₀
   pub within : Within t l r x
   pub sound : (a : TransportAction) → In a (actions_left t l r x) → In a (transports t l r)
 
 -- how many pairs of places are left
-abbrev pub walk_left : Tables → ℕ → ℕ → Step → ℕ
+abbrev pub walk_left : Tables → ℕ → ℕ → Option Walk → ℕ
 walk_left t l r x = length (left_of (walks t l r) x)
 
 module _ (k : ℕ) (t : Tables) (q : Two → Two) (of : Two → ℕ) (l r : ℕ) (w₀ : Work) where
-  pub walking-first : (x : Step) → Valid t → (a : l < length t.classes) → (b : r < length t.classes) → Stepped t l r (walks t l r) (all_walks t l r) x → Walking k t q of l r w₀ x w₀
+  pub walking-first : (x : Option Walk) → Valid t → (a : l < length t.classes) → (b : r < length t.classes) → Stepped t l r (walks t l r) (all_walks t l r) x → Walking k t q of l r w₀ x w₀
   walking-first x v a b d =
       let e = left-first t l r x v a b d in
       record { rest = ap (λ (m : List TransportAction). offers_in k q of m w₀) (sym e); within = d.within; sound = λ c i. rw e i }
 
   module _ (w : Work) where
-    pub walking-end : (x : Step) → x ≡ End → Walking k t q of l r w₀ x w → w ≡ offers_in k q of (transports t l r) w₀
+    pub walking-end : (x : Option Walk) → x ≡ None → Walking k t q of l r w₀ x w → w ≡ offers_in k q of (transports t l r) w₀
     walking-end x e W =
         let f : actions_left t l r x ≡ [] = rw e (left_end t l r) in
         offers-none k q of (actions_left t l r x) w f ∙ W.rest
 
-    module _ (x : Step) (v : Walk) (e : x ≡ At v) (W : Walking k t q of l r w₀ x w) where
-      pub walking-within : Within t l r (At v)
+    module _ (x : Option Walk) (v : Walk) (e : x ≡ Some v) (W : Walking k t q of l r w₀ x w) where
+      pub walking-within : Within t l r (Some v)
       walking-within = rw e at W.within
 
       -- what is found here is one of the pair's transports
@@ -113,7 +109,7 @@ module _ (k : ℕ) (t : Tables) (q : Two → Two) (of : Two → ℕ) (l r : ℕ)
       unfolding actions_left each
       walking-sound a i = W.sound a (rw e (in_left (each (actions_at t l r) (walks t l r (after_of v))) i))
 
-      module _ (y : Step) (d : Stepped t l r (walks t l r) (walks t l r (after_of v)) y) where
+      module _ (y : Option Walk) (d : Stepped t l r (walks t l r) (walks t l r (after_of v)) y) where
         split : actions_left t l r x ≡ actions_at t l r v ++ actions_left t l r y
         split = ap (actions_left t l r) e ∙ left-next t l r v y d
 

@@ -20,9 +20,8 @@ ghost use Rattle.turn_end.specs.Taking.{Takes};
 ghost use Rattle.turns.specs.Leaving.{Leaves, turn_in};
 ghost use Rattle.turns.specs.Walking.{Fitting};
 
-use ac_repr::{Step, Walk};
+use ac_repr::Walk;
 use image::Image;
-use padding::Padded;
 use quality::Best;
 use query::Limits;
 use turn_end::Taken;
@@ -52,8 +51,8 @@ fn offer_walk(
     let mut right = [0u64; 130];
     let p = ac_monomials::monomials(s, im, l, r, w, &mut left, &mut right);
     match p {
-        Padded::Nothing => best,
-        Padded::Pair(rows, cols) => offers::offer_transport(
+        None => best,
+        Some((rows, cols)) => offers::offer_transport(
             lim, graph, pairs, im.classes, w.op, &left, rows, &right, cols, work, flow, best,
         ),
     }
@@ -79,17 +78,11 @@ fn offer_transports(
 {
     let mut best = b;
     let mut x = ac_repr::first(s, im, l, r);
-    loop {
-        match x {
-            Step::End => {
-                return best;
-            }
-            Step::At(w) => {
-                best = offer_walk(lim, s, im, graph, pairs, l, r, w, work, flow, best);
-                x = ac_repr::next(s, im, l, r, w);
-            }
-        }
+    while let Some(w) = x {
+        best = offer_walk(lim, s, im, graph, pairs, l, r, w, work, flow, best);
+        x = ac_repr::next(s, im, l, r, w);
     }
+    best
 }
 
 // ---- a pair's turn

@@ -18,16 +18,10 @@ loop-x-init c =
       refl,
     )
 
-pub shape_of-work-in-End : goal.shape_of-work-in-End
-shape_of-work-in-End c = c.loop-x.invariant.1
-
-pub shape_of-flow-in-End : goal.shape_of-flow-in-End
-shape_of-flow-in-End c = c.loop-x.invariant.2
-
-pub returns-in-End : goal.returns-in-End
-returns-in-End c =
+pub returns : goal.returns
+returns c =
     let a = c.args in
-    walking-end a.lim.pairs (tables_of a.s.now) (quality_in a.im.classes a.graph.now a.pairs.now) (term_in a.im.classes a.graph.now a.pairs.now) a.l a.r (work_of a.work.now a.flow.now a.b) (work_of c.loop-x.work c.loop-x.flow c.loop-x.best) c.loop-x.x c.in-End.is c.loop-x.invariant.0
+    walking-end a.lim.pairs (tables_of a.s.now) (quality_in a.im.classes a.graph.now a.pairs.now) (term_in a.im.classes a.graph.now a.pairs.now) a.l a.r (work_of a.work.now a.flow.now a.b) (work_of c.loop-x.work c.loop-x.flow c.loop-x.best) c.loop-x.x c.in_default.is c.loop-x.invariant.0
 
 pub offer_walk-best-requires : goal.offer_walk-best-requires
 offer_walk-best-requires c =
@@ -40,10 +34,10 @@ offer_walk-best-requires c =
       c.requires.1,
       c.requires.2,
       c.requires.3,
-      rw (← operations-many a.s.now a.im c.requires.0) (walking-within a.lim.pairs t q of a.l a.r (work_of a.work.now a.flow.now a.b) w c.loop-x.x c.in-At.w c.in-At.is c.loop-x.invariant.0).0,
+      rw (← operations-many a.s.now a.im c.requires.0) (walking-within a.lim.pairs t q of a.l a.r (work_of a.work.now a.flow.now a.b) w c.loop-x.x c.in-Some.w c.in-Some.is c.loop-x.invariant.0).0,
       c.requires.4,
       λ d i. all-fitting t c.requires.1 a.im.classes (sym (classes-many a.s.now a.im c.requires.0)) a.l a.r c.requires.2 c.requires.3 (limits_of a.lim) c.requires.5 d
-          (walking-sound a.lim.pairs t q of a.l a.r (work_of a.work.now a.flow.now a.b) w c.loop-x.x c.in-At.w c.in-At.is c.loop-x.invariant.0 d i),
+          (walking-sound a.lim.pairs t q of a.l a.r (work_of a.work.now a.flow.now a.b) w c.loop-x.x c.in-Some.w c.in-Some.is c.loop-x.invariant.0 d i),
       scratch-kept c.requires.6 c.loop-x.invariant.1 c.loop-x.invariant.2,
     )
 
@@ -54,18 +48,18 @@ next-x-requires c =
       c.requires.1,
       c.requires.2,
       c.requires.3,
-      walking-within a.lim.pairs (tables_of a.s.now) (quality_in a.im.classes a.graph.now a.pairs.now) (term_in a.im.classes a.graph.now a.pairs.now) a.l a.r (work_of a.work.now a.flow.now a.b) (work_of c.loop-x.work c.loop-x.flow c.loop-x.best) c.loop-x.x c.in-At.w c.in-At.is c.loop-x.invariant.0,
+      walking-within a.lim.pairs (tables_of a.s.now) (quality_in a.im.classes a.graph.now a.pairs.now) (term_in a.im.classes a.graph.now a.pairs.now) a.l a.r (work_of a.work.now a.flow.now a.b) (work_of c.loop-x.work c.loop-x.flow c.loop-x.best) c.loop-x.x c.in-Some.w c.in-Some.is c.loop-x.invariant.0,
     )
 
 pub loop-x-smaller : goal.loop-x-smaller
 loop-x-smaller c =
     let a = c.args in
-    walking-less a.lim.pairs (tables_of a.s.now) (quality_in a.im.classes a.graph.now a.pairs.now) (term_in a.im.classes a.graph.now a.pairs.now) a.l a.r (work_of a.work.now a.flow.now a.b) (work_of c.loop-x.work c.loop-x.flow c.loop-x.best) c.loop-x.x c.in-At.w c.in-At.is c.loop-x.invariant.0 c.next-x.result c.next-x.ensures
+    walking-less a.lim.pairs (tables_of a.s.now) (quality_in a.im.classes a.graph.now a.pairs.now) (term_in a.im.classes a.graph.now a.pairs.now) a.l a.r (work_of a.work.now a.flow.now a.b) (work_of c.loop-x.work c.loop-x.flow c.loop-x.best) c.loop-x.x c.in-Some.w c.in-Some.is c.loop-x.invariant.0 c.next-x.result c.next-x.ensures
 
 pub loop-x-preserved : goal.loop-x-preserved
 loop-x-preserved c =
     let a = c.args in (
-      walking-next a.lim.pairs (tables_of a.s.now) (quality_in a.im.classes a.graph.now a.pairs.now) (term_in a.im.classes a.graph.now a.pairs.now) a.l a.r (work_of a.work.now a.flow.now a.b) (work_of c.loop-x.work c.loop-x.flow c.loop-x.best) c.loop-x.x c.in-At.w c.in-At.is c.loop-x.invariant.0 c.next-x.result c.next-x.ensures _ c.offer_walk-best.ensures,
+      walking-next a.lim.pairs (tables_of a.s.now) (quality_in a.im.classes a.graph.now a.pairs.now) (term_in a.im.classes a.graph.now a.pairs.now) a.l a.r (work_of a.work.now a.flow.now a.b) (work_of c.loop-x.work c.loop-x.flow c.loop-x.best) c.loop-x.x c.in-Some.w c.in-Some.is c.loop-x.invariant.0 c.next-x.result c.next-x.ensures _ c.offer_walk-best.ensures,
       omega (arith, c.loop-x.invariant.1, c.offer_walk-best.auto),
       omega (arith, c.loop-x.invariant.2, c.offer_walk-best.auto),
     )
