@@ -28,16 +28,14 @@ pub fn next_live(
     requires { (w ≤ 256) × (n ≤ 65536) × (w * w + n ≤ length graph.now) × (k ≤ n) }
     ensures { result ≡ next_live (pairs_in w graph.now n) llive.now rlive.now k n }
 {
-    let mut j = k;
-    while j < n {
+    for j in k..n {
         let l = arrays::left_at(graph, w, j);
         let r = arrays::right_at(graph, w, j);
         if live(llive, rlive, l, r) {
             return j;
         }
-        j += 1;
     }
-    j
+    n
 }
 
 // The checks of a step from pair k, where j is the next live one: one for each pair that keeps what it has, or one for a live pair.

@@ -80,12 +80,10 @@ pub fn find(table: &[Pair], count: usize, left: u16, right: u16) -> usize
     ensures { result ≡ find_of table.now count (left, right) }
 {
     let end = least(count, table.len());
-    let mut i = find_block(table, end, left, right);
-    while i < end {
+    for i in find_block(table, end, left, right)..end {
         if is_pair(table[i], left, right) {
             return i;
         }
-        i = i + 1;
     }
-    i
+    end
 }

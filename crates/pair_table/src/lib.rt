@@ -64,7 +64,5 @@ pub fn enter(table: &mut [Pair], count: usize, left: u16, right: u16) -> Entered
 pub fn clear_table(table: &mut [Pair])
     ensures { table.new ≡ work_after none true table.old }
 {
-    for i in 0..table.len() {
-        table[i] = Pair { left: 0, right: 0 };
-    }
+    table.fill(Pair { left: 0, right: 0 });
 }

@@ -1,12 +1,8 @@
-use Rattle.class_literals.proofs.LiteralLaws.{doubled_after, class-start, class-stop, class-go, class-end, class-there}
+use Rattle.class_literals.proofs.LiteralLaws.{class-start, class-stop, class-go, class-end, class-there}
 use Rattle.span_rules.specs.Within.{class-room}
-use Rattle.spec.specs.Image.{doubled_in, members_of, tables_of, the_class}
-use Rattle.spec.specs.Bytes.{any}
-use borrow.Author.Rules.{rules}
-use Prim.Native.Nat.{◌≤◌, ◌-◌, ◌+◌}
+use Rattle.spec.specs.Image.{tables_of}
 use native.Mathlib.Omega.{arith}
-use mathlib.Core.Path.{◌≡◌, sym, ◌∙◌}
-use lib.ListN.{drop}
+use mathlib.Core.Path.{sym, ◌∙◌}
 use Rattle.class_literals.proofs.class_doubled.Goals as goal
 
 pub loop-i-init : goal.loop-i-init

@@ -1,16 +1,10 @@
-use Rattle.class_literals.proofs.LiteralLaws.{doubled_after, class-start, class-stop, class-go, class-end, class-there}
-use Rattle.span_rules.specs.Within.{class-room}
+use Rattle.class_literals.proofs.LiteralLaws.{doubled_after}
 use Rattle.spec.specs.Image.{doubled_in, members_of, tables_of, the_class}
 use Rattle.spec.specs.Bytes.{any}
-use borrow.Author.Rules.{rules}
-use Prim.Native.Nat.{◌≤◌, ◌-◌, ◌+◌}
-use native.Mathlib.Omega.{arith}
-use mathlib.Core.Path.{◌≡◌, sym, ◌∙◌}
+use Prim.Native.Nat.{◌≤◌, ◌+◌}
+use mathlib.Core.Path.{◌≡◌}
 use lib.ListN.{drop}
 use Rattle.class_literals.proofs.class_doubled.Given as goal
 
 abbrev pub invariant-loop-i : goal.invariant-loop-i
 invariant-loop-i l = (l.i ≤ l.n) × (l.from + l.n ≤ l.im.members) × (doubled_in (tables_of l.s) (the_class (tables_of l.s) l.c) (drop (l.c + 1) (tables_of l.s).classes) ≡ any (doubled_after (tables_of l.s) l.c) (drop l.i (members_of (tables_of l.s) l.c)))
-
-abbrev pub decreases-loop-i : goal.decreases-loop-i
-decreases-loop-i l = l.n - l.i

@@ -1,6 +1,5 @@
 use Rattle.class_literals.proofs.LiteralLaws.{other-value, other-op, same-literal}
 use Rattle.spec.specs.Image.{tables_of, the_member}
-use borrow.Author.Rules.{rules}
 use Rattle.class_literals.proofs.is_literal.Goals as goal
 
 pub returns-then-member_value-v : goal.returns-then-member_value-v

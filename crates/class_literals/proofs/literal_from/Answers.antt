@@ -2,12 +2,8 @@ use Rattle.image.specs.Loaded.{members-many}
 use Rattle.laws.specs.AcceptedTurns.{any-go, any-stop, any-end}
 use Rattle.laws.specs.AcceptedLiterals.{is_literal}
 use Rattle.spec.specs.Image.{tables_of}
-use Rattle.spec.specs.Bytes.{any}
-use borrow.Author.Rules.{rules}
-use Prim.Native.Nat.{◌-◌}
 use native.Mathlib.Omega.{arith}
-use mathlib.Core.Path.{◌≡◌, refl, sym, ◌∙◌}
-use lib.ListN.{drop}
+use mathlib.Core.Path.{refl, sym, ◌∙◌}
 use Rattle.class_literals.proofs.literal_from.Goals as goal
 
 pub loop-m-init : goal.loop-m-init

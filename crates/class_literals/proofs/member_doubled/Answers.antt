@@ -3,7 +3,6 @@ use Rattle.span_rules.specs.Within.{op_room}
 use Rattle.class_literals.specs.Slots.{unmarked, slot-low}
 use Rattle.spec.specs.Image.{tables_of, the_member}
 use mathlib.Core.Path.{sym, ◌∙◌}
-use borrow.Author.Rules.{rules}
 use Rattle.class_literals.proofs.member_doubled.Goals as goal
 
 pub kind-requires : goal.kind-requires

@@ -1,8 +1,6 @@
 use Rattle.live_pairs.specs.LiveLaws.{next-found, next-later, next-none}
-use mathlib.Core.Path.{refl, sym, ◌∙◌}
 use native.Mathlib.Omega.{arith}
-use native.Mathlib.Omega.{arith}
-use mathlib.Core.Path.{refl, sym, ◌∙◌}
+use mathlib.Core.Path.{◌≡◌, refl, sym, ◌∙◌}
 use Rattle.live_pairs.proofs.next_live.Goals as goal
 
 pub loop-j-init : goal.loop-j-init
@@ -29,12 +27,6 @@ returns-then-live c =
     let l = c.loop-j in
     sym (l.invariant.1 ∙ next-found a.w a.graph.now a.llive.now a.rlive.now a.n l.j c.left_at-l.result c.right_at-r.result c.loop-j-test.true c.left_at-l.ensures.0 c.right_at-r.ensures.0 c.live.result c.live.ensures c.if-live.true)
 
-pub overflow_add-j : goal.overflow_add-j
-overflow_add-j c = record { fits = omega (arith, c.loop-j-test.true, c.requires.1) }
-
-pub loop-j-smaller : goal.loop-j-smaller
-loop-j-smaller c = omega (arith, c.loop-j-test.true)
-
 pub loop-j-preserved : goal.loop-j-preserved
 loop-j-preserved c =
     let a = c.args in
@@ -45,4 +37,5 @@ pub returns : goal.returns
 returns c =
     let a = c.args in
     let l = c.loop-j in
-    sym (l.invariant.1 ∙ next-none a.w a.graph.now a.llive.now a.rlive.now a.n l.j (omega (arith, c.loop-j-test.false)))
+    let e : a.n ≡ l.j = omega arith in
+    e ∙ sym (l.invariant.1 ∙ next-none a.w a.graph.now a.llive.now a.rlive.now a.n l.j (omega (arith, c.loop-j-test.false)))

@@ -6,6 +6,3 @@ use Rattle.pair_search.proofs.any_pair.Given as goal
 -- what was seen, or what the rest holds, is what all of them hold
 abbrev pub invariant-loop-i : goal.invariant-loop-i
 invariant-loop-i l = either l.any (any_from l.table (l.left, l.right) (l.to - l.i) l.i) ≡ any_from l.table (l.left, l.right) (l.to - l.from) l.from
-
-abbrev pub decreases-loop-i : goal.decreases-loop-i
-decreases-loop-i l = l.to - l.i
