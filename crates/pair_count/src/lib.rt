@@ -54,17 +54,15 @@ fn not_new(e: Entered) -> bool
 fn enter_all(table: &mut [Pair], graph: &[u16], from: usize, n: usize) -> usize
     ensures { (result ≡ (entered_of graph.now from n 0 table.old).0) × (table.new ≡ (entered_of graph.now from n 0 table.old).1) }
 {
-    let mut k = 0;
-    while k < n {
+    for k in 0..n {
         let l = left_of(graph, from, k);
         let r = right_of(graph, from, k);
         let e = enter(table, k, l, r);
         if not_new(e) {
             return k;
         }
-        k = k + 1;
     }
-    k
+    n
 }
 
 // The records from place `at` on, of `held` records.
