@@ -7,7 +7,8 @@ use Rattle.std.proofs.Math.ListN.{take, drop, get_or-append}
 use Rattle.std.proofs.lemmas.List.{set_split, take-append-le}
 use Rattle.spec.specs.Bytes.{sum, Two}
 use Rattle.term_order.specs.Comparing.{order_of}
-use Rattle.term_order.specs.declared.Order.TheVariants as O
+use Rattle.std.specs.Ordering.{is_gt}
+use Rattle.std.specs.declared.cmp.Ordering.TheVariants as O
 use Rattle.spec.specs.Pool.{Pool, Order, less, equal, greater, structural_cmp, is_greater, insert_run, sort_runs}
 use Rattle.spec.specs.Meaning.{In, here, there}
 use Rattle.pools.specs.Pool.{RunsBelow, runs-below-cons, runs-below-nil}
@@ -227,3 +228,8 @@ pub greater-is : (o : Order) → order_of o ≡ O.Greater → true ≡ is_greate
 greater-is less e = cc
 greater-is equal e = cc
 greater-is greater e = refl
+
+pub gt-greater : (o : Order) → is_gt (order_of o) ≡ is_greater o
+gt-greater less = refl
+gt-greater equal = refl
+gt-greater greater = refl

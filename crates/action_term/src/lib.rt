@@ -13,18 +13,12 @@ ghost use Rattle.action_term.specs.Sorting.{insert_number, sort_numbers, within,
 ghost use Rattle.action_term.specs.Results.{ActionResult};
 
 use query::Limits;
-use term_order::Order;
 
 fn is_greater(terms: &[u32], runs: &[u64], a: usize, b: usize) -> bool
     requires { Holds terms.now runs.now × (a < count_in terms.now) × (b < count_in terms.now) }
     ensures { result ≡ is_greater (structural_cmp (length (pool_of terms.now runs.now)) (pool_of terms.now runs.now) a b) }
 {
-    let o = term_order::structural_cmp(terms, runs, a, b);
-    match o {
-        Order::Less => false,
-        Order::Equal => false,
-        Order::Greater => true,
-    }
+    term_order::structural_cmp(terms, runs, a, b).is_gt()
 }
 
 // the run at i moved behind the runs before n that come before it

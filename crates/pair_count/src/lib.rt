@@ -43,11 +43,7 @@ fn right_of(graph: &[u16], from: usize, k: usize) -> u16
 fn not_new(e: Entered) -> bool
     ensures { result ≡ not_new e }
 {
-    match e {
-        Entered::New(i) => false,
-        Entered::At(i) => true,
-        Entered::Full => true,
-    }
+    !matches!(e, Entered::New(_))
 }
 
 // Enters the n pairs whose keys stand from place `from` on, in their order, as long as each is new. Gives how many records are held then.

@@ -2,56 +2,13 @@
 use mathlib.Core.Path.{◌≡◌, refl, sym, ◌∙◌}
 use mathlib.Core.Bool.{Bool, true, false, not}
 use mathlib.Core.List.{List, [], ◌∷◌}
-use Prim.Native.Nat.{ℕ, ◌≤◌, ◌<◌}
+use Prim.Native.Nat.{ℕ}
 use native.Mathlib.Omega.{arith}
-use borrow.Author.Tests.{lt-ltb, le-ltb, le-leb, eq-eqb, ne_eqb, eqb-true}
-use lib.Dec.{ltb, leb, eqb}
+use borrow.Author.Tests.{le-leb, eq-eqb, ne_eqb, eqb-true}
+use lib.Dec.{leb, eqb}
 use Rattle.spec.specs.Bytes.{pick, both, either, any, up_from}
 use Rattle.laws.specs.Tests.{clash, both_true}
 use Rattle.skips.specs.Facts.{Facts, common, over, kin_with, kin_within, again, counts}
-
--- ---- a kin and a total: y is what was read
-module _ (y z k : ℕ) (e : y ≡ z) where
-  pub kin-not : (b : Bool) → (y ≡ k → ⊥) → false ≡ both (eqb z k) b
-  kin-not b n = rw (ne_eqb z k (λ q. n (e ∙ q))) refl
-
-  pub kin-same : (p b : Bool) → y ≡ k → p ≡ b → p ≡ both (eqb z k) b
-  kin-same p b q h = rw (eq-eqb z k (sym e ∙ q)) h
-
--- ---- the total after padding: a and b are what was read
-module _ (a b x y : ℕ) (e : a ≡ x) (q : b ≡ y) where
-  pub common-right : a < b → b ≡ pick (ltb x y) y x
-  common-right h = rw (← e, ← q, lt-ltb a b h) refl
-
-  pub common-left : b ≤ a → a ≡ pick (ltb x y) y x
-  common-left h = rw (← e, ← q, le-ltb a b h) refl
-
--- ---- two totals make a pair
-pub pair-even : (a b : ℕ) (r : Bool) → a ≡ b → true ≡ either (eqb a b) r
-pair-even a b r h = rw (eq-eqb a b h) refl
-
-pub pair-uneven : (a b : ℕ) (r : Bool) → (a ≡ b → ⊥) → r ≡ either (eqb a b) r
-pair-uneven a b r h = rw (ne_eqb a b h) refl
-
--- ---- passed over: p says whether there is a pair; u, v and w are what was read
-module _ (e : ℕ) (f g : Facts) (i j a b : ℕ) (p : Bool) (q : a ≡ f.total i) (r : b ≡ g.total j)
-    (h : p ≡ either (eqb a b) (not (eqb e 65535))) where
-  pub over_no : p ≡ false → false ≡ over e f g i j
-  over_no z = let y : either (eqb (f.total i) (g.total j)) (not (eqb e 65535)) ≡ false = rw (← q, ← r) (sym h ∙ z) in rw y refl
-
-  module _ (x u : ℕ) (z : p ≡ true) (k : x ≡ common f g i j) (s : u ≡ f.most i) where
-    is : either (eqb (f.total i) (g.total j)) (not (eqb e 65535)) ≡ true
-    is = rw (← q, ← r) (sym h ∙ z)
-
-    pub over-left : u < x → true ≡ over e f g i j
-    over-left l =
-        let y : ltb (f.most i) (common f g i j) ≡ true = rw (← k, ← s) (lt-ltb u x l) in
-        rw (is, y) refl
-
-    pub over-right : (v : ℕ) → x ≤ u → v ≡ g.most j → ltb v x ≡ over e f g i j
-    over-right v l t =
-        let y : ltb (f.most i) (common f g i j) ≡ false = rw (← k, ← s) (le-ltb u x l) in
-        rw (is, y, k, t) refl
 
 -- ---- the same pair again
 -- who has the total has at most the total

@@ -49,20 +49,14 @@ fn has_total(f: &[u64], a: usize, k: u64, x: u64) -> bool
     requires { 4 * a + 3 < length f.now }
     ensures { result ≡ both (eqb ((facts_in f.now).kin a) k) (eqb ((facts_in f.now).total a) x) }
 {
-    if kin_at(f, a) != k {
-        return false;
-    }
-    total_at(f, a) == x
+    kin_at(f, a) == k && total_at(f, a) == x
 }
 
 fn is_within(f: &[u64], a: usize, k: u64, x: u64) -> bool
     requires { 4 * a + 3 < length f.now }
     ensures { result ≡ both (eqb ((facts_in f.now).kin a) k) (leb ((facts_in f.now).total a) x) }
 {
-    if kin_at(f, a) != k {
-        return false;
-    }
-    total_at(f, a) <= x
+    kin_at(f, a) == k && total_at(f, a) <= x
 }
 
 fn kin_with(f: &[u64], n: usize, i: usize, x: u64) -> bool
@@ -97,22 +91,14 @@ fn common(f: &[u64], g: &[u64], i: usize, j: usize) -> u64
     requires { (4 * i + 3 < length f.now) × (4 * j + 3 < length g.now) }
     ensures { result ≡ common (facts_in f.now) (facts_in g.now) i j }
 {
-    let a = total_at(f, i);
-    let b = total_at(g, j);
-    if a < b {
-        return b;
-    }
-    a
+    total_at(f, i).max(total_at(g, j))
 }
 
 // Two totals make a pair: "without one there is no pair".
 fn is_pair(id: usize, a: u64, b: u64) -> bool
     ensures { result ≡ either (eqb a b) (not (eqb id NO-IDENTITY)) }
 {
-    if a == b {
-        return true;
-    }
-    id != Image::NO_IDENTITY
+    a == b || id != Image::NO_IDENTITY
 }
 
 // It is passed over.
@@ -124,10 +110,7 @@ fn is_over(id: usize, f: &[u64], g: &[u64], i: usize, j: usize) -> bool
         return false;
     }
     let x = common(f, g, i, j);
-    if most_at(f, i) < x {
-        return true;
-    }
-    most_at(g, j) < x
+    most_at(f, i) < x || most_at(g, j) < x
 }
 
 // An earlier left monomial gives the same pair beside one of the n right ones. Most have no earlier kin, and are looked at once.
@@ -150,9 +133,10 @@ fn right_again(f: &[u64], g: &[u64], i: usize, j: usize, x: u64) -> bool
     ensures { result ≡ pick (eqb ((facts_in f.now).total i) x) (kin_within (facts_in g.now) j j x) (kin_with (facts_in g.now) j j x) }
 {
     if total_at(f, i) == x {
-        return kin_within(g, j, j, x);
+        kin_within(g, j, j, x)
+    } else {
+        kin_with(g, j, j, x)
     }
-    kin_with(g, j, j, x)
 }
 
 // An earlier pair is the same after padding.
@@ -161,10 +145,7 @@ fn again(f: &[u64], g: &[u64], n: usize, i: usize, j: usize) -> bool
     ensures { result ≡ again (facts_in f.now) (facts_in g.now) n i j }
 {
     let x = common(f, g, i, j);
-    if left_again(f, g, n, i, j, x) {
-        return true;
-    }
-    right_again(f, g, i, j, x)
+    left_again(f, g, n, i, j, x) || right_again(f, g, i, j, x)
 }
 
 // It is passed over, and no earlier one is the same.
@@ -172,20 +153,14 @@ fn is_counted(id: usize, f: &[u64], g: &[u64], n: usize, i: usize, j: usize) -> 
     requires { (4 * i + 3 < length f.now) × (4 * j + 3 < length g.now) × (4 * n ≤ length g.now) }
     ensures { result ≡ counts id (facts_in f.now) (facts_in g.now) n i j }
 {
-    if is_over(id, f, g, i, j) {
-        return !again(f, g, n, i, j);
-    }
-    false
+    is_over(id, f, g, i, j) && !again(f, g, n, i, j)
 }
 
 // ---- all pairs
 fn one(b: bool) -> u64
     ensures { (result ≡ pick b 1 0) × (result ≤ 1) }
 {
-    if b {
-        return 1;
-    }
-    0
+    u64::from(b)
 }
 
 // Left monomial i beside n right ones.

@@ -3,8 +3,8 @@ use Rattle.std.specs.Prelude.{◌≡◌, true, false, List, [], ◌∷◌, ℕ, 
 use Rattle.spec.specs.Bytes.{pick, Two}
 use Rattle.spec.specs.Pool as P
 use Rattle.term_order.specs.declared.Children.{Children}
-use Rattle.term_order.specs.declared.Order.{Order}
-use Rattle.term_order.specs.declared.Order.TheVariants as O
+use Rattle.std.specs.declared.cmp.Ordering.{Ordering}
+use Rattle.std.specs.declared.cmp.Ordering.TheVariants as O
 
 -- how long the child list is when it is expanded
 unfoldable pub times_of : List ℕ → ℕ
@@ -28,7 +28,7 @@ pub record Differs (r : Children) (d : Two) : Type 0 where
   pub left : r.left ≡ d.0
   pub right : r.right ≡ d.1
 
-abbrev pub order_of : P.Order → Order
+abbrev pub order_of : P.Order → Ordering
 order_of P.less = O.Less
 order_of P.equal = O.Equal
 order_of P.greater = O.Greater

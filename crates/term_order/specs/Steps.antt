@@ -1,5 +1,5 @@
 -- One step of `structural_cmp`: the heads decide, or the first children that differ do.
-use Rattle.std.specs.Prelude.{◌≡◌, refl, ◌≢◌, List, ℕ, zero, suc, ◌+◌, ◌-◌, ◌/◌, ◌%◌, ◌<◌, length}
+use Rattle.std.specs.Prelude.{◌≡◌, refl, ◌≢◌, List, ℕ, suc, ◌+◌, ◌-◌, ◌/◌, ◌%◌, ◌<◌, length}
 use Rattle.std.proofs.Common.{sym, ap, ap₂, ◌∙◌, arith, eq-eqb, ne_eqb, lt-ltb, le-ltb}
 use Rattle.std.proofs.Math.Decide.{dec_lt}
 use Rattle.std.proofs.lemmas.List.{length-map}
@@ -8,7 +8,7 @@ use Rattle.pools.specs.Pool.{NodeValid}
 use Rattle.terms.specs.Buffers.{unpack, pool_of, node_in, part_in, head_in, value_in, count_in}
 use Rattle.terms.specs.Chains.{Holds}
 use Rattle.term_order.specs.Comparing.{times_of, diff_numbers, order_of}
-use Rattle.term_order.specs.declared.Order.TheVariants as O
+use Rattle.std.specs.declared.cmp.Ordering.TheVariants as O
 use Rattle.terms.specs.PoolLaws.{pool-at, pool-length}
 use Rattle.term_order.specs.CompareLaws.{times-expanded, Decides, decides}
 use Rattle.term_order.specs.declared.Step.{Step}

@@ -9,12 +9,7 @@ ghost use Rattle.terms.specs.Chains.{Holds};
 ghost use Rattle.term_order.specs.Comparing.{times_of, head_child, apart_numbers, diff_numbers, Differs, order_of};
 ghost use Rattle.term_order.specs.Steps.{Steps};
 
-#[derive(Clone, Copy)]
-pub enum Order {
-    Less,
-    Equal,
-    Greater,
-}
+use std::cmp::Ordering;
 
 // what decides between two terms: their heads, or the first children that differ
 #[derive(Clone, Copy)]
@@ -46,10 +41,7 @@ fn child_at(runs: &[u64], i: usize, end: usize) -> usize
     requires { end ≤ length runs.now }
     ensures { result ≡ head_child (part runs.now i (end - i)) }
 {
-    if i < end {
-        return terms::child(runs[i]);
-    }
-    0
+    if i < end { terms::child(runs[i]) } else { 0 }
 }
 
 // the first children that differ where the runs at i and j do
@@ -79,16 +71,14 @@ fn differ(runs: &[u64], i0: usize, m: usize, j0: usize, n: usize) -> Children
     requires { (m ≤ length runs.now) × (n ≤ length runs.now) }
     ensures { Differs result (diff_numbers (part runs.now i0 (m - i0)) (part runs.now j0 (n - j0))) }
 {
-    let mut i = i0;
     let mut j = j0;
-    while i < m {
+    for i in i0..m {
         if j >= n {
             return Children { left: 0, right: 0 };
         }
         if runs[i] != runs[j] {
             return apart(runs, i, m, j, n);
         }
-        i += 1;
         j += 1;
     }
     Children { left: 0, right: 0 }
@@ -140,12 +130,12 @@ fn compare_step(terms: &[u32], runs: &[u64], a: usize, b: usize) -> Step
 }
 
 // From two terms to the first children that differ, until heads decide
-pub fn structural_cmp(terms: &[u32], runs: &[u64], x: usize, y: usize) -> Order
+pub fn structural_cmp(terms: &[u32], runs: &[u64], x: usize, y: usize) -> Ordering
     requires { Holds terms.now runs.now × (x < count_in terms.now) × (y < count_in terms.now) }
     ensures { result ≡ order_of (structural_cmp (count_in terms.now) (pool_of terms.now runs.now) x y) }
 {
     if x == y {
-        return Order::Equal;
+        return Ordering::Equal;
     }
     let mut a = x;
     let mut b = y;
@@ -153,10 +143,10 @@ pub fn structural_cmp(terms: &[u32], runs: &[u64], x: usize, y: usize) -> Order
         let s = compare_step(terms, runs, a, b);
         match s {
             Step::Before => {
-                return Order::Less;
+                return Ordering::Less;
             }
             Step::After => {
-                return Order::Greater;
+                return Ordering::Greater;
             }
             Step::RunsBelow(c, d) => {
                 a = c;

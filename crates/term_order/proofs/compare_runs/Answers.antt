@@ -1,14 +1,6 @@
 use Rattle.term_order.specs.Steps.{step-length-less, step-length-greater, step-below}
 use Rattle.terms.specs.PoolLaws.{span_fits}
-use borrow.Author.Tests.{lt-ltb, le-ltb, le-leb, lt-leb, eq-eqb, ne_eqb}
-use Prim.Native.Nat.{ℕ, zero, suc, ◌≤◌, ◌<◌, ◌-◌, ◌+◌, ◌*◌, ◌^◌}
 use native.Mathlib.Omega.{arith}
-use native.Mathlib.Numerals.{add-one}
-use mathlib.Core.Path.{◌≡◌, refl, ap, sym, ◌∙◌}
-use mathlib.Core.Logic.{⊎_elim}
-use mathlib.Core.List.{List, [], ◌∷◌, ◌++◌, append-nil}
-use lib.ListN.{length, take, drop, get_or, set, length-set, length-take, length-drop, length-append, drop_of_length-le}
-use borrow.Author.Rules.{rules}
 use Rattle.term_order.proofs.compare_runs.Goals as goal
 
 pub counted-k-requires : goal.counted-k-requires

@@ -1,15 +1,6 @@
-use Rattle.terms.specs.Buffers.{part}
-use Rattle.term_order.specs.Comparing.{diff_numbers}
 use Rattle.term_order.specs.CompareLaws.{diff-none, diff-past, diff-turn, diff-apart, differs-by}
-use borrow.Author.Rules.{rules}
-use borrow.Author.Tests.{lt-ltb, le-ltb, le-leb, lt-leb, eq-eqb, ne_eqb}
-use Prim.Native.Nat.{ℕ, zero, suc, ◌≤◌, ◌<◌, ◌-◌, ◌+◌, ◌*◌, ◌^◌}
 use native.Mathlib.Omega.{arith}
-use native.Mathlib.Numerals.{add-one}
-use mathlib.Core.Path.{◌≡◌, refl, ap, sym, ◌∙◌}
-use mathlib.Core.Logic.{⊎_elim}
-use mathlib.Core.List.{List, [], ◌∷◌, ◌++◌, append-nil}
-use lib.ListN.{length, take, drop, get_or, set, length-set, length-take, length-drop, length-append, drop_of_length-le}
+use mathlib.Core.Path.{refl, sym, ◌∙◌}
 use Rattle.term_order.proofs.differ.Goals as goal
 
 pub loop-i-init : goal.loop-i-init
