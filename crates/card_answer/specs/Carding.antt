@@ -1,5 +1,5 @@
 -- What the parts of program `card` leave for each other.
-use Rattle.std.specs.Prelude.{◌≡◌, true, List, [], ◌∷◌, ◌++◌, ℕ, ◌+◌, ◌-◌, ◌≤◌, length, take, drop, set}
+use Rattle.std.specs.Prelude.{Result, Ok, Err, ◌≡◌, true, List, [], ◌∷◌, ◌++◌, ℕ, ◌+◌, ◌-◌, ◌≤◌, length, take, drop, set}
 use Rattle.spec.specs.Bytes.{be2, be4, place, Res, ok, refused, rule, ◌>>=◌}
 use Rattle.spec.specs.Pool.{Pool, RUNS}
 use Rattle.spec.specs.Run.{document_limits}
@@ -15,10 +15,8 @@ use Rattle.frames.specs.Printing.{Front}
 use Rattle.card_contract.specs.Calls.{Answers}
 use Rattle.card_contract.specs.declared.Answer.{Answer}
 use Rattle.card_contract.specs.declared.Answer.TheVariants.{Text, Refused}
-use Rattle.term_lines.specs.declared.Loaded.{Loaded}
-use Rattle.term_lines.specs.declared.Loaded.TheVariants as L
-use Rattle.card_answer.specs.declared.Merged.{Merged}
-use Rattle.card_answer.specs.declared.Merged.TheVariants as M
+use Rattle.term_lines.specs.declared.Fault.{Fault}
+use Rattle.term_lines.specs.declared.Fault.TheVariants as F
 
 -- room for the runs of a line, and for the pool
 pub record Staged (list terms runs : List ℕ) : Type 0 where
@@ -32,18 +30,18 @@ pub record Lent (graph pairs work flow terms runs : List ℕ) : Type 0 where
   pub staged : Staged work terms runs
 
 -- what was read of lines, as the answer
-abbrev pub merged_as : Loaded → Merged
-merged_as L.Pool = M.Pool
-merged_as L.Broken = M.Refused 17
-merged_as L.Full = M.Refused 13
+abbrev pub merged_as : Result Unit Fault → Result Unit ℕ
+merged_as (Ok tt) = Ok tt
+merged_as (Err F.Broken) = Err 17
+merged_as (Err F.Full) = Err 13
 
 -- the pool that the buffers hold, or a refusal
-abbrev pub merged_of : Pool → Merged → Res Pool
-merged_of p M.Pool = ok p
-merged_of p (M.Refused k) = refused k
+abbrev pub merged_of : Pool → Result Unit ℕ → Res Pool
+merged_of p (Ok tt) = ok p
+merged_of p (Err k) = refused k
 
 -- what is read of a listing's lines
-pub record ReadsBehind (listing terms' runs' : List ℕ) (r : Merged) : Type 0 where
+pub record ReadsBehind (listing terms' runs' : List ℕ) (r : Result Unit ℕ) : Type 0 where
   pub answer : merged_of (pool_of terms' runs') r ≡ read_lines document_limits (behind_first listing)
   pub holds : Holds terms' runs'
 
@@ -51,9 +49,9 @@ pub record ReadsBehind (listing terms' runs' : List ℕ) (r : Merged) : Type 0 w
 abbrev pub lines_asked : List ℕ → Res Pool
 lines_asked q = merge_of true (take (be4 q 0 + 4) q) (be2 q (be4 q 0 + 4)) (be2 q (be4 q 0 + 4 + 2)) (be4 q (be4 q 0 + 4 + 4)) LISTING >>= λ l. read_lines document_limits (behind_first l)
 
-pub record LoadsMerge (q terms' runs' : List ℕ) (r : Merged) : Type 0 where
+pub record LoadsMerge (q terms' runs' : List ℕ) (r : Result Unit ℕ) : Type 0 where
   pub answer : merged_of (pool_of terms' runs') r ≡ lines_asked q
-  pub holds : r ≡ M.Pool → Holds terms' runs'
+  pub holds : r ≡ Ok tt → Holds terms' runs'
 
 -- ---- the answer, without its line feed
 unfoldable pub card_asked : List ℕ → Res (List ℕ)

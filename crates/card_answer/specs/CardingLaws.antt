@@ -1,5 +1,5 @@
 -- What the parts of program `card` give together.
-use Rattle.std.specs.Prelude.{◌≡◌, Bool, not, List, [], ◌∷◌, ◌++◌, ℕ, zero, suc, ◌+◌, ◌-◌, ◌≤◌, ◌<◌, leb, get_or, drop, set, replicate}
+use Rattle.std.specs.Prelude.{Result, Ok, Err, ◌≡◌, Bool, not, List, [], ◌∷◌, ◌++◌, ℕ, zero, suc, ◌+◌, ◌-◌, ◌≤◌, ◌<◌, leb, get_or, drop, set, replicate}
 use Rattle.std.proofs.Math.Path.{refl, sym, ap}
 use Rattle.std.proofs.Common.{◌∙◌, append_assoc, arith, add-one, length-append, length-drop, take-append-drop, drop-drop}
 use Rattle.std.proofs.Math.Bool.{true, false}
@@ -35,14 +35,12 @@ use Rattle.terms.specs.Buffers.{pool_of, count_in}
 use Rattle.terms.specs.PoolLaws.{pool-length}
 use Rattle.terms.specs.Chains.{Holds, Rooms}
 use Rattle.term_lines.specs.Loading.{Loads}
-use Rattle.term_lines.specs.declared.Loaded.{Loaded}
-use Rattle.term_lines.specs.declared.Loaded.TheVariants as L
+use Rattle.term_lines.specs.declared.Fault.{Fault}
+use Rattle.term_lines.specs.declared.Fault.TheVariants as F
 use Rattle.contract.specs.Merges as merging
 use Rattle.card_contract.specs.Calls as calls
 use Rattle.card_buffers.specs.BufferLaws.{roomy}
 use Rattle.card_answer.specs.Carding.{Staged, merged_as, merged_of, ReadsBehind, lines_asked, LoadsMerge, card_asked, Short, AnswersCard, Feeds, Responds, Lent}
-use Rattle.card_answer.specs.declared.Merged.{Merged}
-use Rattle.card_answer.specs.declared.Merged.TheVariants as M
 
 -- ---- the place behind the first line
 module _ (s : List ℕ) (i : ℕ) where
@@ -65,15 +63,15 @@ pub behind-none : (s : List ℕ) (i : ℕ) → length s ≤ i → i + 0 ≡ plac
 behind-none s i h e = let z : length s ≤ suc (place (eqb 10) s) = omega (arith, e, h) in drop_of_length-le s h ∙ sym (drop_of_length-le s z)
 
 -- ---- the lines behind a listing's first one
-pub reads-behind : (lim : bytes.Limits) (listing s list terms runs list' terms' runs' : List ℕ) (x : Loaded) → lim ≡ document_limits → s ≡ behind_first listing → Loads lim s list terms runs list' terms' runs' x → ReadsBehind listing terms' runs' (merged_as x)
-reads-behind lim listing s list terms runs list' terms' runs' L.Pool e f A = record { answer = A.answer ∙ rw (e, f) refl; holds = A.grows.holds }
-reads-behind lim listing s list terms runs list' terms' runs' L.Broken e f A = record { answer = A.answer ∙ rw (e, f) refl; holds = A.grows.holds }
-reads-behind lim listing s list terms runs list' terms' runs' L.Full e f A = record { answer = A.answer ∙ rw (e, f) refl; holds = A.grows.holds }
+pub reads-behind : (lim : bytes.Limits) (listing s list terms runs list' terms' runs' : List ℕ) (x : Result Unit Fault) → lim ≡ document_limits → s ≡ behind_first listing → Loads lim s list terms runs list' terms' runs' x → ReadsBehind listing terms' runs' (merged_as x)
+reads-behind lim listing s list terms runs list' terms' runs' (Ok tt) e f A = record { answer = A.answer ∙ rw (e, f) refl; holds = A.grows.holds }
+reads-behind lim listing s list terms runs list' terms' runs' (Err F.Broken) e f A = record { answer = A.answer ∙ rw (e, f) refl; holds = A.grows.holds }
+reads-behind lim listing s list terms runs list' terms' runs' (Err F.Full) e f A = record { answer = A.answer ∙ rw (e, f) refl; holds = A.grows.holds }
 
 pub staged-rooms : (lim : bytes.Limits) {list terms runs : List ℕ} → lim ≡ document_limits → Staged list terms runs → Rooms lim terms runs
 staged-rooms lim e S = rw e S.rooms
 
-refused-pool : {k : ℕ} → M.Refused k ≡ M.Pool → ⊥
+refused-pool : {k : ℕ} → ◌≡◌ {A = Result Unit ℕ} (Err k) (Ok tt) → ⊥
 refused-pool e = let z : ◌≡◌ {A = ℕ} 0 1 = cc in omega arith
 
 -- ---- the merge and its lines
@@ -92,17 +90,17 @@ module _ (s out out' terms' runs' : List ℕ) (fit : Bool) (a : merge.Answer) (q
   unfolding merge_of
   asks = let z : merge_for Desk fit (take (be4 s 0 + 4) s) (be2 s (be4 s 0 + 4)) (be2 s (be4 s 0 + 4 + 2)) (be4 s (be4 s 0 + 4 + 4)) (length out) ≡ merged.answer_of out' a = sym m.answer in rw (q, w) at z
 
-  pub loads-listing : (n : ℕ) → a ≡ A.Listing n → (r : Merged) → ReadsBehind (take (n - 0) out') terms' runs' r → LoadsMerge s terms' runs' r
+  pub loads-listing : (n : ℕ) → a ≡ A.Listing n → (r : Result Unit ℕ) → ReadsBehind (take (n - 0) out') terms' runs' r → LoadsMerge s terms' runs' r
   loads-listing n e r P = let R : ReadsBehind (take n out') terms' runs' r = rw none-off at P in let z = asks ∙ ap (merged.answer_of out') e in record { answer = R.answer ∙ sym (ap (λ (x : Res (List ℕ)). x >>= λ l. read_lines document_limits (behind_first l)) z); holds = λ h. R.holds }
 
-  refused_as : (k : ℕ) → merged.answer_of out' a ≡ refused k → (r : Merged) → r ≡ M.Refused k → LoadsMerge s terms' runs' r
+  refused_as : (k : ℕ) → merged.answer_of out' a ≡ refused k → (r : Result Unit ℕ) → r ≡ Err k → LoadsMerge s terms' runs' r
   refused_as k e r f = let z = asks ∙ e in rw f (record { answer = sym (ap (λ (x : Res (List ℕ)). x >>= λ l. read_lines document_limits (behind_first l)) z); holds = λ h. absurd (refused-pool h) })
 
-  pub loads-refused : (k : ℕ) → a ≡ A.Refused k → LoadsMerge s terms' runs' (M.Refused k)
-  loads-refused k e = refused_as k (ap (merged.answer_of out') e) (M.Refused k) refl
+  pub loads-refused : (k : ℕ) → a ≡ A.Refused k → LoadsMerge s terms' runs' (Err k)
+  loads-refused k e = refused_as k (ap (merged.answer_of out') e) (Err k) refl
 
-  pub loads-doubled : (c : ℕ) → a ≡ A.Doubled c → LoadsMerge s terms' runs' (M.Refused 10)
-  loads-doubled c e = refused_as 10 (ap (merged.answer_of out') e) (M.Refused 10) refl
+  pub loads-doubled : (c : ℕ) → a ≡ A.Doubled c → LoadsMerge s terms' runs' (Err 10)
+  loads-doubled c e = refused_as 10 (ap (merged.answer_of out') e) (Err 10) refl
 
   pub listing-inside : (n : ℕ) → a ≡ A.Listing n → n ≤ length out'
   listing-inside n e = rw e at m.carries
@@ -189,7 +187,7 @@ module _ (s : List ℕ) (e : ℕ) (is : e ≡ be4 s 0 + 4) (T : tabled s ≡ tru
   unfolding card_asked
   not-asked f out r g = refused-answer s out r 2 (second-no (tabled s) (asked (behind s)) _ T (sym framed-asked ∙ f)) g
 
-  module _ (F : framed part ≡ true) (terms' runs' : List ℕ) (m : Merged) (A : LoadsMerge part terms' runs' m) where
+  module _ (F : framed part ≡ true) (terms' runs' : List ℕ) (m : Result Unit ℕ) (A : LoadsMerge part terms' runs' m) where
     lines : merged_of (pool_of terms' runs') m ≡ lines_asked (behind s)
     lines = A.answer ∙ ap lines_asked part-is
 
@@ -197,17 +195,17 @@ module _ (s : List ℕ) (e : ℕ) (is : e ≡ be4 s 0 + 4) (T : tabled s ≡ tru
     unfolding card_asked card_from
     card = both_yes (tabled s) (asked (behind s)) _ T (sym framed-asked ∙ F) ∙ ap (card_from s) (sym lines)
 
-    pub load-refused : (k : ℕ) → m ≡ M.Refused k → (out : List ℕ) (r : Answer) → r ≡ Refused k → AnswersCard s out out r
+    pub load-refused : (k : ℕ) → m ≡ Err k → (out : List ℕ) (r : Answer) → r ≡ Refused k → AnswersCard s out out r
     unfolding card_from
-    load-refused k f out r g = refused-answer s out r k (card ∙ ap (λ (x : Merged). card_from s (merged_of (pool_of terms' runs') x)) f) g
+    load-refused k f out r g = refused-answer s out r k (card ∙ ap (λ (x : Result Unit ℕ). card_from s (merged_of (pool_of terms' runs') x)) f) g
 
-    pub last-ready : m ≡ M.Pool → (marks : ℕ) → 32768 ≤ marks → Holds terms' runs' × (0 < count_in terms') × (count_in terms' ≤ marks)
+    pub last-ready : m ≡ Ok tt → (marks : ℕ) → 32768 ≤ marks → Holds terms' runs' × (0 < count_in terms') × (count_in terms' ≤ marks)
     last-ready f marks h =
         let z : lines_asked part ≡ ok (pool_of terms' runs') = sym A.answer ∙ ap (merged_of (pool_of terms' runs')) f in
         let H = A.holds f in
         (H, omega (arith, lines-some (merge_asked part) (pool_of terms' runs') z, pool-length terms' runs'), omega (arith, H.few))
 
-    pub card-written : m ≡ M.Pool → (out ys table : List ℕ) (r : Answer) → length out ≡ 65537 → table ≡ take (e - 4) (drop 4 s) → length ys ≡ length (take 65536 out)
+    pub card-written : m ≡ Ok tt → (out ys table : List ℕ) (r : Answer) → length out ≡ 65537 → table ≡ take (e - 4) (drop 4 s) → length ys ≡ length (take 65536 out)
         → Answers (write_card table (pool_of terms' runs') (count_in terms' - 1) (length (take 65536 out))) (take 65536 out) ys r → AnswersCard s out (ys ++ drop 65536 out) r
     unfolding card_from
     card-written f out ys table r w t g B =
@@ -216,7 +214,7 @@ module _ (s : List ℕ) (e : ℕ) (is : e ≡ be4 s 0 + 4) (T : tabled s ≡ tru
         let l : length ys ≡ 65536 = g ∙ n in
         let u : e - 4 ≡ be4 s 0 = omega (arith, is) in
         let v : table ≡ table_of s = t ∙ ap (λ (k : ℕ). take k (drop 4 s)) u in
-        let y : card_asked s ≡ write_card (table_of s) (pool_of terms' runs') (count_in terms' - 1) 65536 = card ∙ ap (λ (x : Merged). card_from s (merged_of (pool_of terms' runs') x)) f ∙ ap (λ (c : ℕ). write_card (table_of s) (pool_of terms' runs') (c - 1) 65536) (pool-length terms' runs') in
+        let y : card_asked s ≡ write_card (table_of s) (pool_of terms' runs') (count_in terms' - 1) 65536 = card ∙ ap (λ (x : Result Unit ℕ). card_from s (merged_of (pool_of terms' runs') x)) f ∙ ap (λ (c : ℕ). write_card (table_of s) (pool_of terms' runs') (c - 1) 65536) (pool-length terms' runs') in
         let D : Answers (write_card (table_of s) (pool_of terms' runs') (count_in terms' - 1) 65536) (take 65536 out) ys r = rw (n, v) at B in
         let K : Answers (card_asked s) (take 65536 out) ys r = rw y D in
         record { answers = home (card_asked s) 65536 out ys r h l K; short = home-short (card_asked s) (take 65536 out) ys r l K }

@@ -13,7 +13,7 @@ use card_contract::Answer;
 use frames::{image_length, is_framed, query_of, refusal};
 use spec::Caller;
 use table_frames::{is_tabled, table_end};
-use term_lines::Loaded;
+use term_lines::Fault;
 use work_clearing::clear_all;
 
 // A listing that is longer is refused by 14 (docs/DECISIONS.md 53).
@@ -22,40 +22,36 @@ const LISTING: usize = 400000;
 // the longest card
 const CARD: usize = 65536;
 
-// the pool's buffers hold the formula's terms, the last one is the formula; or a refusal
-#[derive(Clone, Copy)]
-enum Merged {
-    Pool,
-    Refused(u8),
-}
-
 // the place behind the first line
 fn first_end(s: &[u8]) -> usize
     ensures { (result ≤ length s.now) × (drop result s.now ≡ behind_first s.now) }
 {
-    let mut i = 0;
-    while i < s.len() {
-        if s[i] == 10 {
+    for i in 0..s.len() {
+        if s[i] == b'\n' {
             return i + 1;
         }
-        i += 1;
     }
-    i
+    s.len()
 }
 
-// what was read of lines, as the answer
-fn merged_of(x: Loaded) -> Merged
+// what was read of lines, with the refusal's number
+fn merged_of(x: Result<(), Fault>) -> Result<(), u8>
     ensures { result ≡ merged_as x }
 {
     match x {
-        Loaded::Pool => Merged::Pool,
-        Loaded::Broken => Merged::Refused(17),
-        Loaded::Full => Merged::Refused(13),
+        Ok(()) => Ok(()),
+        Err(Fault::Broken) => Err(17),
+        Err(Fault::Full) => Err(13),
     }
 }
 
-// the lines behind a listing's first one, into the pool's buffers
-fn read_behind(listing: &[u8], list: &mut [u64], terms: &mut [u32], runs: &mut [u64]) -> Merged
+// the lines behind a listing's first one, into the pool's buffers: the formula's terms, the last one is the formula; or a refusal's number
+fn read_behind(
+    listing: &[u8],
+    list: &mut [u64],
+    terms: &mut [u32],
+    runs: &mut [u64],
+) -> Result<(), u8>
     requires { Staged list.old terms.old runs.old }
     ensures { ReadsBehind listing.now terms.new runs.new result }
 {
@@ -74,7 +70,7 @@ fn load(
     flow: &mut [u64],
     terms: &mut [u32],
     runs: &mut [u64],
-) -> Merged
+) -> Result<(), u8>
     requires { (framed input.now ≡ true) × Lent graph.old pairs.old work.old flow.old terms.old runs.old }
     ensures { LoadsMerge input.now terms.new runs.new result }
 {
@@ -94,8 +90,8 @@ fn load(
     );
     match a {
         contract::Answer::Listing(m) => read_behind(&listing[0..m], work, terms, runs),
-        contract::Answer::Refused(k) => Merged::Refused(k),
-        contract::Answer::Doubled(c) => Merged::Refused(10),
+        contract::Answer::Refused(k) => Err(k),
+        contract::Answer::Doubled(c) => Err(10),
     }
 }
 
@@ -126,10 +122,9 @@ fn answer_to(
     if !is_framed(&input[e..]) {
         return refuse(2);
     }
-    let m = load(&input[e..], graph, pairs, work, flow, terms, runs);
-    match m {
-        Merged::Pool => last_card::write_last(&input[4..e], terms, runs, graph, &mut out[0..CARD]),
-        Merged::Refused(k) => refuse(k),
+    match load(&input[e..], graph, pairs, work, flow, terms, runs) {
+        Ok(()) => last_card::write_last(&input[4..e], terms, runs, graph, &mut out[0..CARD]),
+        Err(k) => refuse(k),
     }
 }
 

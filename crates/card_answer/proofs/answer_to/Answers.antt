@@ -31,8 +31,8 @@ returns-then-not-is_framed c =
     not-asked s t.result t.ensures.0 T _ (part_to_end s t.result) F c.args.out.now _ c.refuse-then-not-is_framed.ensures
 
 -- src/lib.rt:133:9
-pub load-m-requires : goal.load-m-requires
-load-m-requires c =
+pub load-requires : goal.load-requires
+load-requires c =
     (sym c.is_framed.ensures ∙ c.if-not-is_framed.false, c.requires.0)
 
 -- src/lib.rt:135:25
@@ -42,22 +42,22 @@ write_last-requires c =
     let t = c.table_end-e in
     let T = sym c.is_tabled.ensures ∙ c.if-not-is_tabled.false in
     let F = sym c.is_framed.ensures ∙ c.if-not-is_framed.false in
-    last-ready s t.result t.ensures.0 T _ (part_to_end s t.result) F _ _ _ c.load-m.ensures c.in-Pool.is _ (at_least _ _ c.load-m.auto.graph c.requires.0.marks)
+    last-ready s t.result t.ensures.0 T _ (part_to_end s t.result) F _ _ _ c.load.ensures c.in-Ok.is _ (at_least _ _ c.load.auto.graph c.requires.0.marks)
 
 -- src/lib.rt:113:1
-pub returns-in-Pool : goal.returns-in-Pool
-returns-in-Pool c =
+pub returns-in-Ok : goal.returns-in-Ok
+returns-in-Ok c =
     let s = c.args.input.now in
     let t = c.table_end-e in
     let T = sym c.is_tabled.ensures ∙ c.if-not-is_tabled.false in
     let F = sym c.is_framed.ensures ∙ c.if-not-is_framed.false in
-    card-written s t.result t.ensures.0 T _ (part_to_end s t.result) F _ _ _ c.load-m.ensures c.in-Pool.is c.args.out.now _ _ _ c.requires.1 refl c.write_last.auto.out c.write_last.ensures.0
+    card-written s t.result t.ensures.0 T _ (part_to_end s t.result) F _ _ _ c.load.ensures c.in-Ok.is c.args.out.now _ _ _ c.requires.1 refl c.write_last.auto.out c.write_last.ensures.0
 
 -- src/lib.rt:113:1
-pub returns-in-Refused : goal.returns-in-Refused
-returns-in-Refused c =
+pub returns-in-Err : goal.returns-in-Err
+returns-in-Err c =
     let s = c.args.input.now in
     let t = c.table_end-e in
     let T = sym c.is_tabled.ensures ∙ c.if-not-is_tabled.false in
     let F = sym c.is_framed.ensures ∙ c.if-not-is_framed.false in
-    load-refused s t.result t.ensures.0 T _ (part_to_end s t.result) F _ _ _ c.load-m.ensures c.in-Refused.k c.in-Refused.is c.args.out.now _ c.refuse-in-Refused.ensures
+    load-refused s t.result t.ensures.0 T _ (part_to_end s t.result) F _ _ _ c.load.ensures c.in-Err.k c.in-Err.is c.args.out.now _ c.refuse-in-Err.ensures

@@ -27,4 +27,4 @@ pub returns : goal.returns
 returns c =
     let s = c.args.s.now in
     let i = c.loop-i.i in
-    (omega arith, behind-none s i (omega arith) (omega (arith, c.loop-i.invariant.1, feed-never s i (omega arith))))
+    (omega arith, behind-none s (length s) (omega arith) (omega (arith, c.loop-i.invariant.1, feed-never s i (omega arith))))

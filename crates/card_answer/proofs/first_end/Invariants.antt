@@ -11,6 +11,3 @@ use Rattle.card_answer.proofs.first_end.Given as goal
 -- no line feed before place i
 abbrev pub invariant-loop-i : goal.invariant-loop-i
 invariant-loop-i l = (l.i ≤ length l.s) × (l.i + place (eqb 10) (drop l.i l.s) ≡ place (eqb 10) l.s)
-
-abbrev pub decreases-loop-i : goal.decreases-loop-i
-decreases-loop-i l = length l.s - l.i
