@@ -100,12 +100,10 @@ fn write_again(out: &mut [u8], at: usize, from: usize, to: usize) -> usize
     requires { (from ≤ to) × (to ≤ at) × (at + (to - from) ≤ length out.old) }
     ensures { Wrote (take (to - from) (drop from out.old)) out.old at out.new result }
 {
-    let mut i = 0;
-    while i < to - from {
+    for i in 0..to - from {
         out[at + i] = out[from + i];
-        i += 1;
     }
-    at + i
+    at + (to - from)
 }
 
 // the child whose text stands at places from .. to - 1, n times more

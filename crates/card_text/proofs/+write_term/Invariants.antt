@@ -1,4 +1,3 @@
-use Rattle.std.proofs.Common.{◌-◌}
 use Rattle.card_text.specs.TermLaws.{Series}
 use Rattle.card_text.proofs.+write_term.Given as goal
 
@@ -7,6 +6,3 @@ decreases-write_term l = l.a
 
 abbrev pub invariant-loop-i : goal.invariant-loop-i
 invariant-loop-i l = Series l.table l.terms l.runs l.h l.from l.to l.initial.out l.initial.at l.out l.at l.i
-
-abbrev pub decreases-loop-i : goal.decreases-loop-i
-decreases-loop-i l = l.to - l.i

@@ -1,5 +1,6 @@
 use native.Mathlib.Omega.{arith}
-use mathlib.Core.Path.{refl}
+use Prim.Native.Nat.{◌-◌}
+use mathlib.Core.Path.{◌≡◌, refl}
 use lib.ListN.{length-set}
 use lib.Seq.{paste-zero}
 use Rattle.card_text.specs.CopyLaws.{bytes_at, again-turn, again-end}
@@ -22,4 +23,5 @@ returns c =
     let a = c.args in
     let l = c.loop-i in
     let p = c.requires in
-    again-end a.out.now a.at a.from a.to p.0 p.1 p.2 l.i (omega arith) l.invariant.2
+    let e : l.i ≡ a.to - a.from = omega arith in
+    again-end a.out.now a.at a.from a.to p.0 p.1 p.2 (a.to - a.from) refl (rw e at l.invariant.2)

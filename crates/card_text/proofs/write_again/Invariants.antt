@@ -7,6 +7,3 @@ use Rattle.card_text.proofs.write_again.Given as goal
 
 abbrev pub invariant-loop-i : goal.invariant-loop-i
 invariant-loop-i l = (l.i ≤ l.to - l.from) × (length l.out ≡ length l.initial.out) × (l.out ≡ paste l.initial.out l.at (bytes_at l.initial.out l.from l.to) l.i)
-
-abbrev pub decreases-loop-i : goal.decreases-loop-i
-decreases-loop-i l = l.to - l.from - l.i
