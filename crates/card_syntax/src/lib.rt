@@ -177,6 +177,6 @@ pub fn is_formula(table: &[u8], binds: &[u8; 64], text: &[u8], frames: &mut [u64
     ensures { (result ≡ is_formula table.now text.now) × (frames.new ≡ replicate (length frames.old) 0) }
 {
     let r = read(table, binds, text, frames);
-    clearing::clear_u64(frames);
+    frames.fill(0);
     r
 }

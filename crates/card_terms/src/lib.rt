@@ -328,6 +328,6 @@ pub fn enter_terms(
     ensures { Ends terms.old runs.old terms.new runs.new (enter_text (limits_of lim) table.now (pool_of terms.old runs.old) text.now) result × (frames.new ≡ replicate (length frames.old) 0) }
 {
     let r = read_terms(lim, table, binds, text, frames, terms, runs);
-    clearing::clear_u64(frames);
+    frames.fill(0);
     r
 }

@@ -24,7 +24,6 @@ use ac_repr::{Walk, first, next};
 use actions::{State, count, left_class, right_class};
 use arrays::{left_at, right_at};
 use budget::Budget;
-use clearing::clear_u16;
 use entering::enter_pair;
 use enumeration::{seek, start};
 use image::Image;
@@ -266,15 +265,15 @@ pub fn build(
     requires { Loaded s.now im × Valid (tables_of s.now) × (l < im.classes) × (r < im.classes) × (im.classes * im.classes + lim.pairs ≤ length graph.old) × (lim.pairs ≤ 4096) }
     ensures { Builds im.classes (skipped_in (limits_of lim) (tables_of s.now) (l, r) budget.left) (build (limits_of lim) (tables_of s.now) (l, r) budget.left) graph.old graph.new result }
 {
-    clear_u16(graph);
+    graph.fill(0);
     match build_first(lim, s, im, l, r, budget, graph) {
         Some(Built::All(n, b, k)) => Some(Built::All(n, b, k)),
         Some(Built::Cut(k)) => {
-            clear_u16(graph);
+            graph.fill(0);
             Some(Built::Cut(k))
         }
         None => {
-            clear_u16(graph);
+            graph.fill(0);
             None
         }
     }

@@ -197,6 +197,6 @@ pub fn read_lines(
 {
     terms::empty(terms);
     let r = add_lines(lim, text, list, terms, runs);
-    clearing::clear_u64(list);
+    list.fill(0);
     r
 }

@@ -9,4 +9,4 @@ add_lines-r-requires c =
     (c.requires.0, h, r, z)
 
 pub returns : goal.returns
-returns c = loads (length c.add_lines-r.new.list) c.empty.ensures c.add_lines-r.ensures c.clear_u64.ensures (search rules)
+returns c = loads (length c.add_lines-r.new.list) c.empty.ensures c.add_lines-r.ensures (search rules) (search rules)
