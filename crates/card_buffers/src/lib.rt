@@ -31,8 +31,8 @@ pub fn short(least: usize, frames: usize, marks: usize, terms: usize, runs: usiz
 pub fn clear_all(frames: &mut [u64], marks: &mut [u16], terms: &mut [u32], runs: &mut [u64])
     ensures { Cleared true frames.old frames.new marks.old marks.new terms.old terms.new runs.old runs.new }
 {
-    clearing::clear_u64(frames);
-    clearing::clear_u16(marks);
-    clearing::clear_u32(terms);
-    clearing::clear_u64(runs);
+    frames.fill(0);
+    marks.fill(0);
+    terms.fill(0);
+    runs.fill(0);
 }

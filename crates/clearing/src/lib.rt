@@ -1,4 +1,4 @@
-// "Every number zero": one loop for each width.
+// "Every number zero", of each width.
 #![tactic(auto)]
 
 ghost use Rattle.std.specs.Prelude.{◌≡◌, length, replicate};
@@ -6,23 +6,17 @@ ghost use Rattle.std.specs.Prelude.{◌≡◌, length, replicate};
 pub fn clear_u16(s: &mut [u16])
     ensures { s.new ≡ replicate (length s.old) 0 }
 {
-    for k in 0..s.len() {
-        s[k] = 0u16;
-    }
+    s.fill(0u16);
 }
 
 pub fn clear_u32(s: &mut [u32])
     ensures { s.new ≡ replicate (length s.old) 0 }
 {
-    for k in 0..s.len() {
-        s[k] = 0u32;
-    }
+    s.fill(0u32);
 }
 
 pub fn clear_u64(s: &mut [u64])
     ensures { s.new ≡ replicate (length s.old) 0 }
 {
-    for k in 0..s.len() {
-        s[k] = 0u64;
-    }
+    s.fill(0u64);
 }

@@ -74,5 +74,5 @@ pub fn empty(terms: &mut [u32])
     requires { LEAST ≤ length terms.old }
     ensures { terms.new ≡ emptied terms.old }
 {
-    clearing::clear_u32(&mut terms[0..LEAST]);
+    terms[..LEAST].fill(0);
 }

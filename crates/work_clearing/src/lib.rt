@@ -14,10 +14,10 @@ pub fn clear_all(
 )
     ensures { Cleared graph.old pairs.old work.old flow.old terms.old runs.old graph.new pairs.new work.new flow.new terms.new runs.new }
 {
-    clearing::clear_u16(graph);
-    clearing::clear_u32(pairs);
-    clearing::clear_u64(work);
-    clearing::clear_u64(flow);
-    clearing::clear_u32(terms);
-    clearing::clear_u64(runs);
+    graph.fill(0);
+    pairs.fill(0);
+    work.fill(0);
+    flow.fill(0);
+    terms.fill(0);
+    runs.fill(0);
 }

@@ -1,6 +1,5 @@
 use Rattle.best_rules.proofs.BestLaws.{best-below, best-above, size_none, size-large, size-left, best-room}
 use Rattle.spec.specs.Image.{tables_of, the_class}
-use borrow.Author.Rules.{rules}
 use Rattle.best_rules.proofs.best_right.Goals as goal
 
 pub returns-then-b-from : goal.returns-then-b-from

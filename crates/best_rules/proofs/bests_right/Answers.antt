@@ -2,13 +2,9 @@ use mathlib.Core.Path.{ap}
 use mathlib.Core.Bool.{not}
 use Rattle.image.specs.Loaded.{classes-many}
 use Rattle.laws.specs.AcceptedTurns.{all_go, all-stop, all_end, failed, passed}
-use Rattle.spec.specs.Bytes.{all}
 use Rattle.spec.specs.Image.{best_right, tables_of}
-use borrow.Author.Rules.{rules}
-use Prim.Native.Nat.{◌≤◌, ◌-◌}
 use native.Mathlib.Omega.{arith}
-use mathlib.Core.Path.{◌≡◌, refl, sym, ◌∙◌}
-use lib.ListN.{drop}
+use mathlib.Core.Path.{refl, sym, ◌∙◌}
 use Rattle.best_rules.proofs.bests_right.Goals as goal
 
 pub loop-c-init : goal.loop-c-init

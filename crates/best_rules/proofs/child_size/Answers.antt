@@ -3,7 +3,6 @@ use Rattle.spec.specs.Image.{tables_of}
 use Prim.Native.Nat.{ℕ}
 use native.Mathlib.Omega.{arith}
 use mathlib.Core.Path.{refl, ap}
-use borrow.Author.Rules.{rules}
 use Rattle.best_rules.proofs.child_size.Goals as goal
 
 pub best_size-requires : goal.best_size-requires

@@ -1,14 +1,9 @@
 use Rattle.span_rules.specs.Within.{own-within, own_room}
 use Rattle.best_rules.proofs.BestLaws.{child_size, size-start, size-over, own-sum, own-none, child-room}
-use Rattle.spec.specs.Image.{BEST-SIZE, children_of, size_over, tables_of, the_member}
-use Rattle.spec.specs.Bytes.{sum as total}
-use mathlib.Core.List.{map}
+use Rattle.spec.specs.Image.{children_of, size_over, tables_of, the_member}
 use lib.Dec.{eqb}
-use borrow.Author.Rules.{rules}
-use Prim.Native.Nat.{◌≤◌, ◌-◌, ◌+◌}
 use native.Mathlib.Omega.{arith}
-use mathlib.Core.Path.{◌≡◌, ap}
-use lib.ListN.{drop}
+use mathlib.Core.Path.{ap}
 use Rattle.best_rules.proofs.size_right.Goals as goal
 
 pub loop-i-init : goal.loop-i-init

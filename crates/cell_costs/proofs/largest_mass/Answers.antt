@@ -22,9 +22,6 @@ mass_of-requires c =
     let (x, y) = cell-within a.left.now a.rows a.right.now a.cols c.requires.1 c.loop-k.k (omega (arith, c.loop-k.invariant.1, c.loop-k-test.true)) {w = a.w} c.requires.2 c.cell-p.result.left c.cell-p.result.right c.cell-p.ensures in
     (c.requires.0, x, y)
 
-pub overflow_add-k : goal.overflow_add-k
-overflow_add-k c = let a = c.args in record { fits = omega (arith, c.loop-k.invariant.1, c.loop-k-test.true, cells-few a.left.now a.rows a.right.now a.cols c.requires.1) }
-
 pub loop-k-smaller : goal.loop-k-smaller
 loop-k-smaller c = omega (arith, c.loop-k-test.true)
 

@@ -65,9 +65,6 @@ bounds-demand-k c =
 pub lay_cell-requires : goal.lay_cell-requires
 lay_cell-requires c = (omega (arith, c.loop-k.invariant.1, c.loop-k-test.true, c.loop-k.invariant.2.size, c.requires.7), c.requires.6)
 
-pub overflow_add-k : goal.overflow_add-k
-overflow_add-k c = let a = c.args in record { fits = omega (arith, c.loop-k.invariant.1, c.loop-k-test.true, cells-few a.left.now a.rows a.right.now a.cols c.requires.1) }
-
 pub loop-k-smaller : goal.loop-k-smaller
 loop-k-smaller c = omega (arith, c.loop-k-test.true)
 

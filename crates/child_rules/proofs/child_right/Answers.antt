@@ -1,7 +1,6 @@
 use Rattle.child_rules.proofs.ChildLaws.{class-wrong, none-wrong, one_right, more-right}
 use Rattle.image.specs.Loaded.{the_child, classes-many}
 use Rattle.spec.specs.Image.{tables_of}
-use borrow.Author.Rules.{rules}
 use Rattle.child_rules.proofs.child_right.Goals as goal
 
 pub returns-then-child_class-im : goal.returns-then-child_class-im

@@ -2,14 +2,10 @@ use mathlib.Core.Path.{ap}
 use mathlib.Core.Bool.{not}
 use Rattle.image.specs.Loaded.{members-many}
 use Rattle.laws.specs.AcceptedTurns.{all_go, all-stop, all_end, failed, passed}
-use Rattle.spec.specs.Bytes.{all}
 use Rattle.child_rules.specs.Member.{member_children_right, children-right}
-use Rattle.spec.specs.Image.{children_right, tables_of}
-use borrow.Author.Rules.{rules}
-use Prim.Native.Nat.{◌≤◌, ◌-◌}
+use Rattle.spec.specs.Image.{tables_of}
 use native.Mathlib.Omega.{arith}
-use mathlib.Core.Path.{◌≡◌, sym, ◌∙◌}
-use lib.ListN.{drop}
+use mathlib.Core.Path.{sym, ◌∙◌}
 use Rattle.child_rules.proofs.children_right.Goals as goal
 
 pub loop-m-init : goal.loop-m-init

@@ -4,7 +4,6 @@ use Rattle.span_rules.specs.Within.{op_room}
 use Rattle.child_rules.proofs.ChildLaws.{arity-wrong, own-left}
 use Rattle.laws.specs.AcceptedTurns.{failed, passed}
 use Rattle.spec.specs.Image.{tables_of, the_member}
-use borrow.Author.Rules.{rules}
 use Rattle.child_rules.proofs.member_children_right.Goals as goal
 
 pub kind-k-requires : goal.kind-k-requires

@@ -3,13 +3,9 @@ use mathlib.Core.Bool.{not}
 use Rattle.span_rules.specs.Within.{own-within, own_room}
 use Rattle.child_rules.proofs.ChildLaws.{own-stop, own-go, own-end}
 use Rattle.laws.specs.AcceptedTurns.{failed, passed}
-use Rattle.spec.specs.Image.{child_right, children_of, tables_of, the_member}
-use Rattle.spec.specs.Bytes.{all}
-use borrow.Author.Rules.{rules}
-use Prim.Native.Nat.{◌≤◌, ◌-◌, ◌+◌}
+use Rattle.spec.specs.Image.{child_right, tables_of, the_member}
 use native.Mathlib.Omega.{arith}
-use mathlib.Core.Path.{◌≡◌, refl, sym, ◌∙◌}
-use lib.ListN.{drop}
+use mathlib.Core.Path.{refl, sym, ◌∙◌}
 use Rattle.child_rules.proofs.own_right.Goals as goal
 
 pub loop-i-init : goal.loop-i-init

@@ -6,6 +6,3 @@ use Rattle.laying.proofs.lay_margin.Given as goal
 
 abbrev pub invariant-loop-i : goal.invariant-loop-i
 invariant-loop-i l = (l.i ≤ l.n) × Filled (counts (held l.n l.mono)) l.initial.margin l.i l.margin
-
-abbrev pub decreases-loop-i : goal.decreases-loop-i
-decreases-loop-i l = l.n - l.i

@@ -1,5 +1,4 @@
 use mathlib.Core.Path.{refl}
-use borrow.Author.Rules.{rules}
 use Rattle.operation_rules.proofs.flag_of.Goals as goal
 
 pub returns-then-is_commutative : goal.returns-then-is_commutative

@@ -4,7 +4,6 @@ use Rattle.operation_rules.proofs.OperationLaws.{identity-kind, identity-class}
 use Rattle.laws.specs.AcceptedTurns.{failed, passed}
 use borrow.Author.Tests.{eq-eqb}
 use mathlib.Core.Path.{refl}
-use borrow.Author.Rules.{rules}
 use Rattle.operation_rules.proofs.identity_right.Goals as goal
 
 pub returns-then-e-eq-NO_IDENTITY : goal.returns-then-e-eq-NO_IDENTITY

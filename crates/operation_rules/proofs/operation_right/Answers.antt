@@ -1,6 +1,5 @@
 use Rattle.spec.specs.Image.{tables_of, the_operation}
 use Rattle.operation_rules.proofs.OperationLaws.{kind-wrong, flag-wrong, flag-right}
-use borrow.Author.Rules.{rules}
 use Rattle.operation_rules.proofs.operation_right.Goals as goal
 
 pub returns-then-k-ge10 : goal.returns-then-k-ge10

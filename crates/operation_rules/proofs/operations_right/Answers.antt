@@ -3,12 +3,10 @@ use Rattle.laws.specs.AcceptedTurns.{failed, passed}
 use Rattle.image.specs.Loaded.{operations-many, classes-many}
 use Rattle.laws.specs.AcceptedTurns.{all_go, all-stop, all_end}
 use Rattle.spec.specs.Image.{operation_right, tables_of, the_operation}
-use Rattle.spec.specs.Bytes.{all}
-use borrow.Author.Rules.{rules}
-use Prim.Native.Nat.{ℕ, ◌≤◌, ◌-◌}
+use Prim.Native.Nat.{ℕ}
 use native.Mathlib.Omega.{arith}
-use mathlib.Core.Path.{◌≡◌, refl, ap, sym, ◌∙◌}
-use lib.ListN.{length, drop}
+use mathlib.Core.Path.{refl, ap, sym, ◌∙◌}
+use lib.ListN.{length}
 use Rattle.operation_rules.proofs.operations_right.Goals as goal
 
 pub loop-o-init : goal.loop-o-init

@@ -8,6 +8,3 @@ use Rattle.plan_offer.proofs.list_plan.Given as goal
 
 abbrev pub invariant-loop-k : goal.invariant-loop-k
 invariant-loop-k l = Listed (term_in l.w l.graph l.pairs) (cell_pairs (sides_of l.left l.rows l.right l.cols)) l.x l.initial.list l.k l.m l.list
-
-abbrev pub decreases-loop-k : goal.decreases-loop-k
-decreases-loop-k l = length l.x - l.k

@@ -8,6 +8,3 @@ use Rattle.plan_offer.proofs.plan_totals.Given as goal
 
 abbrev pub invariant-loop-k : goal.invariant-loop-k
 invariant-loop-k l = (l.k ≤ length l.x) × Summed (problem_at (quality_in l.w l.graph l.pairs) (sides_of l.left l.rows l.right l.cols)).cells l.x l.k l.t
-
-abbrev pub decreases-loop-k : goal.decreases-loop-k
-decreases-loop-k l = length l.x - l.k

@@ -3,14 +3,10 @@ use Rattle.span_rules.specs.Within.{class-room}
 use Rattle.image.specs.Loaded.{classes-many}
 use Rattle.laws.specs.AcceptedTurns.{rises-start}
 use Rattle.laws.specs.AcceptedSpans.{classes-within}
-use Rattle.spec.specs.Image.{members_in, rises, tables_of, the_class}
+use Rattle.spec.specs.Image.{members_in, tables_of, the_class}
 use mathlib.Core.List.{map}
-use borrow.Author.Rules.{rules}
-use Prim.Native.Nat.{◌≤◌, ◌-◌, ◌+◌}
 use native.Mathlib.Omega.{arith}
-use mathlib.Core.Path.{◌≡◌, sym, ◌∙◌}
-use mathlib.Core.List.{◌∷◌}
-use lib.ListN.{drop}
+use mathlib.Core.Path.{sym, ◌∙◌}
 use Rattle.span_rules.proofs.class_rises.Goals as goal
 
 pub loop-i-init : goal.loop-i-init

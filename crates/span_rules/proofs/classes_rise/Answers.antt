@@ -2,14 +2,10 @@ use mathlib.Core.Path.{ap}
 use mathlib.Core.Bool.{not}
 use Rattle.image.specs.Loaded.{classes-many}
 use Rattle.laws.specs.AcceptedTurns.{all_go, all-stop, all_end, failed, passed}
-use Rattle.spec.specs.Bytes.{all}
 use Rattle.spec.specs.Image.{members_in, rises, tables_of}
 use mathlib.Core.List.{map}
-use borrow.Author.Rules.{rules}
-use Prim.Native.Nat.{◌≤◌, ◌-◌}
 use native.Mathlib.Omega.{arith}
-use mathlib.Core.Path.{◌≡◌, refl, sym, ◌∙◌}
-use lib.ListN.{drop}
+use mathlib.Core.Path.{refl, sym, ◌∙◌}
 use Rattle.span_rules.proofs.classes_rise.Goals as goal
 
 pub loop-c-init : goal.loop-c-init

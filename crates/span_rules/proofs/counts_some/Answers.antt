@@ -1,14 +1,10 @@
 use Rattle.image.specs.Loaded.{classes-many}
 use Rattle.laws.specs.AcceptedTurns.{all_go, all-stop, all_end}
-use Rattle.spec.specs.Bytes.{all}
 use Rattle.spec.specs.Image.{tables_of, the_class}
 use lib.Dec.{leb}
-use borrow.Author.Rules.{rules}
 use borrow.Author.Tests.{le-leb, lt-leb}
-use Prim.Native.Nat.{◌≤◌, ◌-◌}
 use native.Mathlib.Omega.{arith}
-use mathlib.Core.Path.{◌≡◌, refl, sym, ◌∙◌}
-use lib.ListN.{drop}
+use mathlib.Core.Path.{refl, sym, ◌∙◌}
 use Rattle.span_rules.proofs.counts_some.Goals as goal
 
 pub loop-c-init : goal.loop-c-init

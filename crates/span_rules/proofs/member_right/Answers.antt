@@ -1,7 +1,6 @@
 use Rattle.span_rules.proofs.SpanLaws.{op-wrong, count-wrong, value-zero, value-other}
 use Rattle.image.specs.Loaded.{operations-many}
 use Rattle.spec.specs.Image.{tables_of, the_member}
-use borrow.Author.Rules.{rules}
 use Rattle.span_rules.proofs.member_right.Goals as goal
 
 pub returns-then-o-im : goal.returns-then-o-im

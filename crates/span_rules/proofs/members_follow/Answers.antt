@@ -3,13 +3,11 @@ use Rattle.image.specs.Loaded.{members-many, children-many}
 use Rattle.laws.specs.AcceptedTurns.{follow-end}
 use Rattle.laws.specs.AcceptedSpans.{member-span, member-spans-length}
 use Rattle.laws.specs.Valid.{member_spans}
-use Rattle.spec.specs.Image.{spans_follow, tables_of}
+use Rattle.spec.specs.Image.{tables_of}
 use lib.Dec.{eqb}
-use borrow.Author.Rules.{rules}
-use Prim.Native.Nat.{◌≤◌, ◌<◌, ◌-◌}
 use native.Mathlib.Omega.{arith}
-use mathlib.Core.Path.{◌≡◌, refl, ap, sym, ◌∙◌}
-use lib.ListN.{length, drop}
+use mathlib.Core.Path.{refl, ap, sym, ◌∙◌}
+use lib.ListN.{length}
 use Rattle.span_rules.proofs.members_follow.Goals as goal
 
 pub loop-m-init : goal.loop-m-init

@@ -6,7 +6,6 @@ use Rattle.laws.specs.AcceptedSpans.{follow-rule}
 use Rattle.laws.specs.Valid.{class_spans}
 use Rattle.spec.specs.Image.{tables_of}
 use lib.ListN.{length}
-use borrow.Author.Rules.{rules}
 use Rattle.span_rules.proofs.spans_right.Goals as goal
 
 pub returns-then-not-classes_follow : goal.returns-then-not-classes_follow
