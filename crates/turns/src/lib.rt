@@ -24,7 +24,7 @@ use ac_repr::Walk;
 use image::Image;
 use quality::Best;
 use query::Limits;
-use turn_end::Taken;
+use turn_end::Turned;
 
 // ---- the transports of a pair
 // The action at a pair of places, if there is one, offered.
@@ -107,7 +107,7 @@ fn turn(
     offer_transports(lim, s, im, graph, pairs, l, r, work, flow, b)
 }
 
-// A pair's turn over the previous round: its quality afterwards and its term; or refusal 13.
+// A pair's turn over the previous round: its quality afterwards and its term; None: refusal 13.
 pub fn take_turn(
     lim: Limits,
     s: &[u8],
@@ -120,7 +120,7 @@ pub fn take_turn(
     flow: &mut [u64],
     terms: &mut [u32],
     runs: &mut [u64],
-) -> Taken
+) -> Option<Turned>
     requires { Loaded s.now im × Valid (tables_of s.now) × (l < im.classes) × (r < im.classes) × Known im.classes graph.now pairs.now × TermsBelow im.classes graph.now pairs.now (count_in terms.old) × CellsFit (limits_of lim) (tables_of s.now) (l, r) × Scratch (limits_of lim) work.old flow.old
         × Holds terms.old runs.old × Rooms (limits_of lim) terms.old runs.old }
     ensures { Takes (limits_of lim) (tables_of s.now) (quality_in im.classes graph.now pairs.now) (term_in im.classes graph.now pairs.now) (l, r) terms.old runs.old terms.new runs.new result

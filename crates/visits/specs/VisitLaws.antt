@@ -1,5 +1,5 @@
 -- A visit, from what `take_turn` says; and what its answer says.
-use Rattle.std.specs.Prelude.{◌≡◌, refl, Bool, false, List, ℕ, ◌+◌, ◌*◌, ◌^◌, ◌<◌, length, get_or, set}
+use Rattle.std.specs.Prelude.{◌≡◌, refl, Bool, false, List, ℕ, ◌+◌, ◌*◌, ◌^◌, ◌<◌, length, get_or, set, Option, Some, None}
 use Rattle.std.proofs.Common.{sym, ap, ◌∙◌, arith}
 use Rattle.std.proofs.lemmas.List.{set-get_or}
 use Rattle.spec.specs.Bytes.{Limits, Two, Res, ok, refused}
@@ -23,29 +23,26 @@ use Rattle.interning.specs.Interning.{pool_after}
 use Rattle.turn_end.specs.Taking.{taken_of, Takes}
 use Rattle.turns.specs.Leaving.{Leaves}
 use Rattle.turn_end.specs.declared.Turned.{Turned}
-use Rattle.turn_end.specs.declared.Taken.TheVariants as K
 use Rattle.settling.specs.Quiet.{unturned}
 use Rattle.visits.specs.Visiting.{turn_in, term_made, step_of, numbers_after, Idle, Visits}
-use Rattle.visits.specs.declared.Step.{Step}
-use Rattle.visits.specs.declared.Step.TheVariants as P
 
-taken-full : (w : Turn) (m : Res Interned) → K.Full ≡ taken_of w m → (n : ℕ) × (m ≡ refused n)
+taken-full : (w : Turn) (m : Res Interned) → None ≡ taken_of w m → (n : ℕ) × (m ≡ refused n)
 taken-full w (ok a) e = absurd (let z : ◌≡◌ {A = ℕ} 0 1 = cc in omega arith)
 taken-full w (refused n) e = (n, refl)
 
-taken-to : (w : Turn) (m : Res Interned) (x : Turned) → K.To x ≡ taken_of w m → (a : Interned) × (m ≡ ok a) × (x ≡ record { size = w.quality.0; mass = w.quality.1; term = a.term; changed = changes w })
+taken-to : (w : Turn) (m : Res Interned) (x : Turned) → Some x ≡ taken_of w m → (a : Interned) × (m ≡ ok a) × (x ≡ record { size = w.quality.0; mass = w.quality.1; term = a.term; changed = changes w })
 taken-to w (ok a) x e = (a, refl, cc)
 taken-to w (refused n) x e = absurd (let z : ◌≡◌ {A = ℕ} 0 1 = cc in omega arith)
 
 module _ (lim : Limits) (t : Tables) (w : ℕ) (graph pairs : List ℕ) (p : Two) (terms runs terms' runs' : List ℕ) where
-  pub take-full : (k : ℕ) (work flow work' flow' : List ℕ) → Takes lim t (quality_in w graph pairs) (term_in w graph pairs) p terms runs terms' runs' K.Full → Leaves lim t (quality_in w graph pairs) (term_in w graph pairs) p terms runs work flow work' flow'
-      → Visits lim t w graph p k pairs work flow terms runs pairs work' flow' terms' runs' P.Full
+  pub take-full : (k : ℕ) (work flow work' flow' : List ℕ) → Takes lim t (quality_in w graph pairs) (term_in w graph pairs) p terms runs terms' runs' None → Leaves lim t (quality_in w graph pairs) (term_in w graph pairs) p terms runs work flow work' flow'
+      → Visits lim t w graph p k pairs work flow terms runs pairs work' flow' terms' runs' None
   take-full k work flow work' flow' X Y =
       let u = turn_in t w graph pairs p in
       let (n, e) = taken-full u (term_made lim t w graph pairs (pool_of terms runs) p) X.answer in
       record { answer = sym (ap (step_of u) e); numbers = sym (ap (λ (m : Res Interned). numbers_after u m k pairs) e); grows = X.grows; work_is = Y.work_is; flow_is = Y.flow_is }
 
-  module _ (x : Turned) (X : Takes lim t (quality_in w graph pairs) (term_in w graph pairs) p terms runs terms' runs' (K.To x)) where
+  module _ (x : Turned) (X : Takes lim t (quality_in w graph pairs) (term_in w graph pairs) p terms runs terms' runs' (Some x)) where
     made : (a : Interned) × (term_made lim t w graph pairs (pool_of terms runs) p ≡ ok a) × (x ≡ record { size = (turn_in t w graph pairs p).quality.0; mass = (turn_in t w graph pairs p).quality.1; term = a.term; changed = changes (turn_in t w graph pairs p) })
     made = taken-to (turn_in t w graph pairs p) (term_made lim t w graph pairs (pool_of terms runs) p) x X.answer
 
@@ -61,14 +58,14 @@ module _ (lim : Limits) (t : Tables) (w : ℕ) (graph pairs : List ℕ) (p : Two
         omega (arith, ap (λ (z : Turned). z.term) f, G.within, ap length (X.pool ∙ ap (pool_after (pool_of terms runs)) e), pool-length terms' runs', X.holds.few)
 
     pub take-moves : (k term : ℕ) (pairs' work flow work' flow' : List ℕ) → term ≡ x.term → pairs' ≡ given pairs (6 * k + 3) x.size x.mass term → Leaves lim t (quality_in w graph pairs) (term_in w graph pairs) p terms runs work flow work' flow'
-        → Visits lim t w graph p k pairs work flow terms runs pairs' work' flow' terms' runs' (P.To x.changed)
+        → Visits lim t w graph p k pairs work flow terms runs pairs' work' flow' terms' runs' (Some x.changed)
     take-moves k term pairs' work flow work' flow' et ep Y =
         let u = turn_in t w graph pairs p in
         let (a, e, f) = made in
         let n : given pairs (6 * k + 3) x.size x.mass term ≡ given pairs (6 * k + 3) u.quality.0 u.quality.1 a.term =
         ap (λ (y : ℕ). given pairs (6 * k + 3) x.size x.mass y) et ∙ ap (λ (z : Turned). given pairs (6 * k + 3) z.size z.mass z.term) f in
         record {
-          answer = ap (λ (z : Turned). P.To z.changed) f ∙ sym (ap (step_of u) e);
+          answer = ap (λ (z : Turned). Some z.changed) f ∙ sym (ap (step_of u) e);
           numbers = ep ∙ n ∙ sym (ap (λ (m : Res Interned). numbers_after u m k pairs) e);
           grows = X.grows;
           work_is = Y.work_is;
@@ -85,21 +82,21 @@ pub record Moved (u : Turn) (m : Res Interned) (k : ℕ) (pairs pairs' terms' ru
   pub holds : Holds terms' runs'
   pub changed : c ≡ changes u
 
-module _ {lim : Limits} {t : Tables} {w : ℕ} {graph : List ℕ} {p : Two} {k : ℕ} {pairs work flow terms runs pairs' work' flow' terms' runs' : List ℕ} (r : Step) (X : Visits lim t w graph p k pairs work flow terms runs pairs' work' flow' terms' runs' r) where
+module _ {lim : Limits} {t : Tables} {w : ℕ} {graph : List ℕ} {p : Two} {k : ℕ} {pairs work flow terms runs pairs' work' flow' terms' runs' : List ℕ} (r : Option Bool) (X : Visits lim t w graph p k pairs work flow terms runs pairs' work' flow' terms' runs' r) where
   abbrev Made : Res Interned
   Made = term_made lim t w graph pairs (pool_of terms runs) p
 
-  pub visits-full : r ≡ P.Full → (n : ℕ) × (Made ≡ refused n)
+  pub visits-full : r ≡ None → (n : ℕ) × (Made ≡ refused n)
   visits-full e = go Made (sym e ∙ X.answer)
     where
-      go : (m : Res Interned) → P.Full ≡ step_of (turn_in t w graph pairs p) m → (n : ℕ) × (m ≡ refused n)
+      go : (m : Res Interned) → None ≡ step_of (turn_in t w graph pairs p) m → (n : ℕ) × (m ≡ refused n)
       go (ok a) q = absurd (let z : ◌≡◌ {A = ℕ} 0 1 = cc in omega arith)
       go (refused n) q = (n, refl)
 
-  pub visits-to : (c : Bool) → r ≡ P.To c → Moved (turn_in t w graph pairs p) Made k pairs pairs' terms' runs' c
+  pub visits-to : (c : Bool) → r ≡ Some c → Moved (turn_in t w graph pairs p) Made k pairs pairs' terms' runs' c
   visits-to c e = go Made refl (sym e ∙ X.answer) X.numbers X.grows.pool
     where
-      go : (m : Res Interned) → Made ≡ m → P.To c ≡ step_of (turn_in t w graph pairs p) m → pairs' ≡ numbers_after (turn_in t w graph pairs p) m k pairs → pool_of terms' runs' ≡ pool_after (pool_of terms runs) m → Moved (turn_in t w graph pairs p) Made k pairs pairs' terms' runs' c
+      go : (m : Res Interned) → Made ≡ m → Some c ≡ step_of (turn_in t w graph pairs p) m → pairs' ≡ numbers_after (turn_in t w graph pairs p) m k pairs → pool_of terms' runs' ≡ pool_after (pool_of terms runs) m → Moved (turn_in t w graph pairs p) Made k pairs pairs' terms' runs' c
       go (ok a) i q n o = record { made = a; is = i; numbers = n; pool = o; holds = X.grows.holds; changed = cc }
       go (refused n) i q m o = absurd (let z : ◌≡◌ {A = ℕ} 0 1 = cc in omega arith)
 

@@ -15,16 +15,8 @@ ghost use Rattle.visits.specs.Visiting.{Visits};
 use arrays::{NEW, WIDTH};
 use image::Image;
 use query::Limits;
-use turn_end::Taken;
 
-// a pair's turn: whether it changed; or refusal 13
-#[derive(Clone, Copy)]
-pub enum Step {
-    To(bool),
-    Full,
-}
-
-// Pair k's turn over the previous round: its new size, mass and term.
+// Pair k's turn over the previous round: its new size, mass and term, and whether it changed; None: refusal 13.
 pub fn visit(
     lim: Limits,
     s: &[u8],
@@ -38,19 +30,12 @@ pub fn visit(
     flow: &mut [u64],
     terms: &mut [u32],
     runs: &mut [u64],
-) -> Step
+) -> Option<bool>
     requires { Loaded s.now im × Valid (tables_of s.now) × (l < im.classes) × (r < im.classes) × Known im.classes graph.now pairs.old × TermsBelow im.classes graph.now pairs.old (count_in terms.old) × CellsFit (limits_of lim) (tables_of s.now) (l, r) × Scratch (limits_of lim) work.old flow.old × Holds terms.old runs.old × Rooms (limits_of lim) terms.old runs.old × (k < 65536) × (6 * k + 6 ≤ length pairs.old) }
     ensures { Visits (limits_of lim) (tables_of s.now) im.classes graph.now (l, r) k pairs.old work.old flow.old terms.old runs.old pairs.new work.new flow.new terms.new runs.new result }
 {
-    let x = turns::take_turn(lim, s, im, graph, pairs, l, r, work, flow, terms, runs);
-    match x {
-        Taken::Full => {
-            return Step::Full;
-        }
-        Taken::To(y) => {
-            let term = numbers::short_size(y.term);
-            giving::give(pairs, WIDTH * k + NEW, y.size, y.mass, term);
-            return Step::To(y.changed);
-        }
-    }
+    let y = turns::take_turn(lim, s, im, graph, pairs, l, r, work, flow, terms, runs)?;
+    let term = numbers::short_size(y.term);
+    giving::give(pairs, WIDTH * k + NEW, y.size, y.mass, term);
+    Some(y.changed)
 }

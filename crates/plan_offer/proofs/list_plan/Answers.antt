@@ -15,7 +15,6 @@ pub list_cell-m-requires : goal.list_cell-m-requires
 list_cell-m-requires c =
     (c.requires.0, c.requires.1, c.requires.2, omega (arith, c.requires.3, c.loop-k-test.true), c.requires.4 c.loop-k.k c.loop-k-test.true, omega (arith, c.loop-k.invariant.few, c.loop-k.invariant.long, c.requires.5, c.requires.3, c.loop-k-test.true))
 
-
 pub loop-k-smaller : goal.loop-k-smaller
 loop-k-smaller c = omega (arith, c.loop-k-test.true)
 

@@ -14,7 +14,6 @@ loop-k-init c = let a = c.args in (omega arith, summed-none (problem_at (quality
 pub add_cell-t-requires : goal.add_cell-t-requires
 add_cell-t-requires c = (c.requires.0, c.requires.1, c.requires.2, omega (arith, c.requires.3, c.loop-k-test.true), c.requires.4 c.loop-k.k c.loop-k-test.true)
 
-
 pub loop-k-smaller : goal.loop-k-smaller
 loop-k-smaller c = omega (arith, c.loop-k-test.true)
 
