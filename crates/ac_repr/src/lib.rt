@@ -96,6 +96,7 @@ fn from_op(s: &[u8], im: Image, l: usize, r: usize, o: usize) -> Option<Walk>
 {
     let from = classes::first_member(s, im, l);
     let mut i = next_op(s, im, l, r, o);
+    // no range: i goes on to the next operation that both classes have
     while i < im.operations {
         if let Some(v) = in_rows(s, im, l, r, i, from) {
             return Some(v);

@@ -17,9 +17,9 @@ fn asked(left: u16, right: u16, budget: u32) -> Query
     ensures { result ≡ record { left = left; right = right; budget = budget; caller = Desk } }
 {
     Query {
-        left: left,
-        right: right,
-        budget: budget,
+        left,
+        right,
+        budget,
         caller: Caller::Desk,
     }
 }

@@ -122,6 +122,7 @@ fn send_all(supply: &[u32], demand: &[u32], costs: &[u64], flow: &mut [u64], tot
     let mut net = [0u64; NET];
     let mut path = [0u64; NODES];
     let mut rest = total;
+    // no range: each path takes as many units as it can carry
     while 0 < rest {
         let n = augment(
             supply, demand, costs, flow, &mut left, &mut net, &mut path, rest,

@@ -59,6 +59,7 @@ fn judge(binds: &[u8; 64], terms: &[u32], runs: &[u64], marks: &mut [u16], root:
 {
     stores::put_u16(marks, root, 1);
     let mut c = root + 1;
+    // down from the root; over a reversed range the proof would speak of the numbers so far and not of c
     while c > 0 {
         c -= 1;
         if !visit(binds, terms, runs, marks, c) {

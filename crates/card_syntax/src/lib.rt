@@ -11,7 +11,7 @@ ghost use Rattle.card_syntax.specs.Reading.{is_done};
 use card_cut::{Mark, cut_mark};
 use stores::put_u64;
 
-// right behind `[`, a child wanted, or one read, with so many frames on the stack; or no formula's marks
+// right behind `[`, a child wanted, or one read, with so many frames on the stack; or no formula's marks: the four states of `Phase` (formula_laws), which the contracts name
 #[derive(Clone, Copy)]
 enum Pass {
     Fresh(usize),
@@ -161,6 +161,7 @@ fn read(table: &[u8], binds: &[u8; 64], text: &[u8], frames: &mut [u64]) -> bool
 {
     let mut p = Pass::Wanted(0);
     let mut at = 0;
+    // no range: a cursor that goes on behind the mark that was read
     while at < text.len() {
         let Some((m, e)) = cut_mark(table, binds, text, at) else {
             return false;

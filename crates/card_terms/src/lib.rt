@@ -133,6 +133,7 @@ fn reduce(
     ensures { Steps (limits_of lim) terms.old runs.old terms.new runs.new frames.new top (reduce_top (limits_of lim) table.now m (pool_of terms.old runs.old) (words_in frames.old top)) result }
 {
     let mut n = top;
+    // no range: as long as the stack has something to finish
     while waits(table, frames, n, m) {
         n = reduce_once(lim, frames, n, terms, runs)?;
     }
@@ -146,6 +147,7 @@ fn first_item(frames: &[u64], top: usize) -> usize
     ensures { Heads frames.now top result }
 {
     let mut i = top;
+    // no range: down to the head, which the contract says is there
     while frames[i - 1] >= 16384 {
         i -= 1;
     }
@@ -306,6 +308,7 @@ fn read_terms(
 {
     let mut at = 0;
     let mut top = 0;
+    // no range: a cursor that goes on behind the mark that was read
     while at < text.len() {
         let (m, e) = card_cut::cut_mark(table, binds, text, at)?;
         top = step(lim, table, frames, top, m, terms, runs)?;

@@ -43,7 +43,7 @@ pub fn members_of(s: &[u8], im: Image, c: usize) -> Span
 {
     let from = first_member(s, im, c);
     Span {
-        from: from,
+        from,
         to: from + member_count(s, im, c),
     }
 }

@@ -67,6 +67,7 @@ pub fn seek(s: &[u8], im: Image, l: usize, r: usize, w: State) -> Option<State>
     let to = members_of(s, im, l).to;
     let right = members_of(s, im, r);
     let mut v = w;
+    // no range: a place of three numbers goes on
     while v.left < to {
         if let Some(x) = seek_right(s, im, right.to, v) {
             return Some(x);

@@ -51,9 +51,9 @@ pub fn query_of(input: &[u8]) -> Query
     let right = narrow(be2(input, n + 2));
     let budget = short_u64(be4(input, n + 4));
     Query {
-        left: left,
-        right: right,
-        budget: budget,
+        left,
+        right,
+        budget,
         caller: Caller::Desk,
     }
 }

@@ -218,6 +218,7 @@ fn build_from(
     let mut b = budget;
     let mut skipped: u64 = 0;
     let mut i = 0;
+    // no range: the pairs to come grow while they are visited
     while i < n {
         let check = b.spend();
         b = check.budget;

@@ -63,13 +63,13 @@ impl Image {
         let member0 = class0 + classes * Image::CLASS_BYTES;
         let child0 = member0 + members * Image::MEMBER_BYTES;
         Image {
-            operations: operations,
-            classes: classes,
-            members: members,
-            children: children,
-            class0: class0,
-            member0: member0,
-            child0: child0,
+            operations,
+            classes,
+            members,
+            children,
+            class0,
+            member0,
+            child0,
         }
     }
 }

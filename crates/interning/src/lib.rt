@@ -53,6 +53,7 @@ fn look_up(
     ensures { Sought terms.now runs.now (node_of h v (part list.now 0 n)) result }
 {
     let mut t = stores::at_u32(terms, BUCKET + bucket);
+    // no range: along the chain of the key
     while 0 < t {
         if is_term(terms, runs, t - 1, list, n, h, v) {
             return t;

@@ -62,7 +62,7 @@ pub fn children_of(s: &[u8], im: Image, m: usize) -> Span
 {
     let from = first_child(s, im, m);
     Span {
-        from: from,
+        from,
         to: from + child_count(s, im, m),
     }
 }

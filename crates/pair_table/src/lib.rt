@@ -9,7 +9,7 @@ ghost use Rattle.pair_table.specs.Table.{put_in, outcome_of, enter_of, table_aft
 
 use pair_search::{Pair, find};
 
-// A pair was there already, was entered, or there was no room.
+// A pair was there already, was entered, or there was no room: three ways, and two of them with a place, so no Option.
 #[derive(Clone, Copy)]
 pub enum Entered {
     At(usize),

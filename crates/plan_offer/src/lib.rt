@@ -65,10 +65,7 @@ fn add_cell(
     let p = cell(left, rows, right, cols, k);
     let size = add_units(t.size, x, size_of(graph, pairs, w, p.left, p.right));
     let mass = add_units(t.mass, x, mass_of(graph, pairs, w, p.left, p.right));
-    Totals {
-        size: size,
-        mass: mass,
-    }
+    Totals { size, mass }
 }
 
 // "the sum of count × size, and the sum of count × mass"

@@ -98,21 +98,15 @@ fn number(s: &[u8], from: usize) -> Parsed
     for at in from..s.len() {
         let b = s[at];
         if b < 48 {
-            return Parsed {
-                value: value,
-                next: at,
-            };
+            return Parsed { value, next: at };
         }
         if b >= 58 {
-            return Parsed {
-                value: value,
-                next: at,
-            };
+            return Parsed { value, next: at };
         }
         value = more(value, b);
     }
     Parsed {
-        value: value,
+        value,
         next: s.len(),
     }
 }

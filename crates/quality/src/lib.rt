@@ -65,10 +65,7 @@ fn structural_quality(s: &[u8], im: Image, v: State, graph: &[u16], pairs: &[u32
         size += long_u32(size_of(graph, pairs, im.classes, l, r));
         mass += long_u32(mass_of(graph, pairs, im.classes, l, r));
     }
-    Quality {
-        size: size,
-        mass: mass,
-    }
+    Quality { size, mass }
 }
 
 // "a strictly better action replaces"

@@ -164,6 +164,7 @@ fn frame(rt: &impl Print, s: &[u8]) -> io::Result<()> {
 // the frames in the bytes
 fn each(rt: &impl Print, s: &[u8]) -> io::Result<()> {
     let mut at = 0;
+    // no range: a cursor that goes on behind the frame that was read
     while at + 4 <= s.len() {
         let from = at + 4;
         let n = numbers::size_u64(image::be4(s, at));

@@ -29,13 +29,13 @@ pub fn reported(pairs: &[u32], complete: bool, n: usize, rounds: u32, checks: u3
     ensures { result ≡ reported_in pairs.now complete n rounds checks }
 {
     Outcome {
-        complete: complete,
+        complete,
         pairs: n,
-        rounds: rounds,
+        rounds,
         size: pairs[0],
         mass: pairs[MASS],
         root: numbers::size_u32(pairs[TERM]),
-        checks: checks,
+        checks,
     }
 }
 

@@ -63,6 +63,7 @@ fn relax_all(
     let mut changed = false;
     let mut bud = b;
     let mut k = 0;
+    // no range: k goes on over pairs that are not live
     while k < n {
         let j = live_pairs::next_live(graph, w, n, k, llive, rlive);
         let sp = bud.spend_many(live_pairs::due(k, j));
@@ -113,6 +114,7 @@ fn relax(
     let mut rlive = [1u8; 256];
     let mut rounds = 0u32;
     let mut bud = b;
+    // no range: round after round until the run ends
     loop {
         let sp = bud.spend();
         let rest = sp.budget;

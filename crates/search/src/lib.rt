@@ -163,6 +163,7 @@ pub fn search(
         × ((R : Ready r c costs.now flow.now left.now) → Found R net.new result) }
 {
     begin(net, 1 + r + c);
+    // no range: the queue grows while it is read
     while 0 < net[COUNT] {
         let u = leave(net);
         visit(costs, flow, left, net, r, c, u);

@@ -22,6 +22,7 @@ pub fn skipped_at(s: &[u8], im: Image, l: usize, r: usize) -> u64
     }
     let mut sum: u64 = 0;
     let mut o = next_op(s, im, l, r, 0);
+    // no range: o goes on to the next operation that both classes have
     while o < im.operations {
         sum += skipped_under(s, im, l, r, o);
         o = next_op(s, im, l, r, o + 1);

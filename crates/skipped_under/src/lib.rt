@@ -117,6 +117,7 @@ fn gather(s: &[u8], im: Image, c: usize, o: usize, id: usize, f: &mut [u64]) -> 
     let span = classes::members_of(s, im, c);
     let mut n = 0;
     let mut x = next_place(s, im, span.to, o, span.from);
+    // no range: x goes on to the next place of the operation
     while x <= span.to {
         gather_place(s, im, c, id, f, n, x);
         n += 1;

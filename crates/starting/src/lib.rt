@@ -52,7 +52,7 @@ pub fn report_started(s: &[u8], im: Image, q: Query, n: usize, root: usize) -> O
         rounds: 0,
         size: start_size(s, im, l, r),
         mass: start_mass(s, im, l, r),
-        root: root,
+        root,
         checks: q.budget,
     }
 }

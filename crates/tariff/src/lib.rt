@@ -27,10 +27,10 @@ fn asked(left: u16, right: u16, budget: u32, caller: Caller) -> Query
     ensures { result ≡ record { left = left; right = right; budget = budget; caller = caller } }
 {
     Query {
-        left: left,
-        right: right,
-        budget: budget,
-        caller: caller,
+        left,
+        right,
+        budget,
+        caller,
     }
 }
 

@@ -67,6 +67,7 @@ fn cut_runs(text: &[u8], at0: usize, k: usize, list: &mut [u64]) -> Result<Runs,
     let mut n = 0;
     let mut last = k;
     let mut left = CHILDREN;
+    // no range: until the line ends
     loop {
         if text_cut::starts_with(text, at, b"\n") {
             return Ok((n, CHILDREN - left, at + 1));
@@ -175,6 +176,7 @@ fn add_lines(
     ensures { AddsLines (limits_of lim) text.now terms.old runs.old terms.new runs.new result }
 {
     let mut at = 0;
+    // no range: a cursor that goes on behind the line that was read
     while at < text.len() {
         at = add_line(lim, text, at, list, terms, runs)?;
     }

@@ -11,7 +11,7 @@ ghost use Rattle.term_order.specs.Steps.{Steps};
 
 use std::cmp::Ordering;
 
-// what decides between two terms: their heads, or the first children that differ
+// what decides between two terms: their heads, or the first children that differ; three ways, and none of them an error, so no Result
 #[derive(Clone, Copy)]
 enum Step {
     Before,
@@ -139,6 +139,7 @@ pub fn structural_cmp(terms: &[u32], runs: &[u64], x: usize, y: usize) -> Orderi
     }
     let mut a = x;
     let mut b = y;
+    // no range: down to the first children that differ
     loop {
         let s = compare_step(terms, runs, a, b);
         match s {

@@ -26,6 +26,7 @@ pub fn trace(net: &[u64; NET], path: &mut [u64; NODES], t: usize) -> usize
     put_node(path, LAST, t);
     let mut at = LAST;
     let mut v = t;
+    // no range: back along the predecessors
     while v != 0 {
         v = net[PRED + v] as usize;
         at -= 1;

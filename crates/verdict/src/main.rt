@@ -28,6 +28,7 @@ fn say(rt: &impl Print, v: Verdict) -> io::Result<()> {
 // the images in the first n bytes
 fn each(rt: &impl Print, s: &[u8]) -> io::Result<()> {
     let mut at = 0;
+    // no range: a cursor that goes on behind the image that was read
     while at + 4 <= s.len() {
         let from = at + 4;
         let n = numbers::size_u64(image::be4(s, at));
