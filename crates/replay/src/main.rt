@@ -1,7 +1,6 @@
 // Program `replay`: reads frames and answers from standard input, each behind its length in 4 bytes, frame, answer, frame, answer .., and says how many answers are the bytes that program `merge` writes.
 #![tactic(auto)]
 
-ghost use Rattle.std.specs.Prelude.{◌+◌, ◌≤◌, ◌<◌};
 ghost use Rattle.answer.specs.Responding.{Rooms};
 
 use std::io;
@@ -16,18 +15,7 @@ pub enum Judged {
 
 // whether the first k bytes are the answer
 fn agrees(out: &[u8], k: usize, answer: &[u8]) -> bool {
-    if k != answer.len() {
-        return false;
-    }
-    if k > out.len() {
-        return false;
-    }
-    for i in 0..k {
-        if out[i] != answer[i] {
-            return false;
-        }
-    }
-    true
+    k <= out.len() && &out[..k] == answer
 }
 
 // reads a length and so many bytes to the buffer's front; where they are not there or too many: more than the buffer's length
@@ -80,37 +68,6 @@ fn say(rt: &impl Print, same: u64, all: u64) -> io::Result<()> {
     println!(rt; "{same} of {all}")
 }
 
-// how many answers agreed, of how many, and how many more may come
-#[derive(Clone, Copy)]
-pub struct Tally {
-    pub same: u64,
-    pub all: u64,
-    pub left: u64,
-}
-
-fn tallied(t: Tally, j: Judged) -> Tally
-    requires { (0 < t.left) × (t.same ≤ t.all) × (t.all + t.left ≤ 1000000) }
-    ensures { (result.left < t.left) × (result.same ≤ result.all) × (result.all + result.left ≤ 1000000) }
-{
-    match j {
-        Judged::Same => Tally {
-            same: t.same + 1,
-            all: t.all + 1,
-            left: t.left - 1,
-        },
-        Judged::Other => Tally {
-            same: t.same,
-            all: t.all + 1,
-            left: t.left - 1,
-        },
-        Judged::End => Tally {
-            same: t.same,
-            all: t.all,
-            left: 0,
-        },
-    }
-}
-
 // at most a million frames
 fn replay_all(
     rt: &(impl Input + Print),
@@ -127,13 +84,10 @@ fn replay_all(
     requires { Rooms graph.old pairs.old work.old flow.old terms.old runs.old out.old }
 {
     let mut reader = rt.reader();
-    let mut t = Tally {
-        same: 0,
-        all: 0,
-        left: 1000000,
-    };
-    while t.left > 0 {
-        let j = judge_next(
+    let mut same = 0;
+    let mut all = 0;
+    for _turn in 0..1000000u64 {
+        let judged = judge_next(
             &mut reader,
             input,
             expected,
@@ -145,9 +99,20 @@ fn replay_all(
             runs,
             out,
         )?;
-        t = tallied(t, j);
+        match judged {
+            Judged::Same => {
+                same += 1;
+                all += 1;
+            }
+            Judged::Other => {
+                all += 1;
+            }
+            Judged::End => {
+                break;
+            }
+        }
     }
-    say(rt, t.same, t.all)
+    say(rt, same, all)
 }
 
 fn main(rt: HostRuntime) -> io::Result<()> {
