@@ -268,6 +268,7 @@ fn unit_digit(out: &mut [u8], at: usize, n: u64, unit: u64) -> usize
 fn decimal(out: &mut [u8], from: usize, n: u64) -> usize {
     let mut at = from;
     let mut unit = 1000000000;
+    // no range: the unit falls by tenths
     while unit > 1 {
         at = unit_digit(out, at, n, unit);
         unit = unit / 10;
