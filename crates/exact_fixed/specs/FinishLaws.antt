@@ -1,5 +1,5 @@
 -- `start`, by what `begin` and starting terms answered.
-use Rattle.std.specs.Prelude.{◌≡◌, ◌⊎◌, List, [], ℕ, ◌+◌, ◌*◌, ◌≤◌, ◌<◌, length, replicate}
+use Rattle.std.specs.Prelude.{◌≡◌, ◌⊎◌, List, [], ℕ, ◌+◌, ◌*◌, ◌≤◌, ◌<◌, length, replicate, Option, Some, None}
 use Rattle.std.proofs.Math.Path.{refl}
 use Rattle.std.proofs.Common.{sym, ap, ap₂, ◌∙◌, inl, inr, ⊎_elim, arith}
 use Rattle.spec.specs.Bytes.{Two, Limits, Res, ok, refused, Checked, passed, cut_short}
@@ -152,17 +152,17 @@ module _ (lim : Limits) (t : Tables) (p : Two) (budget w : ℕ) (graph ts us : L
             run-after a (passed ps c) e g ∙ ap₂ (λ (y : Interned) (z : Checked (List Two)). after_building lim t budget p y z) r (ap₂ (λ (y : List Two) (z : ℕ). passed y z) q (sym k))
 
         -- by what starting terms answer
-        module _ (pairs' terms' runs' : List ℕ) (x : Started) (Y : StartsAll lim t (pairs_in w graph n) (starting_terms lim t (pairs_in w graph n) b.left (pool_of ts us)) (pool_of ts us) pairs' terms' runs' x) where
+        module _ (pairs' terms' runs' : List ℕ) (x : Option Started) (Y : StartsAll lim t (pairs_in w graph n) (starting_terms lim t (pairs_in w graph n) b.left (pool_of ts us)) (pool_of ts us) pairs' terms' runs' x) where
           as-run : (y : Ran) → RanTo (after_building lim t budget p (interned (pool_of ts us) root) (passed (pairs_in w graph n) b.left)) graph terms' runs' y → RanTo (run_of lim t p budget) graph terms' runs' y
           as-run y Z = rw all_runs Z
 
-          pub all-full : x ≡ S.Full → RanTo (run_of lim t p budget) graph terms' runs' (R.Stopped 13)
+          pub all-full : x ≡ None → RanTo (run_of lim t p budget) graph terms' runs' (R.Stopped 13)
           all-full q = as-run (R.Stopped 13) (starts-full lim t budget p (pairs_in w graph n) n all-graphs.many b.left (pool_of ts us) root pairs' terms' runs' x Y graph q)
 
-          pub all-cut : 2 * lim.terms ≤ length graph → x ≡ S.Cut → (o : Outcome) → o ≡ started_in t p n root budget → RanTo (run_of lim t p budget) graph terms' runs' (R.Done o)
+          pub all-cut : 2 * lim.terms ≤ length graph → x ≡ Some S.Cut → (o : Outcome) → o ≡ started_in t p n root budget → RanTo (run_of lim t p budget) graph terms' runs' (R.Done o)
           all-cut room q o e = as-run (R.Done o) (starts-cut lim t budget p (pairs_in w graph n) n all-graphs.many b.left (pool_of ts us) root pairs' terms' runs' x Y graph room all-holds.valid (omega (arith, all-root, pool-length ts us)) q o e)
 
-          pub all-rounds : (c : Budget) → x ≡ S.All c → ToRounds lim t (run_of lim t p budget) budget w n graph pairs' terms' runs' c.left
+          pub all-rounds : (c : Budget) → x ≡ Some (S.All c) → ToRounds lim t (run_of lim t p budget) budget w n graph pairs' terms' runs' c.left
           all-rounds c q =
               let G = all-graphs in
               record {

@@ -1,5 +1,5 @@
 -- The run before its rounds: cut short in building or in starting terms, or over a graph that is built in full.
-use Rattle.std.specs.Prelude.{◌≡◌, List, ℕ, ◌+◌, ◌*◌, ◌-◌, ◌≤◌, ◌<◌, length}
+use Rattle.std.specs.Prelude.{◌≡◌, List, ℕ, ◌+◌, ◌*◌, ◌-◌, ◌≤◌, ◌<◌, length, Option, Some, None}
 use Rattle.std.proofs.Common.{sym, ap, ◌∙◌, arith}
 use Rattle.spec.specs.Bytes.{Two, Limits, Res, ok, Checked, passed}
 use Rattle.spec.specs.Image.{Tables}
@@ -67,17 +67,17 @@ module _ (lim : Limits) (t : Tables) (budget : ℕ) (p : Two) (ps : List Two) (n
         ∙ ap (rounds_of lim t ps) same
 
   -- ---- by what the code answers: the starting terms x, the outcome o
-  module _ (pairs terms runs : List ℕ) (x : Started) (Y : StartsAll lim t ps whole from pairs terms runs x) where
-    pub starts-full : (marks : List ℕ) → x ≡ S.Full → RanTo built marks terms runs (R.Stopped 13)
+  module _ (pairs terms runs : List ℕ) (x : Option Started) (Y : StartsAll lim t ps whole from pairs terms runs x) where
+    pub starts-full : (marks : List ℕ) → x ≡ None → RanTo built marks terms runs (R.Stopped 13)
     starts-full marks e = built-refused (P.pairs t) (P.making lim t) budget p (interned from root) ps b 13 (rw e at Y)
 
-    pub starts-cut : (marks : List ℕ) → 2 * lim.terms ≤ length marks → PoolValid from → root < length from → x ≡ S.Cut → (o : Outcome) → o ≡ started_in t p n root budget → RanTo built marks terms runs (R.Done o)
+    pub starts-cut : (marks : List ℕ) → 2 * lim.terms ≤ length marks → PoolValid from → root < length from → x ≡ Some S.Cut → (o : Outcome) → o ≡ started_in t p n root budget → RanTo built marks terms runs (R.Done o)
     starts-cut marks room v w e o q = go (rw e at Y)
       where
         go : CutStarting lim whole from terms runs → RanTo built marks terms runs (R.Done o)
         go C = rw (q, ← many) (ran-started t budget p built (interned from root) (length ps) marks terms runs (built-cut (P.pairs t) (P.making lim t) budget p (interned from root) ps b C.is) v w C.holds C.grown (omega (arith, C.within)))
 
-    module _ (c : Budget) (e : x ≡ S.All c) where
+    module _ (c : Budget) (e : x ≡ Some (S.All c)) where
       begun : Starting lim t ps whole from pairs terms runs (length ps) c.left
       begun = rw e at Y
 

@@ -1,5 +1,5 @@
 -- Starting terms, pair by pair: "one [check] a pair in starting terms".
-use Rattle.std.specs.Prelude.{◌≡◌, refl, List, [], ◌∷◌, ◌++◌, map, ℕ, ◌+◌, ◌*◌, ◌≤◌, ◌<◌, length, get_or, take}
+use Rattle.std.specs.Prelude.{◌≡◌, refl, List, [], ◌∷◌, ◌++◌, map, ℕ, ◌+◌, ◌*◌, ◌≤◌, ◌<◌, length, get_or, take, Option, Some, None}
 use Rattle.std.proofs.Common.{sym, ap, ◌∙◌, arith, add-one, take-suc, take_all}
 use Rattle.spec.specs.Bytes.{Two, Limits, Res, ok, refused, Checked, passed, cut_short}
 use Rattle.spec.specs.Image.{Tables}
@@ -25,10 +25,7 @@ use Rattle.terms.specs.PoolLaws.{pool-length}
 use Rattle.best_terms.specs.Bests.{Kept}
 use Rattle.best_terms.specs.Building.{full-told, term_told}
 use Rattle.best_terms.specs.Starting.{Starts}
-use Rattle.interning.specs.declared.Entered.TheVariants as E
 use Rattle.rounds.specs.Graphs.{InRange}
-use Rattle.exact_fixed.specs.declared.One.{One}
-use Rattle.exact_fixed.specs.declared.One.TheVariants as O
 use Rattle.exact_fixed.specs.declared.Started.{Started}
 use Rattle.exact_fixed.specs.declared.Started.TheVariants as S
 
@@ -42,9 +39,9 @@ pub record HasStarted (lim : Limits) (t : Tables) (p : Two) (k : ℕ) (pool₀ :
   pub holds : Holds terms' runs'
   pub kept : Kept lim t (pool_of terms' runs') best'
 
-abbrev pub BeginsOne : Limits → Tables → Two → ℕ → Pool → List ℕ → List ℕ → List ℕ → List ℕ → List ℕ → One → Type 0
-BeginsOne lim t p k pool pairs pairs' terms' runs' best' O.Entered = HasStarted lim t p k pool pairs pairs' terms' runs' best'
-BeginsOne lim t p k pool pairs pairs' terms' runs' best' O.Full = (n : ℕ) × (starting_term lim t pool p ≡ refused n)
+abbrev pub BeginsOne : Limits → Tables → Two → ℕ → Pool → List ℕ → List ℕ → List ℕ → List ℕ → List ℕ → Option (Unit {0}) → Type 0
+BeginsOne lim t p k pool pairs pairs' terms' runs' best' (Some _) = HasStarted lim t p k pool pairs pairs' terms' runs' best'
+BeginsOne lim t p k pool pairs pairs' terms' runs' best' None = (n : ℕ) × (starting_term lim t pool p ≡ refused n)
 
 -- ---- all pairs
 -- the first k pairs have theirs, and b checks are left; `whole` is what all of it comes to, `from` the pool before it
@@ -62,10 +59,10 @@ pub record CutStarting (lim : Limits) (whole : Res (Checked Terms)) (from : Pool
   pub grown : Extends from (pool_of terms runs)
   pub within : count_in terms ≤ lim.terms
 
-abbrev pub StartsAll : Limits → Tables → List Two → Res (Checked Terms) → Pool → List ℕ → List ℕ → List ℕ → Started → Type 0
-StartsAll lim t ps whole from pairs terms runs (S.All b) = Starting lim t ps whole from pairs terms runs (length ps) b.left
-StartsAll lim t ps whole from pairs terms runs S.Cut = CutStarting lim whole from terms runs
-StartsAll lim t ps whole from pairs terms runs S.Full = whole ≡ refused 13
+abbrev pub StartsAll : Limits → Tables → List Two → Res (Checked Terms) → Pool → List ℕ → List ℕ → List ℕ → Option Started → Type 0
+StartsAll lim t ps whole from pairs terms runs (Some (S.All b)) = Starting lim t ps whole from pairs terms runs (length ps) b.left
+StartsAll lim t ps whole from pairs terms runs (Some S.Cut) = CutStarting lim whole from terms runs
+StartsAll lim t ps whole from pairs terms runs None = whole ≡ refused 13
 
 pub starting-none : (lim : Limits) (t : Tables) (ps : List Two) (b : ℕ) (pairs terms runs : List ℕ) → Holds terms runs → count_in terms ≤ lim.terms → Starting lim t ps (starting_terms lim t ps b (pool_of terms runs)) (pool_of terms runs) pairs terms runs 0 b
 unfolding qualities_from terms_from
@@ -107,10 +104,10 @@ module _ (lim : Limits) (t : Tables) (ps : List Two) (whole : Res (Checked Terms
   start-qualities = X.qualities ∙ ap (map (starting_quality t)) (take_all (length ps) ps (omega arith))
 
 -- ---- one pair, from what `evaluate_generalize_action` says
-pub one-refused : (lim : Limits) (t : Tables) (c : Two) (terms runs best terms' runs' best' : List ℕ) → Starts lim t c terms runs best terms' runs' best' E.Full → (n : ℕ) × (starting_term lim t (pool_of terms runs) c ≡ refused n)
+pub one-refused : (lim : Limits) (t : Tables) (c : Two) (terms runs best terms' runs' best' : List ℕ) → Starts lim t c terms runs best terms' runs' best' None → (n : ℕ) × (starting_term lim t (pool_of terms runs) c ≡ refused n)
 one-refused lim t c terms runs best terms' runs' best' X = full-told (starting_term lim t (pool_of terms runs) c) X.answer
 
-module _ (lim : Limits) (t : Tables) (v : Valid t) (c : Two) (ranged : IsPair t c) (terms runs best terms' runs' best' : List ℕ) (h : Holds terms runs) (a : ℕ) (X : Starts lim t c terms runs best terms' runs' best' (E.Term a)) where
+module _ (lim : Limits) (t : Tables) (v : Valid t) (c : Two) (ranged : IsPair t c) (terms runs best terms' runs' best' : List ℕ) (h : Holds terms runs) (a : ℕ) (X : Starts lim t c terms runs best terms' runs' best' (Some a)) where
   made : (x : Interned) × (starting_term lim t (pool_of terms runs) c ≡ ok x) × (x.term ≡ a)
   made = term_told (starting_term lim t (pool_of terms runs) c) a X.answer
 

@@ -22,25 +22,16 @@ ghost use Rattle.exact_fixed.specs.Following.{Follows};
 use arrays::WIDTH;
 use budget::Budget;
 use image::Image;
-use interning::Entered;
 use numbers::short_size;
 use outcome::{Answer, Ran};
 use prepared::Begun;
 use query::{Limits, Query};
 
-// a pair's starting term is entered; or refusal 13
-#[derive(Clone, Copy)]
-enum One {
-    Entered,
-    Full,
-}
-
-// starting terms of all pairs, with the budget left; cut short; refusal 13
+// starting terms of all pairs, with the budget left; or cut short
 #[derive(Clone, Copy)]
 enum Started {
     All(Budget),
     Cut,
-    Full,
 }
 
 // the rounds follow, over so many pairs, with the budget left; or the run ends without one
@@ -51,7 +42,7 @@ enum Next {
 }
 
 // ---- starting terms
-// pair k's starting term and quality
+// pair k's starting term and quality; None: refusal 13
 fn start_one(
     lim: Limits,
     s: &[u8],
@@ -63,25 +54,18 @@ fn start_one(
     terms: &mut [u32],
     runs: &mut [u64],
     best: &mut [u16],
-) -> One
+) -> Option<()>
     requires { Loaded s.now im × Valid (tables_of s.now) × (l < im.classes) × (r < im.classes) × (k < 4096) × (6 * k + 6 ≤ length pairs.old) × Holds terms.old runs.old × Rooms (limits_of lim) terms.old runs.old × (length best.old ≡ 256) × Kept (limits_of lim) (tables_of s.now) (pool_of terms.old runs.old) best.old }
     ensures { BeginsOne (limits_of lim) (tables_of s.now) (l, r) k (pool_of terms.old runs.old) pairs.old pairs.new terms.new runs.new best.new result }
 {
-    let e = best_terms::evaluate_generalize_action(lim, s, im, terms, runs, best, l, r);
-    match e {
-        Entered::Full => {
-            return One::Full;
-        }
-        Entered::Term(t) => {
-            let size = starting::start_size(s, im, l, r);
-            let mass = starting::start_mass(s, im, l, r);
-            giving::give(pairs, WIDTH * k, size, mass, short_size(t));
-            return One::Entered;
-        }
-    }
+    let t = best_terms::evaluate_generalize_action(lim, s, im, terms, runs, best, l, r)?;
+    let size = starting::start_size(s, im, l, r);
+    let mass = starting::start_mass(s, im, l, r);
+    giving::give(pairs, WIDTH * k, size, mass, short_size(t));
+    Some(())
 }
 
-// "Checks: .. one a pair in starting terms"
+// "Checks: .. one a pair in starting terms"; None: refusal 13
 fn start_all(
     lim: Limits,
     s: &[u8],
@@ -92,32 +76,23 @@ fn start_all(
     terms: &mut [u32],
     runs: &mut [u64],
     b: Budget,
-) -> Started
+) -> Option<Started>
     requires { Loaded s.now im × Valid (tables_of s.now) × (n ≤ 4096) × (im.classes * im.classes + n ≤ length graph.now) × InRange (tables_of s.now) (pairs_in im.classes graph.now n) × (6 * n ≤ length pairs.old) × Holds terms.old runs.old × Rooms (limits_of lim) terms.old runs.old × (count_in terms.old ≤ lim.terms) }
     ensures { StartsAll (limits_of lim) (tables_of s.now) (pairs_in im.classes graph.now n) (starting_terms (limits_of lim) (tables_of s.now) (pairs_in im.classes graph.now n) b.left (pool_of terms.old runs.old)) (pool_of terms.old runs.old) pairs.new terms.new runs.new result }
 {
     let mut best = [0u16; 256];
     let mut bud = b;
-    let mut k = 0;
-    while k < n {
+    for k in 0..n {
         let sp = bud.spend();
         bud = sp.budget;
         if !sp.passed {
-            return Started::Cut;
+            return Some(Started::Cut);
         }
         let l = arrays::left_at(graph, im.classes, k);
         let r = arrays::right_at(graph, im.classes, k);
-        let one = start_one(lim, s, im, l, r, k, pairs, terms, runs, &mut best);
-        match one {
-            One::Full => {
-                return Started::Full;
-            }
-            One::Entered => {
-                k += 1;
-            }
-        }
+        start_one(lim, s, im, l, r, k, pairs, terms, runs, &mut best)?;
     }
-    Started::All(bud)
+    Some(Started::All(bud))
 }
 
 // ---- the run
@@ -137,26 +112,19 @@ fn start(
     ensures { Follows (limits_of lim) (tables_of s.now) (run_of (limits_of lim) (tables_of s.now) (asked_of q) q.budget) q.budget im.classes graph.now pairs.new terms.new runs.new result }
 {
     match b {
-        Begun::Stopped(k) => {
-            return Next::Ended(Ran::Stopped(k));
-        }
+        Begun::Stopped(k) => Next::Ended(Ran::Stopped(k)),
         Begun::Cut(root, j) => {
             let o = starting::report_started(s, im, q, 1, root);
-            return Next::Ended(Ran::Done(o));
+            Next::Ended(Ran::Done(o))
         }
         Begun::All(root, n, c, j) => {
-            let x = start_all(lim, s, im, graph, n, pairs, terms, runs, c);
-            match x {
-                Started::Full => {
-                    return Next::Ended(Ran::Stopped(13));
-                }
-                Started::Cut => {
+            match start_all(lim, s, im, graph, n, pairs, terms, runs, c) {
+                Some(Started::All(d)) => Next::Rounds(n, d),
+                Some(Started::Cut) => {
                     let o = starting::report_started(s, im, q, n, root);
-                    return Next::Ended(Ran::Done(o));
+                    Next::Ended(Ran::Done(o))
                 }
-                Started::All(d) => {
-                    return Next::Rounds(n, d);
-                }
+                None => Next::Ended(Ran::Stopped(13)),
             }
         }
     }
@@ -184,13 +152,9 @@ pub fn finish(
     let k = prepared::skipped_of(b);
     let x = start(lim, s, im, q, b, graph, pairs, terms, runs);
     match x {
-        Next::Ended(y) => {
-            return outcome::conclude(y, k, graph, pairs, work, flow, terms, runs, out);
-        }
-        Next::Rounds(n, c) => {
-            return rounds::run_rounds(
-                lim, s, im, n, graph, pairs, work, flow, terms, runs, out, c, q.budget, k,
-            );
-        }
+        Next::Ended(y) => outcome::conclude(y, k, graph, pairs, work, flow, terms, runs, out),
+        Next::Rounds(n, c) => rounds::run_rounds(
+            lim, s, im, n, graph, pairs, work, flow, terms, runs, out, c, q.budget, k,
+        ),
     }
 }

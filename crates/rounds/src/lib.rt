@@ -26,7 +26,6 @@ use image::Image;
 use outcome::{Answer, Ran};
 use query::Limits;
 use round_outcome::{After, Round};
-use visits::Step;
 
 // ---- a round
 fn either(a: bool, b: bool) -> bool
@@ -77,15 +76,11 @@ fn relax_all(
             let l = arrays::left_at(graph, w, k);
             let r = arrays::right_at(graph, w, k);
             let x = visits::visit(lim, s, im, graph, l, r, k, pairs, work, flow, terms, runs);
-            match x {
-                Step::Full => {
-                    return Round::Full;
-                }
-                Step::To(c) => {
-                    changed = either(changed, c);
-                    k += 1;
-                }
-            }
+            let Some(c) = x else {
+                return Round::Full;
+            };
+            changed = either(changed, c);
+            k += 1;
         }
     }
     Round::Finished(changed, bud)

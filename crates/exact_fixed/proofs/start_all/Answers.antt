@@ -49,8 +49,8 @@ right_at-r-requires c =
     let h = c.loop-k-test.true in
     (omega (arith, classes-many a.s.now a.im c.requires.0, c.requires.1.counts.few_classes), omega (arith, h, c.requires.2), omega (arith, h, c.requires.3))
 
-pub start_one-one-requires : goal.start_one-one-requires
-start_one-one-requires c =
+pub start_one-requires : goal.start_one-requires
+start_one-requires c =
     let x = c.left_at-l in
     let y = c.right_at-r in
     let a = c.args in
@@ -61,17 +61,17 @@ start_one-one-requires c =
     let u = c.requires.7 in
     (c.requires.0, c.requires.1, omega (arith, r.0, m), omega (arith, r.1, m), omega (arith, h, c.requires.2), omega (arith, h, c.requires.5, l.invariant.2), l.invariant.7.holds, record { few = u.few; ends = u.ends; long = omega (arith, u.long, l.invariant.3); roomy = omega (arith, u.roomy, l.invariant.4) }, l.invariant.5, l.invariant.6)
 
-pub shape_of-pairs-in-Full : goal.shape_of-pairs-in-Full
-shape_of-pairs-in-Full c = omega (arith, c.loop-k.invariant.2, c.start_one-one.auto)
+pub shape_of-pairs-in_err-start_one : goal.shape_of-pairs-in_err-start_one
+shape_of-pairs-in_err-start_one c = omega (arith, c.loop-k.invariant.2, c.start_one.auto)
 
-pub shape_of-terms-in-Full : goal.shape_of-terms-in-Full
-shape_of-terms-in-Full c = omega (arith, c.loop-k.invariant.3, c.start_one-one.auto)
+pub shape_of-terms-in_err-start_one : goal.shape_of-terms-in_err-start_one
+shape_of-terms-in_err-start_one c = omega (arith, c.loop-k.invariant.3, c.start_one.auto)
 
-pub shape_of-runs-in-Full : goal.shape_of-runs-in-Full
-shape_of-runs-in-Full c = omega (arith, c.loop-k.invariant.4, c.start_one-one.auto)
+pub shape_of-runs-in_err-start_one : goal.shape_of-runs-in_err-start_one
+shape_of-runs-in_err-start_one c = omega (arith, c.loop-k.invariant.4, c.start_one.auto)
 
-pub returns-in-Full : goal.returns-in-Full
-returns-in-Full c =
+pub returns-in_err-start_one : goal.returns-in_err-start_one
+returns-in_err-start_one c =
     let x = c.left_at-l in
     let y = c.right_at-r in
     let a = c.args in
@@ -80,14 +80,8 @@ returns-in-Full c =
     let n = unkeyed-length a.graph.now (a.im.classes * a.im.classes) a.n in
     let e = spent l.bud c.spend-sp.result c.spend-sp.ensures c.if-not-sp.false in
     let p = pair-at (tables_of a.s.now) a.im.classes a.graph.now a.n l.k h x.result y.result x.ensures.0 y.ensures.0 in
-    let z = rw c.in-Full.is at c.start_one-one.ensures in
-    start-full (limits_of a.lim) (tables_of a.s.now) (pairs_in a.im.classes a.graph.now a.n) (starting_terms (limits_of a.lim) (tables_of a.s.now) (pairs_in a.im.classes a.graph.now a.n) a.b.left (pool_of a.terms.now a.runs.now)) (pool_of a.terms.now a.runs.now) l.pairs l.terms l.runs l.k l.bud.left (omega (arith, n, h)) l.invariant.7 c.spend-sp.result.budget.left z.0 e (rw (← p) z.1)
-
-pub overflow_add-k : goal.overflow_add-k
-overflow_add-k c = record { fits = omega (arith, c.loop-k-test.true, c.requires.2) }
-
-pub loop-k-smaller : goal.loop-k-smaller
-loop-k-smaller c = omega (arith, c.loop-k-test.true)
+    let z = rw c.in_err-start_one.was at c.start_one.ensures in
+    rw c.from_residual.ensures (start-full (limits_of a.lim) (tables_of a.s.now) (pairs_in a.im.classes a.graph.now a.n) (starting_terms (limits_of a.lim) (tables_of a.s.now) (pairs_in a.im.classes a.graph.now a.n) a.b.left (pool_of a.terms.now a.runs.now)) (pool_of a.terms.now a.runs.now) l.pairs l.terms l.runs l.k l.bud.left (omega (arith, n, h)) l.invariant.7 c.spend-sp.result.budget.left z.0 e (rw (← p) z.1))
 
 pub loop-k-preserved : goal.loop-k-preserved
 loop-k-preserved c =
@@ -99,8 +93,8 @@ loop-k-preserved c =
     let n = unkeyed-length a.graph.now (a.im.classes * a.im.classes) a.n in
     let e = spent l.bud c.spend-sp.result c.spend-sp.ensures c.if-not-sp.false in
     let p = pair-at (tables_of a.s.now) a.im.classes a.graph.now a.n l.k h x.result y.result x.ensures.0 y.ensures.0 in
-    let z = rw (c.in-Entered.is, p) at c.start_one-one.ensures in
-    let k = c.start_one-one.auto in
+    let z = rw (c.in_ok-start_one.was, p) at c.start_one.ensures in
+    let k = c.start_one.auto in
     (omega (arith, h), l.invariant.1, omega (arith, l.invariant.2, k), omega (arith, l.invariant.3, k), omega (arith, l.invariant.4, k), omega (arith, l.invariant.5, k), z.kept, start-more (limits_of a.lim) (tables_of a.s.now) (pairs_in a.im.classes a.graph.now a.n) (starting_terms (limits_of a.lim) (tables_of a.s.now) (pairs_in a.im.classes a.graph.now a.n) a.b.left (pool_of a.terms.now a.runs.now)) (pool_of a.terms.now a.runs.now) l.pairs l.terms l.runs l.k l.bud.left (omega (arith, n, h)) l.invariant.7 c.requires.1 c.requires.4 (omega (arith, n, c.requires.5, l.invariant.2)) c.spend-sp.result.budget.left _ _ _ _ e z)
 
 pub shape_of-pairs : goal.shape_of-pairs

@@ -14,6 +14,3 @@ abbrev pub invariant-loop-k : goal.invariant-loop-k
 invariant-loop-k l =
     (l.k ≤ l.n) × (6 * l.n ≤ length l.initial.pairs) × (length l.pairs ≡ length l.initial.pairs) × (length l.terms ≡ length l.initial.terms) × (length l.runs ≡ length l.initial.runs) × (length l.best ≡ 256) × Kept (limits_of l.lim) (tables_of l.s) (pool_of l.terms l.runs) l.best
     × Starting (limits_of l.lim) (tables_of l.s) (pairs_in l.im.classes l.graph l.n) (starting_terms (limits_of l.lim) (tables_of l.s) (pairs_in l.im.classes l.graph l.n) l.initial.bud.left (pool_of l.initial.terms l.initial.runs)) (pool_of l.initial.terms l.initial.runs) l.pairs l.terms l.runs l.k l.bud.left
-
-abbrev pub decreases-loop-k : goal.decreases-loop-k
-decreases-loop-k l = l.n - l.k

@@ -111,23 +111,23 @@ visit-x-requires c =
       omega (arith, h, R.long),
     )
 
-pub shape_of-pairs-in-Full : goal.shape_of-pairs-in-Full
-shape_of-pairs-in-Full c = omega (arith, c.loop-k.invariant.1, c.visit-x.auto)
+pub shape_of-pairs-in_default : goal.shape_of-pairs-in_default
+shape_of-pairs-in_default c = omega (arith, c.loop-k.invariant.1, c.visit-x.auto)
 
-pub shape_of-work-in-Full : goal.shape_of-work-in-Full
-shape_of-work-in-Full c = omega (arith, c.loop-k.invariant.2, c.visit-x.auto)
+pub shape_of-work-in_default : goal.shape_of-work-in_default
+shape_of-work-in_default c = omega (arith, c.loop-k.invariant.2, c.visit-x.auto)
 
-pub shape_of-flow-in-Full : goal.shape_of-flow-in-Full
-shape_of-flow-in-Full c = omega (arith, c.loop-k.invariant.3, c.visit-x.auto)
+pub shape_of-flow-in_default : goal.shape_of-flow-in_default
+shape_of-flow-in_default c = omega (arith, c.loop-k.invariant.3, c.visit-x.auto)
 
-pub shape_of-terms-in-Full : goal.shape_of-terms-in-Full
-shape_of-terms-in-Full c = omega (arith, c.loop-k.invariant.4, c.visit-x.auto)
+pub shape_of-terms-in_default : goal.shape_of-terms-in_default
+shape_of-terms-in_default c = omega (arith, c.loop-k.invariant.4, c.visit-x.auto)
 
-pub shape_of-runs-in-Full : goal.shape_of-runs-in-Full
-shape_of-runs-in-Full c = omega (arith, c.loop-k.invariant.5, c.visit-x.auto)
+pub shape_of-runs-in_default : goal.shape_of-runs-in_default
+shape_of-runs-in_default c = omega (arith, c.loop-k.invariant.5, c.visit-x.auto)
 
-pub returns-in-Full : goal.returns-in-Full
-returns-in-Full c =
+pub returns-in_default : goal.returns-in_default
+returns-in_default c =
     let a = c.args in
     let l = c.loop-k in
     let n = unkeyed-length a.graph.now (a.im.classes * a.im.classes) a.n in
@@ -136,7 +136,7 @@ returns-in-Full c =
     let ra = c.right_at-r in
     let sp = c.spend_many-sp in
     let p = pair-at (tables_of a.s.now) a.im.classes a.graph.now a.n l.k h la.result ra.result la.ensures.0 ra.ensures.0 in
-    let z = visits-full c.visit-x.result c.visit-x.ensures c.in-Full.is in
+    let z = visits-full c.visit-x.result c.visit-x.ensures c.in_default.is in
     let e : l.bud.left ≡ sp.result.budget.left + 1 = omega (arith, c.due.ensures, due-live l.k c.next_live-j.result (omega (arith, c.if-k-j.false)), enough c.due.result l.bud sp.result sp.ensures c.if-not-sp.false) in
     turn-refused (limits_of a.lim) (tables_of a.s.now) (pairs_in a.im.classes a.graph.now a.n) (state_in a.pairs.now a.terms.now a.runs.now a.n 0 0 0) (round_at (limits_of a.lim) (tables_of a.s.now) (pairs_in a.im.classes a.graph.now a.n) (state_in a.pairs.now a.terms.now a.runs.now a.n 0 0 0) a.b.left) l.pairs l.terms l.runs l.k l.bud.left l.changed (omega (arith, n, h)) l.invariant.6 a.im.classes a.graph.now (graphs-length (limits_of a.lim) (tables_of a.s.now) a.im.classes (pairs_in a.im.classes a.graph.now a.n) a.n a.graph.now c.requires.2) (la.result, ra.result) p sp.result.budget.left z.0 e z.1
 
@@ -157,7 +157,7 @@ loop-k-preserved c =
     let v = c.visit-x in
     let sp = c.spend_many-sp in
     let p = pair-at (tables_of a.s.now) a.im.classes a.graph.now a.n l.k h la.result ra.result la.ensures.0 ra.ensures.0 in
-    let z = visits-to v.result v.ensures _ c.in-To.is in
+    let z = visits-to v.result v.ensures _ c.in-Some.is in
     let e : l.bud.left ≡ sp.result.budget.left + 1 = omega (arith, c.due.ensures, due-live l.k c.next_live-j.result (omega (arith, c.if-k-j.false)), enough c.due.result l.bud sp.result sp.ensures c.if-not-sp.false) in (
       omega (arith, h),
       omega (arith, l.invariant.1, v.auto),
