@@ -5,7 +5,7 @@ use Rattle.arrays.specs.Arrays.{pairs_in}
 use Rattle.query.specs.Settings.{limits_of}
 use Rattle.spec.specs.Run.{starting_terms}
 use Rattle.spec.specs.Image.{tables_of}
-use Prim.Native.Nat.{◌≤◌, ◌-◌, ◌*◌}
+use Prim.Native.Nat.{◌≤◌, ◌*◌}
 use mathlib.Core.Path.{◌≡◌}
 use lib.ListN.{length}
 use Rattle.exact_fixed.proofs.start_all.Given as goal
