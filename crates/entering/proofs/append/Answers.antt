@@ -1,5 +1,6 @@
 use Rattle.entering.specs.EnteredLaws.{with-puts}
 use native.Mathlib.Omega.{arith}
+use borrow.Author.Rules.{rules}
 use Rattle.entering.proofs.append.Goals as goal
 
 pub place-requires : goal.place-requires

@@ -2,6 +2,7 @@ use Rattle.entering.specs.GrowLaws.{appends, fills, stays}
 use Rattle.query.specs.Settings.{limits_of}
 use mathlib.Core.Path.{◌∙◌, sym}
 use native.Mathlib.Omega.{arith}
+use borrow.Author.Rules.{rules}
 use Rattle.entering.proofs.enter_pair.Goals as goal
 
 pub known-requires : goal.known-requires

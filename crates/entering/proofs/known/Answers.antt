@@ -3,6 +3,7 @@ use Rattle.entering.specs.GrowLaws.{known-key, known_past}
 use lib.ListN.{get_or}
 use mathlib.Core.Path.{◌∙◌, ap}
 use native.Mathlib.Omega.{arith}
+use borrow.Author.Rules.{rules}
 use Rattle.entering.proofs.known.Goals as goal
 
 pub place-requires : goal.place-requires
