@@ -88,7 +88,7 @@ POINTS = {
           ('kinds by a number', lambda: list(lines(r'const (SPAIR|MSET|SET|LIT): |\bkind: (u8|usize)|fn kind\('))),
           ('a flag beside a value', lambda: list(lines(r'^\s+(pub )?\w+: bool,$')))],
     '2': [('groups of twins', twins)],
-    '3': [('while and loop', lambda: list(lines(r'^\s*(while|loop)\b')))],
+    '3': [('while and loop', lambda: list(lines(r"^\s*(let \w+ = )?('\w+: )?(while|loop)\b")))],
     '4': [('conversions', lambda: list(lines(r'fn (size|long|short)_\w+\(|fn (answer_of|numbers_of\w*)\(|fn (byte|narrow|wider)\('))),
           ('order, equality and choice', lambda: list(lines(r'fn (less|least|larger|either|better|same\w*|is_less)\b|enum Order\b')))],
     '5': [('facts in three or more contracts', facts), ('pairs of parameters in three or more functions', together)],
