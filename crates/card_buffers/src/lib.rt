@@ -15,16 +15,7 @@ const RUNS: usize = 65536;
 pub fn short(least: usize, frames: usize, marks: usize, terms: usize, runs: usize) -> bool
     ensures { result ≡ not (fit_of least frames marks terms runs) }
 {
-    if frames < least {
-        return true;
-    }
-    if marks < MARKS {
-        return true;
-    }
-    if terms < TERMS {
-        return true;
-    }
-    runs < RUNS
+    frames < least || marks < MARKS || terms < TERMS || runs < RUNS
 }
 
 // "every number zero"
