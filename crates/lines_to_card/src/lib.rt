@@ -16,12 +16,6 @@ use term_lines::Fault;
 // How many runs a line may have: the numbers of `frames`.
 const RUNS: usize = 65536;
 
-fn refuse(k: u8) -> Answer
-    ensures { result ≡ Refused k }
-{
-    Answer::Refused(k)
-}
-
 // the lines read into the pool's buffers, and the card of the last one's term
 fn card_of(
     table: &[u8],
@@ -38,8 +32,8 @@ fn card_of(
     let lim = query::limits_for(Caller::Desk);
     match term_lines::read_lines(lim, lines, frames, terms, runs) {
         Ok(()) => last_card::write_last(table, terms, runs, marks, out),
-        Err(Fault::Broken) => refuse(17),
-        Err(Fault::Full) => refuse(13),
+        Err(Fault::Broken) => Answer::Refused(17),
+        Err(Fault::Full) => Answer::Refused(13),
     }
 }
 
@@ -56,7 +50,7 @@ pub fn card_of_lines(
     ensures { let fit = fits_lines frames.old marks.old terms.old runs.old in Cards table.now lines.now fit out.old out.new result × Cleared fit frames.old frames.new marks.old marks.new terms.old terms.new runs.old runs.new }
 {
     if short(RUNS, frames.len(), marks.len(), terms.len(), runs.len()) {
-        return refuse(1);
+        return Answer::Refused(1);
     }
     let r = card_of(table, lines, frames, marks, terms, runs, out);
     clear_all(frames, marks, terms, runs);

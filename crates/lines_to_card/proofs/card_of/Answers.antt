@@ -1,3 +1,4 @@
+use mathlib.Core.Path.{refl}
 use Rattle.query.specs.Settings.{limits_of}
 use Rattle.lines_to_card.specs.CardLaws.{rooms, last-ready, lines-broken, lines-full, lines-written}
 use lib.ListN.{length}
@@ -21,9 +22,9 @@ returns-in-Ok c =
 -- src/lib.rt:25:1
 pub returns-in-Err-Broken : goal.returns-in-Err-Broken
 returns-in-Err-Broken c =
-    lines-broken (limits_of c.limits_for-lim.result) c.limits_for-lim.ensures c.args.table.now c.args.lines.now _ _ _ _ _ _ c.read_lines.result (rw c.in-Err-Broken.field-0-is at c.in-Err-Broken.is) c.read_lines.ensures c.args.out.now _ c.refuse.ensures
+    lines-broken (limits_of c.limits_for-lim.result) c.limits_for-lim.ensures c.args.table.now c.args.lines.now _ _ _ _ _ _ c.read_lines.result (rw c.in-Err-Broken.field-0-is at c.in-Err-Broken.is) c.read_lines.ensures c.args.out.now _ refl
 
 -- src/lib.rt:25:1
 pub returns-in-Err-Full : goal.returns-in-Err-Full
 returns-in-Err-Full c =
-    lines-full (limits_of c.limits_for-lim.result) c.limits_for-lim.ensures c.args.table.now c.args.lines.now _ _ _ _ _ _ c.read_lines.result (rw c.in-Err-Full.field-0-is at c.in-Err-Full.is) c.read_lines.ensures c.args.out.now _ c.refuse-in-Err-Full.ensures
+    lines-full (limits_of c.limits_for-lim.result) c.limits_for-lim.ensures c.args.table.now c.args.lines.now _ _ _ _ _ _ c.read_lines.result (rw c.in-Err-Full.field-0-is at c.in-Err-Full.is) c.read_lines.ensures c.args.out.now _ refl

@@ -1,10 +1,11 @@
+use mathlib.Core.Path.{refl}
 use Rattle.lines_to_card.specs.CardLaws.{call-short, call-roomy, call-goes}
 use Rattle.lines_to_card.proofs.card_of_lines.Goals as goal
 
 -- src/lib.rt:61:9
 pub returns-then-short : goal.returns-then-short
 returns-then-short c =
-    call-short c.args.table.now c.args.lines.now c.args.frames.now c.args.marks.now c.args.terms.now c.args.runs.now c.short.result c.short.ensures c.if-short.true c.args.out.now _ c.refuse.ensures
+    call-short c.args.table.now c.args.lines.now c.args.frames.now c.args.marks.now c.args.terms.now c.args.runs.now c.short.result c.short.ensures c.if-short.true c.args.out.now _ refl
 
 -- src/lib.rt:63:9
 pub card_of-r-requires : goal.card_of-r-requires
