@@ -15,12 +15,6 @@ use card_contract::Answer;
 use card_reader::Unread;
 use spec::Caller;
 
-fn refuse(k: u8) -> Answer
-    ensures { result ≡ Refused k }
-{
-    Answer::Refused(k)
-}
-
 // what was written of lines, as the answer
 fn answer_of(w: Option<usize>) -> Answer
     ensures { result ≡ answer_as w }
@@ -59,8 +53,8 @@ fn lines_of(
     let lim = query::limits_for(Caller::Desk);
     match card_reader::read_card(lim, table, &binds, text, frames, terms, runs) {
         Ok(a) => list_term(terms, runs, marks, out, a),
-        Err(Unread::NoFormula) => refuse(17),
-        Err(Unread::Full) => refuse(13),
+        Err(Unread::NoFormula) => Answer::Refused(17),
+        Err(Unread::Full) => Answer::Refused(13),
     }
 }
 
@@ -93,7 +87,7 @@ pub fn lines_of_card(
         terms.len(),
         runs.len(),
     ) {
-        return refuse(1);
+        return Answer::Refused(1);
     }
     let r = lines_of(table, text, frames, marks, terms, runs, out);
     clear_all(frames, marks, terms, runs);

@@ -1,3 +1,4 @@
+use mathlib.Core.Path.{refl}
 use Rattle.query.specs.Settings.{limits_of}
 use Rattle.card_to_lines.specs.LineLaws.{rooms, term-ready, term-listed, text-none, text-full}
 use lib.ListN.{length}
@@ -21,9 +22,9 @@ returns-in-Ok c =
 -- src/lib.rt:52:1
 pub returns-in-Err-NoFormula : goal.returns-in-Err-NoFormula
 returns-in-Err-NoFormula c =
-    text-none (limits_of c.limits_for-lim.result) c.limits_for-lim.ensures c.args.table.now c.args.text.now c.args.terms.now c.args.runs.now _ _ c.read_card.result (rw c.empty.ensures at c.read_card.ensures.0) (rw c.in-Err-NoFormula.field-0-is at c.in-Err-NoFormula.is) c.args.out.now _ c.refuse.ensures
+    text-none (limits_of c.limits_for-lim.result) c.limits_for-lim.ensures c.args.table.now c.args.text.now c.args.terms.now c.args.runs.now _ _ c.read_card.result (rw c.empty.ensures at c.read_card.ensures.0) (rw c.in-Err-NoFormula.field-0-is at c.in-Err-NoFormula.is) c.args.out.now _ refl
 
 -- src/lib.rt:52:1
 pub returns-in-Err-Full : goal.returns-in-Err-Full
 returns-in-Err-Full c =
-    text-full (limits_of c.limits_for-lim.result) c.limits_for-lim.ensures c.args.table.now c.args.text.now c.args.terms.now c.args.runs.now _ _ c.read_card.result (rw c.empty.ensures at c.read_card.ensures.0) (rw c.in-Err-Full.field-0-is at c.in-Err-Full.is) c.args.out.now _ c.refuse-in-Err-Full.ensures
+    text-full (limits_of c.limits_for-lim.result) c.limits_for-lim.ensures c.args.table.now c.args.text.now c.args.terms.now c.args.runs.now _ _ c.read_card.result (rw c.empty.ensures at c.read_card.ensures.0) (rw c.in-Err-Full.field-0-is at c.in-Err-Full.is) c.args.out.now _ refl

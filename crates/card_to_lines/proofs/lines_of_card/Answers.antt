@@ -1,10 +1,11 @@
+use mathlib.Core.Path.{refl}
 use Rattle.card_to_lines.specs.LineLaws.{call-short, call-roomy, call-goes}
 use Rattle.card_to_lines.proofs.lines_of_card.Goals as goal
 
 -- src/lib.rt:107:9
 pub returns-then-too_short : goal.returns-then-too_short
 returns-then-too_short c =
-    call-short c.args.table.now c.args.text.now c.args.frames.now c.args.marks.now c.args.terms.now c.args.runs.now c.too_short.result c.too_short.ensures c.if-too_short.true c.args.out.now _ c.refuse.ensures
+    call-short c.args.table.now c.args.text.now c.args.frames.now c.args.marks.now c.args.terms.now c.args.runs.now c.too_short.result c.too_short.ensures c.if-too_short.true c.args.out.now _ refl
 
 -- src/lib.rt:109:9
 pub lines_of-r-requires : goal.lines_of-r-requires
