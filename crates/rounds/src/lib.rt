@@ -5,7 +5,6 @@ ghost use Rattle.std.specs.Prelude.{◌≡◌, ◌*◌, ◌≤◌, length};
 ghost use Rattle.spec.specs.Image.{tables_of};
 ghost use Rattle.laws.specs.Valid.{Valid};
 ghost use Rattle.image.specs.Loaded.{Loaded};
-ghost use Rattle.spec.specs.Bytes as bytes;
 ghost use Rattle.lgg.specs.Pairs.{round_at, rounds_of};
 ghost use Rattle.steps.specs.Standing.{Standing};
 ghost use Rattle.lgg.specs.Stands.{Fits};
@@ -28,15 +27,6 @@ use query::Limits;
 use round_outcome::{After, Round};
 
 // ---- a round
-fn either(a: bool, b: bool) -> bool
-    ensures { result ≡ bytes.either a b }
-{
-    if a {
-        return true;
-    }
-    b
-}
-
 // A round over the pairs: "one [check] a pair in it". Pairs that are not live keep what they have, and the round gives them that already. None: refusal 13.
 fn relax_all(
     lim: Limits,
@@ -76,7 +66,7 @@ fn relax_all(
             let l = arrays::left_at(graph, w, k);
             let r = arrays::right_at(graph, w, k);
             let c = visits::visit(lim, s, im, graph, l, r, k, pairs, work, flow, terms, runs)?;
-            changed = either(changed, c);
+            changed |= c;
             k += 1;
         }
     }

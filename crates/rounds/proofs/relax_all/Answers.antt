@@ -165,7 +165,7 @@ loop-k-preserved c =
       omega (arith, l.invariant.3, v.auto),
       omega (arith, l.invariant.4, v.auto),
       omega (arith, l.invariant.5, v.auto),
-      turn_moved (limits_of a.lim) (tables_of a.s.now) (pairs_in a.im.classes a.graph.now a.n) (state_in a.pairs.now a.terms.now a.runs.now a.n 0 0 0) (round_at (limits_of a.lim) (tables_of a.s.now) (pairs_in a.im.classes a.graph.now a.n) (state_in a.pairs.now a.terms.now a.runs.now a.n 0 0 0) a.b.left) l.pairs l.terms l.runs l.k l.bud.left l.changed (omega (arith, n, h)) l.invariant.6 a.im.classes a.graph.now (graphs-length (limits_of a.lim) (tables_of a.s.now) a.im.classes (pairs_in a.im.classes a.graph.now a.n) a.n a.graph.now c.requires.2) (la.result, ra.result) p c.requires.8 sp.result.budget.left _ _ _ _ c.either-changed.result e z c.either-changed.ensures,
+      turn_moved (limits_of a.lim) (tables_of a.s.now) (pairs_in a.im.classes a.graph.now a.n) (state_in a.pairs.now a.terms.now a.runs.now a.n 0 0 0) (round_at (limits_of a.lim) (tables_of a.s.now) (pairs_in a.im.classes a.graph.now a.n) (state_in a.pairs.now a.terms.now a.runs.now a.n 0 0 0) a.b.left) l.pairs l.terms l.runs l.k l.bud.left l.changed (omega (arith, n, h)) l.invariant.6 a.im.classes a.graph.now (graphs-length (limits_of a.lim) (tables_of a.s.now) a.im.classes (pairs_in a.im.classes a.graph.now a.n) a.n a.graph.now c.requires.2) (la.result, ra.result) p c.requires.8 sp.result.budget.left _ _ _ _ _ e z refl,
       idles-more (pairs_in a.im.classes a.graph.now a.n) l.pairs a.llive.now a.rlive.now l.k l.invariant.7 _ _ _ _ z.numbers,
     )
 
