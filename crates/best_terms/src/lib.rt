@@ -31,6 +31,7 @@ fn build_best_term(
 {
     let mut waiting = [0u16; 256];
     let mut c = class;
+    // no range: down to a child's class that is unbuilt, back up to the class that waits when its term is built
     'outer: loop {
         let m = classes::best_member(s, im, c);
         let k = members::first_child(s, im, m);

@@ -8,12 +8,11 @@ use arrays::{MASS, TERM};
 use budget::Budget;
 use outcome::{Outcome, Ran};
 
-// a round: whether a pair changed, with the budget left; cut short; refusal 13
+// a round: whether a pair changed, with the budget left; or cut short
 #[derive(Clone, Copy)]
 pub enum Round {
     Finished(bool, Budget),
     Cut,
-    Full,
 }
 
 // after a round: the next, with the budget left; or the run's end
@@ -39,24 +38,21 @@ pub fn reported(pairs: &[u32], complete: bool, n: usize, rounds: u32, checks: u3
     }
 }
 
-// "The run is complete at the first finished round without change." Of the run's budget all checks passed where it is cut short, otherwise all but those left.
-pub fn after_round(x: Round, pairs: &[u32], n: usize, rounds: u32, budget: u32) -> After
+// "The run is complete at the first finished round without change." Of the run's budget all checks passed where it is cut short, otherwise all but those left. None: refusal 13.
+pub fn after_round(x: Option<Round>, pairs: &[u32], n: usize, rounds: u32, budget: u32) -> After
     requires { (6 ≤ length pairs.now) × LeftOf budget x }
     ensures { result ≡ after_of x pairs.now n rounds budget }
 {
     match x {
-        Round::Full => {
-            return After::Ended(Ran::Stopped(13));
-        }
-        Round::Cut => {
-            return After::Ended(Ran::Done(reported(pairs, false, n, rounds, budget)));
-        }
-        Round::Finished(changed, left) => {
-            if !changed {
+        None => After::Ended(Ran::Stopped(13)),
+        Some(Round::Cut) => After::Ended(Ran::Done(reported(pairs, false, n, rounds, budget))),
+        Some(Round::Finished(changed, left)) => {
+            if changed {
+                After::Next(left)
+            } else {
                 let checks = budget - left.left;
-                return After::Ended(Ran::Done(reported(pairs, true, n, rounds, checks)));
+                After::Ended(Ran::Done(reported(pairs, true, n, rounds, checks)))
             }
-            After::Next(left)
         }
     }
 }

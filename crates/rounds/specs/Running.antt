@@ -1,5 +1,5 @@
 -- The rounds: "The run is complete at the first finished round without change." "one cut short leaves every quality as it was"
-use Rattle.std.specs.Prelude.{◌≡◌, refl, Bool, true, false, List, map, ℕ, ◌+◌, ◌*◌, ◌-◌, ◌≤◌, ◌<◌, length, get_or}
+use Rattle.std.specs.Prelude.{◌≡◌, refl, Bool, true, false, Option, Some, None, List, map, ℕ, ◌+◌, ◌*◌, ◌-◌, ◌≤◌, ◌<◌, length, get_or}
 use Rattle.std.proofs.Common.{sym, ap, ◌∙◌, arith, add-one}
 use Rattle.spec.specs.Bytes.{Limits, any, Two, Res, ok, refused, passed}
 use Rattle.spec.specs.Image.{Tables}
@@ -143,26 +143,26 @@ module _ (lim : Limits) (t : Tables) (ps : List Two) (n : ℕ) (many : length ps
   pub run-expired : (o : Outcome) → o ≡ reported_in pairs false n rounds budget → b ≡ 0 → RanTo m marks terms runs (R.Done o)
   run-expired o q e = rw q (expires e)
 
-  module _ (c : ℕ) (left : b ≡ c + 1) (pairs' terms' runs' : List ℕ) (x : Round) (Y : Relaxes lim t ps Read (round_at lim t ps Read c) pairs' terms' runs' x) where
+  module _ (c : ℕ) (left : b ≡ c + 1) (pairs' terms' runs' : List ℕ) (x : Option Round) (Y : Relaxes lim t ps Read (round_at lim t ps Read c) pairs' terms' runs' x) where
     pub round-ended : (y : After) → y ≡ after_of x pairs' n rounds budget → (z : Ran) → y ≡ N.Ended z → RanTo m marks terms' runs' z
     round-ended y e z q = go x Y (sym q ∙ e)
       where
-        go : (x : Round) → Relaxes lim t ps Read (round_at lim t ps Read c) pairs' terms' runs' x → N.Ended z ≡ after_of x pairs' n rounds budget → RanTo m marks terms' runs' z
-        go U.Full S i = let w : z ≡ R.Stopped 13 = cc in rw w (run-refused c left terms' runs' S)
-        go U.Cut S i = let w : z ≡ R.Done (reported_in pairs' false n rounds budget) = cc in rw w (run-cut c left pairs' terms' runs' S)
-        go (U.Finished false d) S i = let w : z ≡ R.Done (reported_in pairs' true n rounds (budget - d.left)) = cc in rw w (run-quiet c left pairs' terms' runs' d.left false S refl)
-        go (U.Finished true d) S i = absurd (let w : ◌≡◌ {A = ℕ} 0 1 = cc in omega arith)
+        go : (x : Option Round) → Relaxes lim t ps Read (round_at lim t ps Read c) pairs' terms' runs' x → N.Ended z ≡ after_of x pairs' n rounds budget → RanTo m marks terms' runs' z
+        go None S i = let w : z ≡ R.Stopped 13 = cc in rw w (run-refused c left terms' runs' S)
+        go (Some U.Cut) S i = let w : z ≡ R.Done (reported_in pairs' false n rounds budget) = cc in rw w (run-cut c left pairs' terms' runs' S)
+        go (Some (U.Finished false d)) S i = let w : z ≡ R.Done (reported_in pairs' true n rounds (budget - d.left)) = cc in rw w (run-quiet c left pairs' terms' runs' d.left false S refl)
+        go (Some (U.Finished true d)) S i = absurd (let w : ◌≡◌ {A = ℕ} 0 1 = cc in omega arith)
 
     -- no more checks are left than the run had
     pub round-within : LeftOf budget x
     round-within = go x Y
       where
-        go : (x : Round) → Relaxes lim t ps Read (round_at lim t ps Read c) pairs' terms' runs' x → LeftOf budget x
-        go U.Full S = tt
-        go U.Cut S = tt
-        go (U.Finished changed d) S = omega (arith, X.left, run-left c left pairs' terms' runs' d.left changed S)
+        go : (x : Option Round) → Relaxes lim t ps Read (round_at lim t ps Read c) pairs' terms' runs' x → LeftOf budget x
+        go None S = tt
+        go (Some U.Cut) S = tt
+        go (Some (U.Finished changed d)) S = omega (arith, X.left, run-left c left pairs' terms' runs' d.left changed S)
 
-    module _ (changed : Bool) (d : Budget) (e : x ≡ U.Finished changed d) where
+    module _ (changed : Bool) (d : Budget) (e : x ≡ Some (U.Finished changed d)) where
       turned : Turning lim t ps Read (round_at lim t ps Read c) pairs' terms' runs' (length ps) d.left changed
       turned = relaxes-finished lim t ps Read (round_at lim t ps Read c) pairs' terms' runs' x Y changed d e
 
@@ -174,8 +174,8 @@ module _ (lim : Limits) (t : Tables) (ps : List Two) (n : ℕ) (many : length ps
 
 -- the classes that are live in the round after a finished one
 pub round-quiets : (lim : Limits) (t : Tables) → Valid t → (w : ℕ) (graph : List ℕ) (n : ℕ) → InRange t (pairs_in w graph n) → Closed t (pairs_in w graph n) → length (pairs_in w graph n) ≡ n
-    → (pairs terms runs : List ℕ) (c : ℕ) (pairs' terms' runs' : List ℕ) (x : Round) → Relaxes lim t (pairs_in w graph n) (state_in pairs terms runs n 0 0 0) (round_at lim t (pairs_in w graph n) (state_in pairs terms runs n 0 0 0) c) pairs' terms' runs' x
-    → (changed : Bool) (d : Budget) → x ≡ U.Finished changed d → (ll rl pairs'' ll' rl' : List ℕ) → Ends t w graph n pairs' ll rl pairs'' ll' rl' → Quiet t (pairs_in w graph n) (qualities_in pairs'' 0 n) ll' rl'
+    → (pairs terms runs : List ℕ) (c : ℕ) (pairs' terms' runs' : List ℕ) (x : Option Round) → Relaxes lim t (pairs_in w graph n) (state_in pairs terms runs n 0 0 0) (round_at lim t (pairs_in w graph n) (state_in pairs terms runs n 0 0 0) c) pairs' terms' runs' x
+    → (changed : Bool) (d : Budget) → x ≡ Some (U.Finished changed d) → (ll rl pairs'' ll' rl' : List ℕ) → Ends t w graph n pairs' ll rl pairs'' ll' rl' → Quiet t (pairs_in w graph n) (qualities_in pairs'' 0 n) ll' rl'
 round-quiets lim t v w graph n i closed many pairs terms runs c pairs' terms' runs' x Y changed d e ll rl pairs'' ll' rl' Z =
     let ps = pairs_in w graph n in
     let s = state_in pairs terms runs n 0 0 0 in

@@ -1,5 +1,5 @@
 -- A round, turn by turn: "All pairs read the previous round", "one [check] a pair in it".
-use Rattle.std.specs.Prelude.{◌≡◌, refl, Bool, false, List, [], ◌∷◌, ◌++◌, map, ℕ, ◌+◌, ◌*◌, ◌≤◌, ◌<◌, length, get_or, take}
+use Rattle.std.specs.Prelude.{◌≡◌, refl, Bool, false, Option, Some, None, List, [], ◌∷◌, ◌++◌, map, ℕ, ◌+◌, ◌*◌, ◌≤◌, ◌<◌, length, get_or, take}
 use Rattle.std.proofs.Common.{sym, ap, ap₂, ◌∙◌, arith, add-one, take-suc, take_all}
 use Rattle.spec.specs.Bytes.{Limits, any, either, Two, Res, ok, refused, Checked, passed, cut_short}
 use Rattle.spec.specs.Image.{Tables}
@@ -48,14 +48,14 @@ pub record Stays (lim : Limits) (ps : List Two) (s : State) (whole : Res (Checke
   pub grown : Extends s.pool (pool_of terms runs)
   pub within : count_in terms ≤ lim.terms
 
-abbrev pub Relaxes : Limits → Tables → List Two → State → Res (Checked Terms) → List ℕ → List ℕ → List ℕ → Round → Type 0
-Relaxes lim t ps s whole pairs terms runs (R.Finished c b) = Turning lim t ps s whole pairs terms runs (length ps) b.left c
-Relaxes lim t ps s whole pairs terms runs R.Cut = Stays lim ps s whole pairs terms runs
-Relaxes lim t ps s whole pairs terms runs R.Full = whole ≡ refused 13
+abbrev pub Relaxes : Limits → Tables → List Two → State → Res (Checked Terms) → List ℕ → List ℕ → List ℕ → Option Round → Type 0
+Relaxes lim t ps s whole pairs terms runs (Some (R.Finished c b)) = Turning lim t ps s whole pairs terms runs (length ps) b.left c
+Relaxes lim t ps s whole pairs terms runs (Some R.Cut) = Stays lim ps s whole pairs terms runs
+Relaxes lim t ps s whole pairs terms runs None = whole ≡ refused 13
 
 -- by what the round answered
-module _ (lim : Limits) (t : Tables) (ps : List Two) (s : State) (whole : Res (Checked Terms)) (pairs terms runs : List ℕ) (r : Round) (X : Relaxes lim t ps s whole pairs terms runs r) where
-  pub relaxes-finished : (c : Bool) (b : Budget) → r ≡ R.Finished c b → Turning lim t ps s whole pairs terms runs (length ps) b.left c
+module _ (lim : Limits) (t : Tables) (ps : List Two) (s : State) (whole : Res (Checked Terms)) (pairs terms runs : List ℕ) (r : Option Round) (X : Relaxes lim t ps s whole pairs terms runs r) where
+  pub relaxes-finished : (c : Bool) (b : Budget) → r ≡ Some (R.Finished c b) → Turning lim t ps s whole pairs terms runs (length ps) b.left c
   relaxes-finished c b e = rw e at X
 
 pub turning-none : (lim : Limits) (t : Tables) (ps : List Two) (s : State) (b : ℕ) (pairs terms runs : List ℕ) → Reads s pairs (length ps) → s.pool ≡ pool_of terms runs → Holds terms runs → count_in terms ≤ lim.terms

@@ -5,7 +5,6 @@ ghost use Rattle.std.specs.Prelude.{◌≡◌, ◌*◌, ◌≤◌, length};
 ghost use Rattle.spec.specs.Image.{tables_of};
 ghost use Rattle.laws.specs.Valid.{Valid};
 ghost use Rattle.image.specs.Loaded.{Loaded};
-ghost use Rattle.spec.specs.Bytes as bytes;
 ghost use Rattle.lgg.specs.Pairs.{round_at, rounds_of};
 ghost use Rattle.steps.specs.Standing.{Standing};
 ghost use Rattle.lgg.specs.Stands.{Fits};
@@ -28,16 +27,7 @@ use query::Limits;
 use round_outcome::{After, Round};
 
 // ---- a round
-fn either(a: bool, b: bool) -> bool
-    ensures { result ≡ bytes.either a b }
-{
-    if a {
-        return true;
-    }
-    b
-}
-
-// A round over the pairs: "one [check] a pair in it". Pairs that are not live keep what they have, and the round gives them that already.
+// A round over the pairs: "one [check] a pair in it". Pairs that are not live keep what they have, and the round gives them that already. None: refusal 13.
 fn relax_all(
     lim: Limits,
     s: &[u8],
@@ -52,7 +42,7 @@ fn relax_all(
     terms: &mut [u32],
     runs: &mut [u64],
     b: Budget,
-) -> Round
+) -> Option<Round>
     requires { Loaded s.now im × Valid (tables_of s.now) × Graphs (limits_of lim) (tables_of s.now) im.classes (pairs_in im.classes graph.now n) n graph.now × (6 * n ≤ length pairs.old) × Scratch (limits_of lim) work.old flow.old × Holds terms.old runs.old × Rooms (limits_of lim) terms.old runs.old × (count_in terms.old ≤ lim.terms) × Standing Fits (pairs_in im.classes graph.now n) (state_in pairs.old terms.old runs.old n 0 0 0)
         × Quiet (tables_of s.now) (pairs_in im.classes graph.now n) (qualities_in pairs.old 0 n) llive.now rlive.now
         × Idles (pairs_in im.classes graph.now n) pairs.old llive.now rlive.now 0 }
@@ -68,22 +58,19 @@ fn relax_all(
         let sp = bud.spend_many(live_pairs::due(k, j));
         bud = sp.budget;
         if !sp.passed {
-            return Round::Cut;
+            return Some(Round::Cut);
         }
         if k < j {
             k = j;
         } else {
             let l = arrays::left_at(graph, w, k);
             let r = arrays::right_at(graph, w, k);
-            let x = visits::visit(lim, s, im, graph, l, r, k, pairs, work, flow, terms, runs);
-            let Some(c) = x else {
-                return Round::Full;
-            };
-            changed = either(changed, c);
+            let c = visits::visit(lim, s, im, graph, l, r, k, pairs, work, flow, terms, runs)?;
+            changed |= c;
             k += 1;
         }
     }
-    Round::Finished(changed, bud)
+    Some(Round::Finished(changed, bud))
 }
 
 // ---- the rounds

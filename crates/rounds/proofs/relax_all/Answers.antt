@@ -85,8 +85,8 @@ right_at-r-requires c =
     let h = c.loop-k-test.true in
     (omega (arith, G.classes, c.requires.1.counts.few_classes), omega (arith, h, G.few, c.requires.4.few), omega (arith, h, G.few, G.wide))
 
-pub visit-x-requires : goal.visit-x-requires
-visit-x-requires c =
+pub visit-requires : goal.visit-requires
+visit-requires c =
     let a = c.args in
     let l = c.loop-k in
     let n = unkeyed-length a.graph.now (a.im.classes * a.im.classes) a.n in
@@ -111,23 +111,23 @@ visit-x-requires c =
       omega (arith, h, R.long),
     )
 
-pub shape_of-pairs-in_default : goal.shape_of-pairs-in_default
-shape_of-pairs-in_default c = omega (arith, c.loop-k.invariant.1, c.visit-x.auto)
+pub shape_of-pairs-in_err-c : goal.shape_of-pairs-in_err-c
+shape_of-pairs-in_err-c c = omega (arith, c.loop-k.invariant.1, c.visit.auto)
 
-pub shape_of-work-in_default : goal.shape_of-work-in_default
-shape_of-work-in_default c = omega (arith, c.loop-k.invariant.2, c.visit-x.auto)
+pub shape_of-work-in_err-c : goal.shape_of-work-in_err-c
+shape_of-work-in_err-c c = omega (arith, c.loop-k.invariant.2, c.visit.auto)
 
-pub shape_of-flow-in_default : goal.shape_of-flow-in_default
-shape_of-flow-in_default c = omega (arith, c.loop-k.invariant.3, c.visit-x.auto)
+pub shape_of-flow-in_err-c : goal.shape_of-flow-in_err-c
+shape_of-flow-in_err-c c = omega (arith, c.loop-k.invariant.3, c.visit.auto)
 
-pub shape_of-terms-in_default : goal.shape_of-terms-in_default
-shape_of-terms-in_default c = omega (arith, c.loop-k.invariant.4, c.visit-x.auto)
+pub shape_of-terms-in_err-c : goal.shape_of-terms-in_err-c
+shape_of-terms-in_err-c c = omega (arith, c.loop-k.invariant.4, c.visit.auto)
 
-pub shape_of-runs-in_default : goal.shape_of-runs-in_default
-shape_of-runs-in_default c = omega (arith, c.loop-k.invariant.5, c.visit-x.auto)
+pub shape_of-runs-in_err-c : goal.shape_of-runs-in_err-c
+shape_of-runs-in_err-c c = omega (arith, c.loop-k.invariant.5, c.visit.auto)
 
-pub returns-in_default : goal.returns-in_default
-returns-in_default c =
+pub returns-in_err-c : goal.returns-in_err-c
+returns-in_err-c c =
     let a = c.args in
     let l = c.loop-k in
     let n = unkeyed-length a.graph.now (a.im.classes * a.im.classes) a.n in
@@ -136,9 +136,9 @@ returns-in_default c =
     let ra = c.right_at-r in
     let sp = c.spend_many-sp in
     let p = pair-at (tables_of a.s.now) a.im.classes a.graph.now a.n l.k h la.result ra.result la.ensures.0 ra.ensures.0 in
-    let z = visits-full c.visit-x.result c.visit-x.ensures c.in_default.is in
+    let z = visits-full c.visit.result c.visit.ensures c.in_err-c.was in
     let e : l.bud.left ≡ sp.result.budget.left + 1 = omega (arith, c.due.ensures, due-live l.k c.next_live-j.result (omega (arith, c.if-k-j.false)), enough c.due.result l.bud sp.result sp.ensures c.if-not-sp.false) in
-    turn-refused (limits_of a.lim) (tables_of a.s.now) (pairs_in a.im.classes a.graph.now a.n) (state_in a.pairs.now a.terms.now a.runs.now a.n 0 0 0) (round_at (limits_of a.lim) (tables_of a.s.now) (pairs_in a.im.classes a.graph.now a.n) (state_in a.pairs.now a.terms.now a.runs.now a.n 0 0 0) a.b.left) l.pairs l.terms l.runs l.k l.bud.left l.changed (omega (arith, n, h)) l.invariant.6 a.im.classes a.graph.now (graphs-length (limits_of a.lim) (tables_of a.s.now) a.im.classes (pairs_in a.im.classes a.graph.now a.n) a.n a.graph.now c.requires.2) (la.result, ra.result) p sp.result.budget.left z.0 e z.1
+    rw c.from_residual.ensures (turn-refused (limits_of a.lim) (tables_of a.s.now) (pairs_in a.im.classes a.graph.now a.n) (state_in a.pairs.now a.terms.now a.runs.now a.n 0 0 0) (round_at (limits_of a.lim) (tables_of a.s.now) (pairs_in a.im.classes a.graph.now a.n) (state_in a.pairs.now a.terms.now a.runs.now a.n 0 0 0) a.b.left) l.pairs l.terms l.runs l.k l.bud.left l.changed (omega (arith, n, h)) l.invariant.6 a.im.classes a.graph.now (graphs-length (limits_of a.lim) (tables_of a.s.now) a.im.classes (pairs_in a.im.classes a.graph.now a.n) a.n a.graph.now c.requires.2) (la.result, ra.result) p sp.result.budget.left z.0 e z.1)
 
 pub overflow_add-k : goal.overflow_add-k
 overflow_add-k c = record { fits = omega (arith, c.loop-k-test.true, c.requires.2.few, c.requires.4.few) }
@@ -154,10 +154,10 @@ loop-k-preserved c =
     let h = c.loop-k-test.true in
     let la = c.left_at-l in
     let ra = c.right_at-r in
-    let v = c.visit-x in
+    let v = c.visit in
     let sp = c.spend_many-sp in
     let p = pair-at (tables_of a.s.now) a.im.classes a.graph.now a.n l.k h la.result ra.result la.ensures.0 ra.ensures.0 in
-    let z = visits-to v.result v.ensures _ c.in-Some.is in
+    let z = visits-to v.result v.ensures _ c.in_ok-c.was in
     let e : l.bud.left ≡ sp.result.budget.left + 1 = omega (arith, c.due.ensures, due-live l.k c.next_live-j.result (omega (arith, c.if-k-j.false)), enough c.due.result l.bud sp.result sp.ensures c.if-not-sp.false) in (
       omega (arith, h),
       omega (arith, l.invariant.1, v.auto),
@@ -165,7 +165,7 @@ loop-k-preserved c =
       omega (arith, l.invariant.3, v.auto),
       omega (arith, l.invariant.4, v.auto),
       omega (arith, l.invariant.5, v.auto),
-      turn_moved (limits_of a.lim) (tables_of a.s.now) (pairs_in a.im.classes a.graph.now a.n) (state_in a.pairs.now a.terms.now a.runs.now a.n 0 0 0) (round_at (limits_of a.lim) (tables_of a.s.now) (pairs_in a.im.classes a.graph.now a.n) (state_in a.pairs.now a.terms.now a.runs.now a.n 0 0 0) a.b.left) l.pairs l.terms l.runs l.k l.bud.left l.changed (omega (arith, n, h)) l.invariant.6 a.im.classes a.graph.now (graphs-length (limits_of a.lim) (tables_of a.s.now) a.im.classes (pairs_in a.im.classes a.graph.now a.n) a.n a.graph.now c.requires.2) (la.result, ra.result) p c.requires.8 sp.result.budget.left _ _ _ _ c.either-changed.result e z c.either-changed.ensures,
+      turn_moved (limits_of a.lim) (tables_of a.s.now) (pairs_in a.im.classes a.graph.now a.n) (state_in a.pairs.now a.terms.now a.runs.now a.n 0 0 0) (round_at (limits_of a.lim) (tables_of a.s.now) (pairs_in a.im.classes a.graph.now a.n) (state_in a.pairs.now a.terms.now a.runs.now a.n 0 0 0) a.b.left) l.pairs l.terms l.runs l.k l.bud.left l.changed (omega (arith, n, h)) l.invariant.6 a.im.classes a.graph.now (graphs-length (limits_of a.lim) (tables_of a.s.now) a.im.classes (pairs_in a.im.classes a.graph.now a.n) a.n a.graph.now c.requires.2) (la.result, ra.result) p c.requires.8 sp.result.budget.left _ _ _ _ _ e z refl,
       idles-more (pairs_in a.im.classes a.graph.now a.n) l.pairs a.llive.now a.rlive.now l.k l.invariant.7 _ _ _ _ z.numbers,
     )
 
