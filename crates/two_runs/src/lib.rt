@@ -39,25 +39,13 @@ fn short(
 ) -> bool
     ensures { result ≡ not (fit_of table graph pairs work flow terms runs) }
 {
-    if table < TABLE {
-        return true;
-    }
-    if graph < GRAPH {
-        return true;
-    }
-    if pairs < PAIRS {
-        return true;
-    }
-    if work < WORK {
-        return true;
-    }
-    if flow < FLOW {
-        return true;
-    }
-    if terms < TERMS {
-        return true;
-    }
-    runs < RUNS
+    table < TABLE
+        || graph < GRAPH
+        || pairs < PAIRS
+        || work < WORK
+        || flow < FLOW
+        || terms < TERMS
+        || runs < RUNS
 }
 
 // The merge that a query asks for, with its caller's limit of pairs, into a listing. Refuses as the table of refusals says.
