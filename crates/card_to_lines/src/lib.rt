@@ -6,7 +6,6 @@ ghost use Rattle.spec.specs.Run.{document_limits};
 ghost use Rattle.formula.specs.Lines.{lines_of_card};
 ghost use Rattle.terms.specs.Buffers.{count_in, pool_of};
 ghost use Rattle.terms.specs.Chains.{Holds};
-ghost use Rattle.card_contract.specs.declared.Answer.TheVariants.{Refused};
 ghost use Rattle.card_contract.specs.Calls.{fit_of, fits_text, Answers, Reads, Cleared};
 ghost use Rattle.card_to_lines.specs.LineLaws.{answer_as, listed_term, fit_text, Roomy};
 

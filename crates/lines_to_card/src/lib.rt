@@ -4,7 +4,6 @@
 ghost use Rattle.std.specs.Prelude.{◌≡◌, length};
 ghost use Rattle.spec.specs.Run.{document_limits};
 ghost use Rattle.formula.specs.Lines.{card_of_lines};
-ghost use Rattle.card_contract.specs.declared.Answer.TheVariants.{Refused};
 ghost use Rattle.card_contract.specs.Calls.{fits_lines, Answers, Cards, Cleared};
 ghost use Rattle.card_buffers.specs.BufferLaws.{Roomy};
 
