@@ -27,7 +27,9 @@ pub fn text(out: &mut [u8], at: usize, b: &[u8]) -> usize
     requires { at + length b.now ≤ length out.old }
     ensures { Wrote b.now out.old at out.new result }
 {
-    out[at..at + b.len()].copy_from_slice(b);
+    for i in 0..b.len() {
+        out[at + i] = b[i];
+    }
     at + b.len()
 }
 
