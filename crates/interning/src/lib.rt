@@ -19,7 +19,13 @@ fn same_runs(runs: &[u64], from: usize, list: &[u64], n: usize) -> bool
     requires { (from + n ≤ length runs.now) × (n ≤ length list.now) }
     ensures { Tells result (part runs.now from n ≡ part list.now 0 n) }
 {
-    runs[from..from + n] == list[..n]
+    // no comparison of slices: along a long chain it costs a third more
+    for i in 0..n {
+        if runs[from + i] != list[i] {
+            return false;
+        }
+    }
+    true
 }
 
 fn is_term(terms: &[u32], runs: &[u64], t: usize, list: &[u64], n: usize, h: u32, v: u32) -> bool
