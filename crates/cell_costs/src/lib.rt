@@ -1,7 +1,7 @@
 // The cells of a transport action over two monomials (exact_fixed.rs): the largest mass, and the cost matrix laid out.
 #![tactic(auto)]
 
-ghost use Rattle.std.specs.Prelude.{◌≡◌, map, ◌*◌, ◌^◌, ◌≤◌, ◌<◌, length};
+ghost use Rattle.std.specs.Prelude.{◌≡◌, map, ◌*◌, ◌^◌, ◌≤◌, ◌<◌, max, length};
 ghost use Rattle.spec.specs.Monomial.{counts};
 ghost use Rattle.spec.specs.Transport.{largest, mass_of, weight};
 ghost use Rattle.wide.specs.Value.{unsigned};
@@ -14,6 +14,13 @@ ghost use Rattle.cells.specs.Problem.{problem_at};
 use arrays::{mass_of, size_of};
 use cells::cell;
 use wide::Wide;
+
+// V over one cell more: v, or its mass where that is larger.
+fn larger(v: u32, mass: u32) -> u32
+    ensures { result ≡ max v mass }
+{
+    v.max(mass)
+}
 
 // V: the largest mass of the cells' pairs.
 pub fn largest_mass(
@@ -32,7 +39,7 @@ pub fn largest_mass(
     let mut v = 0u32;
     for k in 0..count {
         let p = cell(left, rows, right, cols, k);
-        v = v.max(mass_of(graph, pairs, w, p.left, p.right));
+        v = larger(v, mass_of(graph, pairs, w, p.left, p.right));
     }
     v
 }

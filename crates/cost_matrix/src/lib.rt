@@ -1,7 +1,7 @@
 // The cost matrix of a transport (transport.rs): each cell's cost, size * W + mass, as a number of two words, and its capacity; three numbers a cell, row by row.
 #![tactic(auto)]
 
-ghost use Rattle.std.specs.Prelude.{◌≡◌, ◌+◌, ◌*◌, ◌^◌, ◌<◌, length};
+ghost use Rattle.std.specs.Prelude.{◌≡◌, ◌+◌, ◌*◌, ◌^◌, ◌<◌, min, length};
 ghost use Rattle.spec.specs.Transport.{cost, WIDEST};
 ghost use Rattle.wide.specs.Value.{unsigned};
 ghost use Rattle.cost_matrix.specs.Matrix.{cost_of, celled, laid_cell};
@@ -42,7 +42,14 @@ pub fn put_cell(costs: &mut [u64], k: usize, d: Wide, cap: u64)
     put_u64(costs, at + 2, cap);
 }
 
-// Cell k, allowed: its cost, and the smaller of the two margins as its capacity.
+// What an allowed cell takes: the smaller of its two margins.
+fn capacity(supply: u32, demand: u32) -> u64
+    ensures { result ≡ min supply demand }
+{
+    long_u32(supply).min(long_u32(demand))
+}
+
+// Cell k, allowed: its cost, and its capacity.
 pub fn lay_cell(
     costs: &mut [u64],
     k: usize,
@@ -56,6 +63,6 @@ pub fn lay_cell(
     ensures { costs.new ≡ laid_cell (unsigned w) (cost size mass) supply demand k costs.old }
 {
     let d = cell_cost(size, mass, w);
-    let cap = long_u32(supply).min(long_u32(demand));
+    let cap = capacity(supply, demand);
     put_cell(costs, k, d, cap);
 }

@@ -19,7 +19,7 @@ fn same_runs(runs: &[u64], from: usize, list: &[u64], n: usize) -> bool
     requires { (from + n ≤ length runs.now) × (n ≤ length list.now) }
     ensures { Tells result (part runs.now from n ≡ part list.now 0 n) }
 {
-    // no comparison of slices: along a long chain it costs a third more
+    // no comparison of slices: along a long chain it takes half as long again
     for i in 0..n {
         if runs[from + i] != list[i] {
             return false;

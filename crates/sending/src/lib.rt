@@ -11,6 +11,13 @@ use plan_parts::place;
 use stores::put_u64;
 use tracing::LAST;
 
+// What is left of x with n less: nothing where n is more.
+fn less(x: u64, n: u64) -> u64
+    ensures { result ≡ x - n }
+{
+    x.saturating_sub(n)
+}
+
 // n units along the step from u to v.
 fn send_on(flow: &mut [u64], r: usize, c: usize, u: usize, v: usize, n: u64)
     requires { (r ≤ WIDEST) × (c ≤ WIDEST) × (r * c ≤ length flow.old) × Step r c u v × ((k : ℕ) → k < r * c → get_or flow.old k 0 + n < 2 ^ 64) }
@@ -29,7 +36,7 @@ fn send_on(flow: &mut [u64], r: usize, c: usize, u: usize, v: usize, n: u64)
         return;
     }
     let k = place(v - 1, u - 1 - r, c);
-    let x = flow[k].saturating_sub(n);
+    let x = less(flow[k], n);
     put_u64(flow, k, x);
 }
 

@@ -2,7 +2,7 @@
 #![tactic(auto)]
 
 ghost use Rattle.std.specs.Prelude.{◌≡◌, ◌+◌, ◌*◌, ◌≤◌, ◌<◌, length};
-ghost use Rattle.formula.specs.Card.{operations, sign, prec_of, left_level, right_level};
+ghost use Rattle.formula.specs.Card.{operations, sign_field, sign, prec_of, left_level, right_level};
 
 // How many operations the table has: whole entries, at most 64.
 pub fn operations(table: &[u8]) -> usize
@@ -18,13 +18,24 @@ pub fn operations(table: &[u8]) -> usize
     64
 }
 
-// The length of an operation's sign; its bytes are the table's from place 9 + 9 * o on.
+// The eight bytes of an operation's sign, the table's from place 9 + 9 * o on.
+fn sign_field(table: &[u8], o: usize) -> &[u8]
+    requires { o < operations table.now }
+    ensures { result.now ≡ sign_field table.now o }
+{
+    let at = 9 + 9 * o;
+    &table[at..at + 8]
+}
+
+// The length of an operation's sign.
 pub fn sign_length(table: &[u8], o: usize) -> usize
     requires { o < operations table.now }
     ensures { (result ≡ length (sign table.now o)) × (result ≤ 8) }
 {
-    let at = 9 + 9 * o;
-    table[at..at + 8].iter().position(|b| *b == 0).unwrap_or(8)
+    sign_field(table, o)
+        .iter()
+        .position(|b| *b == 0)
+        .unwrap_or(8)
 }
 
 // "and its precedence"

@@ -1,7 +1,7 @@
 // The cost matrix of the problem that slices give (transport.rs): V, then each cell by its flag.
 #![tactic(auto)]
 
-ghost use Rattle.std.specs.Prelude.{◌≡◌, List, map, ℕ, ◌+◌, ◌*◌, ◌^◌, ◌≤◌, ◌<◌, eqb, length};
+ghost use Rattle.std.specs.Prelude.{◌≡◌, List, map, ℕ, ◌+◌, ◌*◌, ◌^◌, ◌≤◌, ◌<◌, max, eqb, length};
 ghost use Rattle.spec.specs.Bytes.{pick};
 ghost use Rattle.spec.specs.Transport.{cost, forbidden, largest, mass_of, weight, WIDEST};
 ghost use Rattle.wide.specs.Value.{unsigned};
@@ -34,6 +34,13 @@ fn lay_flagged(
 }
 
 // ---- all cells
+// V over one cell more: v, or its mass where it is allowed and larger.
+fn larger(v: u32, flag: u8, mass: u32) -> u32
+    ensures { result ≡ max v (pick (eqb flag 0) 0 mass) }
+{
+    v.max(if_allowed(flag, mass))
+}
+
 // V: the largest mass in an allowed cell.
 fn largest_mass(masses: &[u32], allowed: &[u8]) -> u32
     requires { length allowed.now ≡ length masses.now }
@@ -41,7 +48,7 @@ fn largest_mass(masses: &[u32], allowed: &[u8]) -> u32
 {
     let mut v = 0u32;
     for i in 0..masses.len() {
-        v = v.max(if_allowed(allowed[i], masses[i]));
+        v = larger(v, allowed[i], masses[i]);
     }
     v
 }

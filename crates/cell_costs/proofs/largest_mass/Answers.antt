@@ -34,9 +34,9 @@ loop-k-preserved c =
       omega (arith, c.loop-k-test.true),
       c.loop-k.invariant.1,
       largest-more (problem_at q (sides_of a.left.now a.rows a.right.now a.cols)) c.loop-k.k c.loop-k.v (omega (arith, c.loop-k.invariant.1, c.loop-k-test.true, problem-many a.left.now a.rows a.right.now a.cols c.requires.1 q)) c.loop-k.invariant.2
-          (cost (q (with l r)).0 c.mass_of.result) c.max-v.result
+          (cost (q (with l r)).0 c.mass_of.result) c.larger-v.result
           (problem-cell a.left.now a.rows a.right.now a.cols c.requires.1 q c.loop-k.k (omega (arith, c.loop-k.invariant.1, c.loop-k-test.true)) l r (q (with l r)).0 c.mass_of.result c.cell-p.ensures refl c.mass_of.ensures)
-          c.max-v.ensures,
+          c.larger-v.ensures,
     )
 
 pub returns : goal.returns

@@ -56,4 +56,4 @@ put_u64-requires-2 c = let h = (let it : c.place-k-2.result < c.args.r * c.args.
 
 pub returns : goal.returns
 returns c = let a = c.args in
-    c.put_u64-2.ensures ∙ ap (λ (x : ℕ). set a.flow.now c.place-k-2.result x) c.saturating_sub-x.ensures ∙ ap (λ (k : ℕ). set a.flow.now k (get_or a.flow.now k 0 - a.n)) c.place-k-2.ensures ∙ sent_back a.r a.c a.n a.u a.v a.flow.now c.if-u-eq0.false (omega arith) c.if-v-r.false
+    c.put_u64-2.ensures ∙ ap (λ (x : ℕ). set a.flow.now c.place-k-2.result x) c.less-x.ensures ∙ ap (λ (k : ℕ). set a.flow.now k (get_or a.flow.now k 0 - a.n)) c.place-k-2.ensures ∙ sent_back a.r a.c a.n a.u a.v a.flow.now c.if-u-eq0.false (omega arith) c.if-v-r.false

@@ -1,4 +1,4 @@
-use Rattle.std.proofs.Common.{rules, tests, arith, eqb, ◌≡◌, ◌+◌, ◌*◌, ◌-◌}
+use Rattle.std.proofs.Common.{rules, tests, arith, eqb, ◌∙◌}
 use Rattle.std.proofs.lemmas.Iterator.{YieldsList-from_slice}
 use Rattle.std.proofs.lemmas.Iterator.Search.{position_from_yields_List}
 use Rattle.formula.specs.Card.{sign_field}
@@ -8,6 +8,6 @@ use Rattle.signs.proofs.sign_length.Goals as goal
 pub returns : goal.returns
 returns c =
     let a = c.args in
-    let k : 9 + 9 * a.o + 8 - (9 + 9 * a.o) ≡ 8 = omega arith in
-    let e = position_from_yields_List (λ x. eqb x 0) _ _ c.position.result c.position.ensures.ran (YieldsList-from_slice (sign_field a.table.now a.o) (rw k at c.iter.ensures.rest)) (λ x b q k. search (rules, tests)) in
-    rw (← c.unwrap_or.ensures) at (first-zero a.table.now a.o c.requires c.position.result e)
+    let e = position_from_yields_List (λ x. eqb x 0) _ _ c.position.result c.position.ensures.ran (YieldsList-from_slice (sign_field a.table.now a.o) (c.iter.ensures.rest ∙ c.sign_field.ensures)) (λ x b q k. search (rules, tests)) in
+    let f = first-zero a.table.now a.o c.requires c.position.result e in
+    (omega (arith, f.0), omega (arith, f.1))

@@ -16,7 +16,7 @@ loop-i-preserved c =
     let l = c.loop-i in
     let m = a.masses.now in
     let f = a.allowed.now in
-    (omega arith, λ s d z e. largest-more (problem_of s d z m f) l.i l.v (omega (arith, e, cells-many s d z m f)) (l.invariant.1 s d z e) (cell_of z m f l.i) c.max-v.result (cell-at s d z m f l.i (omega (arith, e))) (c.max-v.ensures ∙ ap (λ (x : ℕ). max l.v x) (c.if_allowed.ensures ∙ sym (mass-is (get_or f l.i 0) (get_or z l.i 0) (get_or m l.i 0)))))
+    (omega arith, λ s d z e. largest-more (problem_of s d z m f) l.i l.v (omega (arith, e, cells-many s d z m f)) (l.invariant.1 s d z e) (cell_of z m f l.i) c.larger-v.result (cell-at s d z m f l.i (omega (arith, e))) (c.larger-v.ensures ∙ ap (λ (x : ℕ). max l.v x) (sym (mass-is (get_or f l.i 0) (get_or z l.i 0) (get_or m l.i 0)))))
 
 pub returns : goal.returns
 returns c =
